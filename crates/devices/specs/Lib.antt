@@ -1,0 +1,4 @@
+pub mod Devices
+pub mod MemReader
+pub mod MemWriter
+pub mod Schedule

@@ -1,0 +1,17 @@
+//! Devices: where bytes come from and where they go.
+#![tactic(auto)]
+
+mod loops;
+mod mem_reader;
+mod mem_writer;
+mod schedule;
+mod standard;
+#[cfg(test)]
+mod tests;
+mod traits;
+
+pub use loops::write_whole;
+pub use mem_reader::MemReader;
+pub use mem_writer::MemWriter;
+pub use standard::{StdSource, StdTarget};
+pub use traits::{DeviceFault, Source, Target};

@@ -1,0 +1,31 @@
+use Rattle.std.proofs.Common.{◌≡◌, ◌≤◌, ◌<◌, ◌++◌, take, refl, arith, length}
+use Rattle.std.proofs.lemmas.Grind.{common_steps}
+use Rattle.std.proofs.lemmas.List.{length-take}
+use Rattle.std.proofs.lemmas.Result.{err_from_is_err_and}
+use Rattle.html_normal.proofs.Utf8.{IsFront-nil, moved-none, moved-more, fault-shown, shows-end, BeginsText-front}
+use Rattle.html_normal.proofs.read.read_text.Goals as goal
+
+pub loop-count-init : goal.loop-count-init
+loop-count-init g c =
+    record { moved = moved-none _ _ c.new-bytes.ensures.items; front = IsFront-nil _ c.new-bytes.ensures.items; counted = refl; same_references = refl; room = refl }
+
+pub returns-in_err-valid-clause-err : goal.returns-in_err-valid-clause-err
+returns-in_err-valid-clause-err g c =
+    let p = err_from_is_err_and c.from_residual-in_err-valid.result c.from_residual-in_err-valid.ensures.1 in
+    let earlier = c.loop-count.bytes.items in
+    let last = take c.in-Ok.count c.read_some.new.buffer in
+    let all : c.as_slice.result.now ≡ earlier ++ last = grind (arith, common_steps) in
+    let room = c.loop-count.invariant.room in
+    let piece : length last ≤ 4096 = omega (arith, length-take c.in-Ok.count c.read_some.new.buffer, c.in-Ok.ensures.within) in
+    rw (p.1, p.2)
+    (fault-shown _ _ _ earlier last _ (moved-more _ _ _ earlier last c.loop-count.invariant.moved c.in-Ok.ensures.moved)
+    (BeginsText-front earlier c.loop-count.valid c.loop-count.invariant.front) piece all c.in_err-valid.ensures.err)
+
+pub returns-then-valid-len-clause-err : goal.returns-then-valid-len-clause-err
+returns-then-valid-len-clause-err g c =
+    let zero = c.if-count-eq0.true in
+    let room = c.loop-count.invariant.room in
+    let some : 0 < length c.loop-count.buffer = omega arith in
+    let moved = rw zero at c.in-Ok.ensures.moved in
+    shows-end _ _ _ c.loop-count.bytes.items c.loop-count.valid c.loop-count.invariant.moved moved (c.in-Ok.ensures.end zero some) c.loop-count.invariant.front
+    (omega (arith, c.if-valid-len.true, c.len.ensures))

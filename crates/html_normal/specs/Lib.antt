@@ -1,0 +1,11 @@
+pub mod Body
+pub mod Cut
+pub mod Normal
+pub mod Program
+pub mod Reading
+pub mod References
+pub mod Rows
+pub mod Spelled
+pub mod Status
+pub mod Thin
+pub mod Tree

@@ -1,0 +1,19 @@
+//! From the bytes of an HTML document to its normal text.
+#![tactic(auto)]
+
+mod fault;
+pub mod laws;
+mod program;
+mod read;
+mod references;
+mod report;
+#[cfg(test)]
+mod tests;
+mod thin;
+mod whole;
+
+pub use fault::NormalFault;
+pub use program::{ProgramFault, run};
+pub use references::{References, TableFault};
+pub use report::{Exact, Report};
+pub use whole::normalise;

@@ -1,0 +1,45 @@
+//! The program `html_normal`: reads an HTML document from standard input, and writes its normal text to standard output.
+#![tactic(auto)]
+
+use devices::{StdSource, StdTarget};
+use html_normal::{NormalFault, ProgramFault, Report, run};
+use std::env;
+use std::process::ExitCode;
+
+// The words behind the program's name.
+fn words(rt: &HostRuntime) -> Result<Vec<String>, ProgramFault> {
+    let Ok(arguments) = env::args(rt) else {
+        return Err(ProgramFault::Usage);
+    };
+    let mut words = Vec::new(rt.alloc());
+    for word in arguments.skip(1) {
+        let Ok(()) = words.push(word) else {
+            return Err(ProgramFault::Normal(NormalFault::Memory));
+        };
+    }
+    Ok(words)
+}
+
+fn normalised(rt: &HostRuntime) -> Result<Report, ProgramFault> {
+    let words = words(rt)?;
+    let mut reader = StdSource::new(rt.stdin());
+    let mut writer = StdTarget::new(rt.stdout());
+    let report = run(rt.alloc(), words.as_slice(), &mut reader, &mut writer)?;
+    let Ok(()) = writer.flush() else {
+        return Err(ProgramFault::Normal(NormalFault::Write));
+    };
+    Ok(report)
+}
+
+fn main(rt: HostRuntime) -> ExitCode {
+    match normalised(&rt) {
+        Ok(report) => {
+            let _ = eprintln!(rt; "{report}");
+            ExitCode::SUCCESS
+        }
+        Err(fault) => {
+            let _ = eprintln!(rt; "{fault}");
+            ExitCode::from(fault.status())
+        }
+    }
+}
