@@ -1,2 +1,10 @@
 pub mod Plain
 pub mod Texts
+pub mod Children
+pub mod Parents
+pub mod Walks
+pub mod Forests
+pub mod Reparented
+pub mod PutTexts
+pub mod TemplateContents
+pub mod Trees

@@ -1,2 +1,5 @@
 pub mod Equality
 pub mod Plain
+pub mod Names
+pub mod Forest
+pub mod Named

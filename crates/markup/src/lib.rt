@@ -1,24 +1,31 @@
-//! The names, texts and attributes of marked-up documents, which every other crate speaks of.
+//! The names, texts and attributes of marked-up documents, which every other crate speaks of, and the interface of who builds their tree.
 #![tactic(auto)]
 
 pub mod attributes;
 pub mod fault;
 pub mod flags;
+pub mod html_names;
 pub mod laws;
 pub mod names;
 pub mod namespaces;
+pub mod node_or_text;
 pub mod quirks;
 pub mod text;
 pub mod tokenizer_result;
+pub mod tree_laws;
+pub mod tree_sink;
 
 pub use devices;
 pub use attributes::{Attribute, Attributes};
 pub use fault::ParseFault;
 pub use flags::ElementFlags;
+pub use html_names::is_html_name;
 pub use names::{ExpandedName, LocalName, Namespace, Prefix, QualName};
+pub use node_or_text::NodeOrText;
 pub use quirks::QuirksMode;
 pub use text::Text;
 pub use tokenizer_result::TokenizerResult;
+pub use tree_sink::TreeSink;
 
 #[cfg(test)]
 mod tests;

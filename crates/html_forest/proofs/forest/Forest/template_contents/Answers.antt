@@ -1,0 +1,11 @@
+use Rattle.std.proofs.Common.{◌∙◌, ◌<◌, ℕ, Option, ap, arith, length, sym}
+use Rattle.std.proofs.lemmas.Bool.{ltb-true}
+use Rattle.html_forest.specs.Views.{contents_in}
+use Rattle.html_forest.proofs.Kept.{links-kept}
+use Rattle.html_forest.proofs.forest.Forest.template_contents.Goals as goal
+
+pub returns-in-Element : goal.returns-in-Element
+returns-in-Element c =
+    let found = rw (c.deref.ensures.value, c.number.ensures) at c.in-Some.ensures.lookup in
+    let there : c.args.id < length c.self.inside.nodes.items = ltb-true _ _ (sym found.0) in
+    rw (← c.self.view_is) (ap contents_in (sym c.in-Element.is) ∙ ap (λ (links : Option ℕ × Option ℕ). links.1) (links-kept _ _ _ _ _ c.self.invariant there found.1))

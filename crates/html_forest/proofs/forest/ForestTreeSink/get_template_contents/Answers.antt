@@ -1,0 +1,9 @@
+use Rattle.std.proofs.Common.{◌≡◌, ◌∙◌, None, Some, ap, cond}
+use Rattle.html_forest.proofs.forest.ForestTreeSink.get_template_contents.Goals as goal
+
+pub unreachable-requires : goal.unreachable-requires
+unreachable-requires c =
+    let named = rw (← c.self.view_is) at c.requires in
+    let template = c.self.invariant.has_contents.templates c.args.target.now ∙ named in
+    let none = rw (← c.self.view_is, template) at c.in-None.ensures in
+    absurd (cc)

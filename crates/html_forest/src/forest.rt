@@ -1,0 +1,451 @@
+//! A forest of nodes in a vector.
+ghost use Rattle.std.specs.Prelude.{◌≡◌, ◌≤◌, ℕ, IsSome, IfSome, IfOk, IfErr, OnOk, OnErr, None, Some, true, codes, is_some, nat_lt};
+ghost use Rattle.markup.specs.declared.fault.ParseFault.TheVariants.{Memory};
+ghost use Rattle.html_forest.specs.Views.{contents_in, data_view, joined_if, place_view};
+
+use crate::children::Children;
+use crate::node::{Node, NodeData, NodeId, Place};
+use crate::nodes::{
+    add_attributes, add_node, join_text, move_children, parent_of_place, previous_child, put_child,
+    set_parent, take_child,
+};
+use markup::{
+    Attribute, Attributes, ElementFlags, NodeOrText, ParseFault, QualName, QuirksMode, Text,
+    TreeSink,
+};
+use std::alloc::Global;
+use std::borrow::CowStr;
+use std::marker::Model;
+
+/// A forest: the document, and what was put under it or made beside it. A contract sees the data and the children of each node, the quirks mode and the number of errors.
+#[derive(Debug, Drop)]
+pub struct Forest {
+    alloc: Global,
+    nodes: Vec<Node>,
+    quirks: QuirksMode,
+    errors: u64,
+}
+
+impl Model for Forest {
+    ghost use Rattle.markup.specs.Forest.{Forest};
+    ghost use Rattle.html_forest.specs.Views.{forest_view, links_of, IsKept};
+
+    ghost Value = { Forest };
+
+    ghost view = { λ a. forest_view a.nodes.items a.quirks a.errors };
+
+    ghost invariant = { λ a. IsKept (forest_view a.nodes.items a.quirks a.errors) (links_of a.nodes.items) };
+}
+
+impl Forest {
+    ghost use Rattle.markup.specs.Names.{is_html_name};
+    ghost use Rattle.markup.specs.Named.{IsOrdinary};
+    ghost use Rattle.markup.specs.Forest.NodeData.{Contents, Element};
+    ghost use Rattle.markup.specs.Forest.{IsLoose, IsPlace, MayPut, children_of, contents_of, data_if, data_of, empty_forest, node_count, parent_at, parent_of, place_before, place_near, previous_at, put, put_child, put_new, put_text, text_of, with_node};
+
+    /// A document with nothing in it, in no quirks mode and with no error. It grows in the memory of `alloc`.
+    pub fn new(alloc: Global) -> Result<Forest, ParseFault>
+        ensures ok { IfOk result (λ made. made ≡ empty_forest) }
+        ensures fault { IfErr result (λ fault. fault ≡ Memory) }
+    {
+        let mut nodes = Vec::new(alloc);
+        nodes.reserve(1)?;
+        add_node(alloc, &mut nodes, NodeData::Document);
+        Ok(Forest {
+            alloc,
+            nodes,
+            quirks: QuirksMode::NoQuirks,
+            errors: 0,
+        })
+    }
+
+    /// What a node is; nothing where the number names no node.
+    pub fn node(&self, id: NodeId) -> Option<&NodeData>
+        ensures there { is_some result ≡ nat_lt id (node_count self.now) }
+        ensures about { IfSome result (λ about. data_view about.now ≡ data_of self.now id) }
+        ensures contents { IfSome result (λ about. contents_in about.now ≡ contents_of self.now id) }
+    {
+        match self.nodes.get(id.number()) {
+            Some(node) => Some(&node.about),
+            None => None,
+        }
+    }
+
+    /// The node that has a node among its children.
+    pub fn parent(&self, id: NodeId) -> Option<NodeId>
+        ensures { result ≡ parent_of self.now id }
+    {
+        match self.nodes.get(id.number()) {
+            Some(node) => node.parent,
+            None => None,
+        }
+    }
+
+    /// The children of a node in their order; none where the number names no node.
+    pub fn children(&self, id: NodeId) -> Children<'_>
+        ensures { result ≡ children_of self.now id }
+    {
+        match self.nodes.get(id.number()) {
+            Some(node) => Children {
+                rest: node.children.iter(),
+            },
+            None => Children { rest: [].iter() },
+        }
+    }
+
+    /// The node of the contents of a template; nothing for other nodes.
+    pub fn template_contents(&self, id: NodeId) -> Option<NodeId>
+        ensures { result ≡ contents_of self.now id }
+    {
+        match self.nodes.get(id.number()) {
+            Some(node) => match &node.about {
+                NodeData::Element {
+                    template_contents,
+                    ..
+                } => *template_contents,
+                _ => None,
+            },
+            None => None,
+        }
+    }
+
+    /// The quirks mode that was set last, or no quirks mode.
+    pub fn quirks(&self) -> QuirksMode
+        ensures { result ≡ self.now.quirks }
+    {
+        self.quirks
+    }
+
+    /// How many errors were told, at most `u64::MAX`.
+    pub fn error_count(&self) -> u64
+        ensures { result ≡ self.now.errors }
+    {
+        self.errors
+    }
+
+    /// Makes a node that is no template.
+    fn create(&mut self, about: NodeData) -> Result<NodeId, ParseFault>
+        requires ordinary { IsOrdinary (data_view about) }
+        requires no_contents { contents_in about ≡ None }
+        ensures named { IfOk result (λ made. made ≡ node_count self.old) }
+        ensures ok { OnOk result (self.new ≡ with_node self.old (data_view about)) }
+        ensures err { OnErr result (self.new ≡ self.old) }
+        ensures fault { IfErr result (λ fault. fault ≡ Memory) }
+    {
+        let made = NodeId::new(self.nodes.len());
+        self.nodes.reserve(1)?;
+        add_node(self.alloc, &mut self.nodes, about);
+        Ok(made)
+    }
+
+    /// Makes a template, and the node of its contents.
+    fn create_template(
+        &mut self,
+        name: QualName,
+        attrs: Attributes,
+        integration_point: bool,
+    ) -> Result<NodeId, ParseFault>
+        requires { is_html_name (Some name) (codes "template") ≡ true }
+        ensures named { IfOk result (λ made. made ≡ node_count self.old) }
+        ensures ok { OnOk result (self.new ≡ with_node (with_node self.old (Element name attrs true integration_point)) Contents) }
+        ensures err { OnErr result (self.new ≡ self.old) }
+        ensures fault { IfErr result (λ fault. fault ≡ Memory) }
+    {
+        self.nodes.reserve(2)?;
+        let made = self.nodes.len();
+        let template_contents = Some(NodeId::new(made + 1));
+        add_node(
+            self.alloc,
+            &mut self.nodes,
+            NodeData::Element {
+                name,
+                attrs,
+                template_contents,
+                integration_point,
+            },
+        );
+        add_node(self.alloc, &mut self.nodes, NodeData::Contents);
+        Ok(NodeId::new(made))
+    }
+
+    /// Just before a node that has a parent.
+    fn place_before(&self, sibling: NodeId) -> Place
+        ensures { place_view result ≡ place_before sibling (parent_of self.now sibling) }
+    {
+        match self.parent(sibling) {
+            Some(parent) => Place::Before(parent, sibling),
+            None => Place::Last(sibling),
+        }
+    }
+
+    /// Just before an element that has a parent, else last in another node.
+    fn place_near(&self, element: NodeId, previous: NodeId) -> Place
+        ensures { place_view result ≡ place_near element previous (parent_of self.now element) }
+    {
+        match self.parent(element) {
+            Some(parent) => Place::Before(parent, element),
+            None => Place::Last(previous),
+        }
+    }
+
+    /// Puts a node that stands nowhere at a place.
+    fn put(&mut self, place: &Place, child: NodeId) -> Result<(), ParseFault>
+        requires place { IsPlace self.old (place_view place.now) }
+        requires child { IsLoose self.old (parent_at (place_view place.now)) child }
+        ensures ok { OnOk result (self.new ≡ put self.old (place_view place.now) child) }
+        ensures err { OnErr result (self.new ≡ self.old) }
+        ensures fault { IfErr result (λ fault. fault ≡ Memory) }
+    {
+        put_child(&mut self.nodes, place, child)?;
+        set_parent(&mut self.nodes, child, Some(parent_of_place(place)));
+        Ok(())
+    }
+
+    /// Makes a node that is no template, at a place.
+    fn put_new(&mut self, place: &Place, about: NodeData) -> Result<(), ParseFault>
+        requires place { IsPlace self.old (place_view place.now) }
+        requires ordinary { IsOrdinary (data_view about) }
+        requires no_contents { contents_in about ≡ None }
+        ensures ok { OnOk result (self.new ≡ put_new self.old (place_view place.now) (data_view about)) }
+        ensures err { OnErr result (self.new ≡ self.old) }
+        ensures fault { IfErr result (λ fault. fault ≡ Memory) }
+    {
+        self.nodes.reserve(1)?;
+        let made = NodeId::new(self.nodes.len());
+        put_child(&mut self.nodes, place, made)?;
+        add_node(self.alloc, &mut self.nodes, about);
+        set_parent(&mut self.nodes, made, Some(parent_of_place(place)));
+        Ok(())
+    }
+
+    /// Adds text at the end of the text just before a place, and says whether one stands there.
+    fn join_text(&mut self, place: &Place, text: &Text) -> Result<bool, ParseFault>
+        requires { IsPlace self.old (place_view place.now) }
+        ensures joined { IfOk result (λ joined. joined ≡ is_some (text_of (data_if self.old (previous_at self.old (place_view place.now))))) }
+        ensures ok { OnOk result (self.new ≡ joined_if self.old text.now (previous_at self.old (place_view place.now)) (text_of (data_if self.old (previous_at self.old (place_view place.now))))) }
+        ensures err { OnErr result (self.new ≡ self.old) }
+        ensures fault { IfErr result (λ fault. fault ≡ Memory) }
+    {
+        match previous_child(&self.nodes, place) {
+            Some(previous) => join_text(&mut self.nodes, previous, text),
+            None => Ok(false),
+        }
+    }
+
+    /// Puts text at a place, where it joins the text just before.
+    fn put_text(&mut self, place: &Place, text: Text) -> Result<(), ParseFault>
+        requires { IsPlace self.old (place_view place.now) }
+        ensures ok { OnOk result (self.new ≡ put_text self.old (place_view place.now) text) }
+        ensures err { OnErr result (self.new ≡ self.old) }
+        ensures fault { IfErr result (λ fault. fault ≡ Memory) }
+    {
+        if text.is_empty() {
+            return Ok(());
+        }
+        if self.join_text(place, &text)? {
+            return Ok(());
+        }
+        self.put_new(place, NodeData::Text(text))
+    }
+
+    /// Puts a node or text at a place.
+    fn put_child(&mut self, place: &Place, child: NodeOrText<NodeId>) -> Result<(), ParseFault>
+        requires place { IsPlace self.old (place_view place.now) }
+        requires child { MayPut (λ (id : ℕ). id) self.old (place_view place.now) child }
+        ensures ok { OnOk result (self.new ≡ put_child (λ (id : ℕ). id) self.old (place_view place.now) child) }
+        ensures err { OnErr result (self.new ≡ self.old) }
+        ensures fault { IfErr result (λ fault. fault ≡ Memory) }
+        ensures grows { node_count self.old ≤ node_count self.new }
+    {
+        match child {
+            NodeOrText::AppendNode(node) => self.put(place, node),
+            NodeOrText::AppendText(text) => self.put_text(place, text),
+        }
+    }
+}
+
+impl TreeSink for Forest {
+    ghost use Rattle.std.specs.Prelude.{ℕ};
+    ghost use Rattle.markup.specs.Forest.{IsNode, IsParent, MayPut, data_of, integration_point_of, node_count, parent_of, place_before, place_near, put_child};
+    ghost use Rattle.markup.specs.Forest.Place.{Last};
+    ghost use Rattle.html_forest.specs.declared.node.NodeId.{NodeId};
+
+    type Handle = NodeId;
+
+    type Output = Forest;
+
+    ghost forest = { λ forest. forest };
+
+    ghost node = { λ id. id };
+
+    ghost finish_gives = { λ forest output. output ≡ forest };
+
+    ghost integration_point = { λ forest n. integration_point_of (data_of forest n) };
+
+    fn finish(self) -> Forest {
+        self
+    }
+
+    fn parse_error(&mut self, _message: CowStr<'static>) {
+        self.errors = self.errors.saturating_add(1);
+    }
+
+    fn get_document(&mut self) -> NodeId {
+        let _nodes = &self.nodes;
+        NodeId::new(0)
+    }
+
+    fn elem_name(&self, target: &NodeId) -> &QualName {
+        match &self.nodes[target.number()].about {
+            NodeData::Element { name, .. } => name,
+            _ => unreachable!(),
+        }
+    }
+
+    fn get_template_contents(&self, target: &NodeId) -> NodeId {
+        let _nodes = &self.nodes;
+        match self.template_contents(*target) {
+            Some(contents) => contents,
+            None => unreachable!(),
+        }
+    }
+
+    fn same_node(&self, a: &NodeId, b: &NodeId) -> bool {
+        a == b
+    }
+
+    fn create_element(
+        &mut self,
+        name: QualName,
+        attributes: Attributes,
+        flags: ElementFlags,
+    ) -> Result<NodeId, ParseFault> {
+        let integration_point = flags.mathml_annotation_xml_integration_point;
+        if flags.template {
+            self.create_template(name, attributes, integration_point)
+        } else {
+            self.create(NodeData::Element {
+                name,
+                attrs: attributes,
+                template_contents: None,
+                integration_point,
+            })
+        }
+    }
+
+    fn create_comment(&mut self, text: Text) -> Result<NodeId, ParseFault> {
+        self.create(NodeData::Comment(text))
+    }
+
+    fn create_pi(&mut self, target: Text, text: Text) -> Result<NodeId, ParseFault> {
+        self.create(NodeData::ProcessingInstruction { target, text })
+    }
+
+    fn append(&mut self, parent: &NodeId, child: NodeOrText<NodeId>) -> Result<(), ParseFault>
+        requires parent { IsParent self.old parent.now }
+        requires child { MayPut (λ (id : ℕ). id) self.old (Last parent.now) child }
+        ensures ok { OnOk result (self.new ≡ put_child (λ (id : ℕ). id) self.old (Last parent.now) child) }
+        ensures err { OnErr result (self.new ≡ self.old) }
+        ensures fault { IfErr result (λ fault. fault ≡ Memory) }
+        ensures grows { node_count self.old ≤ node_count self.new }
+    {
+        self.put_child(&Place::Last(*parent), child)
+    }
+
+    fn append_before_sibling(
+        &mut self,
+        sibling: &NodeId,
+        child: NodeOrText<NodeId>,
+    ) -> Result<(), ParseFault>
+        requires sibling { IsSome (parent_of self.old sibling.now) }
+        requires child { MayPut (λ (id : ℕ). id) self.old (place_before sibling.now (parent_of self.old sibling.now)) child }
+        ensures ok { OnOk result (self.new ≡ put_child (λ (id : ℕ). id) self.old (place_before sibling.now (parent_of self.old sibling.now)) child) }
+        ensures err { OnErr result (self.new ≡ self.old) }
+        ensures fault { IfErr result (λ fault. fault ≡ Memory) }
+        ensures grows { node_count self.old ≤ node_count self.new }
+    {
+        let place = self.place_before(*sibling);
+        self.put_child(&place, child)
+    }
+
+    fn append_based_on_parent_node(
+        &mut self,
+        element: &NodeId,
+        previous: &NodeId,
+        child: NodeOrText<NodeId>,
+    ) -> Result<(), ParseFault>
+        requires element { IsNode self.old element.now }
+        requires previous { IsParent self.old previous.now }
+        requires child { MayPut (λ (id : ℕ). id) self.old (place_near element.now previous.now (parent_of self.old element.now)) child }
+        ensures ok { OnOk result (self.new ≡ put_child (λ (id : ℕ). id) self.old (place_near element.now previous.now (parent_of self.old element.now)) child) }
+        ensures err { OnErr result (self.new ≡ self.old) }
+        ensures fault { IfErr result (λ fault. fault ≡ Memory) }
+        ensures grows { node_count self.old ≤ node_count self.new }
+    {
+        let place = self.place_near(*element, *previous);
+        self.put_child(&place, child)
+    }
+
+    fn append_doctype_to_document(
+        &mut self,
+        name: Text,
+        public_id: Text,
+        system_id: Text,
+    ) -> Result<(), ParseFault> {
+        let document = self.get_document();
+        self.put_new(
+            &Place::Last(document),
+            NodeData::Doctype {
+                name,
+                public_id,
+                system_id,
+            },
+        )
+    }
+
+    fn set_quirks_mode(&mut self, mode: QuirksMode) {
+        self.quirks = mode;
+    }
+
+    fn add_attrs_if_missing(
+        &mut self,
+        target: &NodeId,
+        attributes: Attributes,
+    ) -> Result<(), ParseFault> {
+        add_attributes(self.alloc, &mut self.nodes, *target, attributes)
+    }
+
+    fn remove_from_parent(&mut self, target: &NodeId) {
+        if let Some(parent) = self.parent(*target) {
+            take_child(&mut self.nodes, parent, *target);
+            set_parent(&mut self.nodes, *target, None);
+        }
+    }
+
+    fn reparent_children(&mut self, from: &NodeId, to: &NodeId) -> Result<(), ParseFault> {
+        move_children(self.alloc, &mut self.nodes, *from, *to)
+    }
+
+    fn is_mathml_annotation_xml_integration_point(&self, target: &NodeId) -> bool {
+        match &self.nodes[target.number()].about {
+            NodeData::Element {
+                integration_point,
+                ..
+            } => *integration_point,
+            _ => false,
+        }
+    }
+
+    fn allow_declarative_shadow_roots(&self, _intended_parent: &NodeId) -> bool {
+        true
+    }
+
+    fn attach_declarative_shadow(
+        &mut self,
+        _host: &NodeId,
+        _template: &NodeId,
+        _attributes: &[Attribute],
+    ) -> bool {
+        false
+    }
+}

@@ -1,0 +1,16 @@
+//! The names of HTML elements.
+ghost use Rattle.std.specs.Prelude.{◌≡◌, IsTrue, Some};
+ghost use Rattle.markup.specs.Plain.{is_plain};
+ghost use Rattle.markup.specs.Names.{is_html_name};
+
+use crate::names::QualName;
+use crate::namespaces;
+
+/// Whether a name is that of an HTML element with the given local name, which is of ASCII alone, as `template`. The prefix does not matter.
+#[tactic(auto, unfolding(crate::specs::Names::html_namespace))]
+pub fn is_html_name(name: &QualName, local: &str) -> bool
+    requires { IsTrue (is_plain local.now) }
+    ensures { result ≡ is_html_name (Some name.now) local.now }
+{
+    name.ns.is(namespaces::HTML) && name.local.is(local)
+}
