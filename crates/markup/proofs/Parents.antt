@@ -138,7 +138,6 @@ parent_of-past f is n past =
 pub above_of-same : (f g : Forest) (n : ℕ) → data_of g n ≡ data_of f n → parent_of g n ≡ parent_of f n → above_of g n ≡ above_of f n
 above_of-same f g n same_data same_parent = rw (same_data, same_parent) refl
 
-
 -- lists after a change to one of them
 pub among_with_children : (f : Forest) (p : ℕ) (cs : List ℕ) (n q : ℕ) → p < node_count f → is_among n (children_of (with_children f p cs) q) ≡ true → ((q ≡ p) × (is_among n cs ≡ true)) ⊎ ((q ≢ p) × (is_among n (children_of f q) ≡ true))
 among_with_children f p cs n q there h =

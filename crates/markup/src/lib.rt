@@ -15,8 +15,8 @@ pub mod tokenizer_result;
 pub mod tree_laws;
 pub mod tree_sink;
 
-pub use devices;
 pub use attributes::{Attribute, Attributes};
+pub use devices;
 pub use fault::ParseFault;
 pub use flags::ElementFlags;
 pub use html_names::is_html_name;

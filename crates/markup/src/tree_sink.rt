@@ -217,15 +217,13 @@ pub trait TreeSink {
     fn mark_script_already_started(&mut self, _script: &Self::Handle)
         requires { IsNode (forest self.old) (node _script.now) }
         ensures { forest self.new ≡ forest self.old }
-    {
-    }
+    {}
 
     /// Told of an element that left the stack of open elements. It does nothing by default.
     fn pop(&mut self, _element: &Self::Handle)
         requires { IsNode (forest self.old) (node _element.now) }
         ensures { forest self.new ≡ forest self.old }
-    {
-    }
+    {}
 
     /// Told of a form's owner: of the element that belongs to `form`, and of the nodes that say where it was put. It does nothing by default.
     fn associate_with_form(
@@ -237,19 +235,16 @@ pub trait TreeSink {
         requires target { IsNode (forest self.old) (node _target.now) }
         requires form { IsNode (forest self.old) (node _form.now) }
         ensures { forest self.new ≡ forest self.old }
-    {
-    }
+    {}
 
     /// Told of the line of the token that comes next, counted from 1. It does nothing by default.
     fn set_current_line(&mut self, _line: u64)
         ensures { forest self.new ≡ forest self.old }
-    {
-    }
+    {}
 
     /// Told of an `option` whose end was read, for a `select` that shows a copy of it. It does nothing by default.
     fn maybe_clone_an_option_into_selectedcontent(&mut self, _option: &Self::Handle)
         requires { IsNode (forest self.old) (node _option.now) }
         ensures { forest self.new ≡ forest self.old }
-    {
-    }
+    {}
 }
