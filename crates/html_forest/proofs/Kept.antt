@@ -1,11 +1,11 @@
 -- Each change leaves a forest whose nodes keep their parents and their contents.
-use Rattle.std.proofs.Common.{◌≡◌, ◌≢◌, ◌==◌, ◌+◌, ◌<◌, ◌≤◌, ℕ, zero, suc, List, [], ◌∷◌, ◌++◌, Option, Some, None, Bool, true, false, cond, length, map, codes, sym, ap, ap₂, subst, ◌∙◌, refl, inl, inr, arith, get_or, set}
+use Rattle.std.proofs.Common.{◌≡◌, ◌==◌, ◌+◌, ◌<◌, ◌≤◌, ℕ, zero, suc, List, [], ◌∷◌, ◌++◌, Option, Some, None, Bool, true, false, cond, length, codes, sym, ap, ap₂, subst, ◌∙◌, refl, inl, inr, arith, get_or}
 use Rattle.std.proofs.lemmas.List.{length-map, length-set, get_or-set_same, get_or-set_other, get_or_append_left, get_or_push, get_or_past, length_push}
-use Rattle.std.proofs.lemmas.Bool.{cases_eq, cases_Bool, cases_lt, eqb-true, eq-eqb, ne_eqb}
+use Rattle.std.proofs.lemmas.Bool.{cases_eq, cases_Bool, cases_lt, eq-eqb, ne_eqb}
 use Rattle.markup.specs.Names.{is_html_name}
-use Rattle.markup.specs.Named.{HasContents, IsOrdinary}
-use Rattle.markup.specs.Forest.{Forest, IsForest, IsLoose, IsParent, IsPlace, Node, NodeData, Place, Above, contents_of, children_of, create_element, data_of, element_name, empty_forest, is_among, is_contents, node_count, parent_at, parent_of, put, put_new, remove, remove_under, reparent_children, template_of, text_of, with_attributes, add_attributes, with_children, with_data, with_node, without}
-use Rattle.markup.specs.Forest.NodeData.{Document, Contents, Element, Text}
+use Rattle.markup.specs.Named.{IsOrdinary}
+use Rattle.markup.specs.Forest.{Forest, IsLoose, IsParent, IsPlace, Node, NodeData, Place, Above, contents_of, children_of, data_of, element_name, empty_forest, is_among, is_contents, node_count, parent_at, parent_of, put, put_new, remove, remove_under, reparent_children, template_of, text_of, with_attributes, add_attributes, with_children, with_data, with_node, without}
+use Rattle.markup.specs.Forest.NodeData.{Contents, Element, Text}
 use Rattle.markup.specs.declared.names.QualName.{QualName}
 use Rattle.markup.specs.declared.attributes.Attribute.{Attribute}
 use Rattle.markup.specs.declared.quirks.QuirksMode.{QuirksMode}
@@ -13,7 +13,7 @@ use Rattle.markup.proofs.Parents.{data_of-past, data_of-with_data, data_of-with_
 use Rattle.markup.proofs.Forests.{IsForest-empty, IsForest-same_nodes, IsForest-with_node, IsInPlace, IsParent-place, IsMade, IsMade-with_node, IsPutAt, IsPutAt-put, IsRemoved, IsRemoved-remove}
 use Rattle.markup.proofs.Reparented.{IsReparented, IsReparented-reparent_children}
 use Rattle.markup.proofs.PutTexts.{IsInPlace-add_attributes, IsInPlace-text, IsPlace-with_node, text-IsNode, text_of-is}
-use Rattle.markup.proofs.TemplateContents.{HasContents-add_attributes, HasContents-alike, HasContents-empty, HasContents-same_data, HasContents-with_data, HasContents-with_node, HasContents-with_template, IsAlike, IsAlike-with_attributes}
+use Rattle.markup.proofs.TemplateContents.{HasContents-empty, HasContents-same_data, HasContents-with_data, HasContents-with_node, HasContents-with_template, IsAlike, IsAlike-with_attributes}
 use Rattle.std.proofs.Common.{Result, Ok, Err}
 use Rattle.std.specs.Result.{OnErr, OnOk}
 use Rattle.html_forest.specs.declared.node.Node as kept

@@ -1,5 +1,5 @@
 -- The views of a list of nodes, after a change of one of them.
-use Rattle.std.proofs.Common.{◌≡◌, ◌==◌, ◌+◌, ◌-◌, ◌<◌, ◌≤◌, ℕ, zero, suc, Some, None, List, [], ◌∷◌, ◌++◌, Option, Bool, true, false, not, length, map, sym, ap, ◌∙◌, refl, inl, inr, arith, get_or, set, take}
+use Rattle.std.proofs.Common.{◌≡◌, ◌==◌, ◌-◌, ◌<◌, ◌≤◌, ℕ, zero, suc, None, List, [], ◌∷◌, ◌++◌, Option, Bool, true, length, map, sym, ap, ◌∙◌, refl, inl, inr, arith, get_or, set, take}
 use Rattle.std.specs.List.{insert, slice_get}
 use Rattle.std.specs.Result.{OnErr}
 use Rattle.std.proofs.Common.{Result, Ok, Err}

@@ -1,9 +1,9 @@
 pub mod Body
 pub mod Cut
+pub mod Lines
 pub mod Normal
 pub mod Program
 pub mod Reading
-pub mod References
 pub mod Rows
 pub mod Spelled
 pub mod Status

@@ -1,5 +1,6 @@
 -- What the program does for the words behind its name.
-use Rattle.std.specs.Prelude.{◌≡◌, ℕ, ◌<◌, Bool, true, false, List, [], length, Option, Result, Err, ◌⊎◌}
+use Rattle.std.specs.Prelude.{◌≡◌, ℕ, ◌<◌, Bool, true, false, List, [], codes, length, Option, Result, Err, ◌⊎◌}
+use Rattle.html_normal.specs.Lines.{fault_line}
 use Rattle.html_normal.specs.Normal.{IsFailed}
 use Rattle.html_normal.specs.Status.{status_of}
 use Rattle.html_normal.specs.declared.fault.NormalFault.TheVariants.{NotYet, Read, Write}
@@ -10,6 +11,10 @@ use Rattle.html_normal.specs.declared.program.ProgramFault.TheVariants.{Usage, N
 abbrev pub program_status_of : ProgramFault → ℕ
 program_status_of Usage = 2
 program_status_of (Normal fault) = status_of fault
+
+abbrev pub program_line : ProgramFault → List ℕ
+program_line Usage = codes "fault: usage: html_normal [TABLE]"
+program_line (Normal fault) = fault_line fault
 
 -- Nothing was read and nothing written.
 abbrev pub IsUntouched : (left left' old new : Option (List ℕ)) → Type 0

@@ -34,6 +34,11 @@ impl From<AllocError> for NormalFault {
 
 /// The program's line on a document that was not normalised.
 impl fmt::Display for NormalFault {
+    ghost use Rattle.std.specs.Prelude.{Some};
+    ghost use Rattle.html_normal.specs.Lines.{fault_line};
+
+    ghost output = { λ fault. Some (fault_line fault) };
+
     fn fmt<W: fmt::Write>(&self, f: &mut fmt::Formatter<W>) -> fmt::Result {
         match self {
             NormalFault::NotUtf8 { at } => write!(f, "fault: not UTF-8 at byte {at}"),

@@ -5,7 +5,6 @@ mod fault;
 pub mod laws;
 mod program;
 mod read;
-mod references;
 mod report;
 #[cfg(test)]
 mod tests;
@@ -13,7 +12,7 @@ mod thin;
 mod whole;
 
 pub use fault::NormalFault;
+pub use html_tokenizer::{References, TableFault};
 pub use program::{ProgramFault, run};
-pub use references::{References, TableFault};
 pub use report::{Exact, Report};
 pub use whole::normalise;

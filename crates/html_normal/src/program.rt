@@ -5,10 +5,10 @@ ghost use Rattle.html_normal.specs.Normal.{IsNormalised};
 ghost use Rattle.html_normal.specs.Program.{IsProgramFailed, is_program_read_fault, is_program_write_fault, program_status_of};
 
 use crate::fault::NormalFault;
-use crate::references::References;
 use crate::report::{Exact, Report};
 use crate::whole::normalise;
 use devices::{Source, Target};
+use html_tokenizer::References;
 use std::alloc::Global;
 use std::error::Error;
 use std::fmt;
@@ -24,6 +24,11 @@ pub enum ProgramFault {
 
 /// The program's line on standard error.
 impl fmt::Display for ProgramFault {
+    ghost use Rattle.std.specs.Prelude.{Some};
+    ghost use Rattle.html_normal.specs.Program.{program_line};
+
+    ghost output = { λ fault. Some (program_line fault) };
+
     fn fmt<W: fmt::Write>(&self, f: &mut fmt::Formatter<W>) -> fmt::Result {
         match self {
             ProgramFault::Usage => write!(f, "fault: usage: html_normal [TABLE]"),

@@ -24,6 +24,11 @@ pub struct Report {
 
 /// The program's line on a document that was normalised.
 impl fmt::Display for Report {
+    ghost use Rattle.std.specs.Prelude.{Some};
+    ghost use Rattle.html_normal.specs.Lines.{report_line};
+
+    ghost output = { λ report. Some (report_line report) };
+
     fn fmt<W: fmt::Write>(&self, f: &mut fmt::Formatter<W>) -> fmt::Result {
         let plain = if self.plain { "yes" } else { "no" };
         let quirks = match self.quirks {

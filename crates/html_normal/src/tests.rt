@@ -1,7 +1,7 @@
 //! Documents, faults and devices, as tables on the public calls.
 ghost use Rattle.std.specs.Prelude.{◌<◌};
 
-use crate::{Exact, NormalFault, ProgramFault, References, Report, TableFault, normalise, run};
+use crate::{Exact, NormalFault, ProgramFault, References, Report, normalise, run};
 use devices::{MemReader, MemWriter};
 use markup::QuirksMode;
 use std::alloc::{AllocError, Global};
@@ -47,14 +47,16 @@ struct Outcome {
     written: Vec<u8>,
 }
 
-fn normal(alloc: Global, bytes: &[u8], on: &Devices, exact: Exact) -> Result<Outcome, Fail> {
+fn normal(alloc: Global, bytes: &[u8], on: &Devices, exact: Exact) -> Result<Outcome, AllocError> {
     let mut reader = MemReader::new(
         Vec::from_slice(alloc, bytes)?,
         on.read.max(1),
         on.read_fails,
     );
     let mut writer = MemWriter::new(alloc, on.room, on.write.max(1), on.write_fails, on.zero)?;
-    let five = References::five(alloc)?;
+    let Ok(five) = References::five(alloc) else {
+        return Err(AllocError);
+    };
     let answer = normalise(alloc, &mut reader, &mut writer, five, exact);
     let written = Vec::from_slice(alloc, writer.written())?;
     Ok(Outcome { answer, written })
@@ -229,6 +231,19 @@ fn writers_that_fail(rt: HostRuntime) -> Result<(), Fail> {
     Ok(())
 }
 
+// With ample memory this is a document like any other; where one allocation is refused, nothing was written.
+#[test]
+fn memory_that_is_refused(rt: HostRuntime) -> Result<(), Fail> {
+    let input = b"<!DOCTYPE html> a<p>b</p></p>c";
+    let Ok(seen) = normal(rt.alloc(), input.as_slice(), &BY_BYTE, Exact::default()) else {
+        return Ok(());
+    };
+    let refused = seen.answer == Err(NormalFault::Memory);
+    assert!(&rt; refused || seen.answer == plain(1));
+    assert_eq!(&rt; seen.written.is_empty(), refused);
+    Ok(())
+}
+
 #[test]
 fn lines_and_statuses(rt: HostRuntime) -> Result<(), Fail> {
     for (fault, line, status) in [
@@ -316,10 +331,4 @@ fn words_of_the_program(rt: HostRuntime) -> Result<(), Fail> {
         assert_eq!(&rt; ran(rt.alloc(), words)?, want, "{words} words");
     }
     Ok(())
-}
-
-#[test]
-fn table_of_five(rt: HostRuntime) {
-    assert!(&rt; matches!(References::five(rt.alloc()), Ok(_)));
-    assert_eq!(&rt; TableFault::from(AllocError), TableFault::Memory);
 }

@@ -6,11 +6,11 @@ ghost use Rattle.html_normal.specs.Reading.{is_read_fault};
 
 use crate::fault::NormalFault;
 use crate::read::read_text;
-use crate::references::References;
 use crate::report::{Exact, Report};
 use crate::thin::parse::parse;
 use crate::thin::write::write;
 use devices::{Source, Target, write_whole};
+use html_tokenizer::References;
 use markup::QuirksMode;
 use std::alloc::Global;
 

@@ -1,19 +1,18 @@
 -- Each change leaves a forest, and what it does to parents, lists and data.
-use Rattle.std.proofs.Common.{◌≡◌, ◌≢◌, ◌==◌, ◌+◌, ◌-◌, ◌<◌, ◌≤◌, ℕ, suc, zero, Bool, true, false, cond, List, [], ◌∷◌, ◌++◌, Option, Some, None, length, sym, ap, ◌∙◌, refl, subst, inl, inr, ◌⊎◌, arith, get_or, set}
-use Rattle.std.proofs.lemmas.List.{length-set, get_or_past}
+use Rattle.std.proofs.Common.{◌≡◌, ◌≢◌, ◌+◌, ◌-◌, ◌<◌, ℕ, suc, zero, true, false, List, [], Option, Some, None, sym, ap, ◌∙◌, refl, subst, inl, inr, ◌⊎◌, arith}
+use Rattle.std.proofs.lemmas.List.{length-set}
 use Rattle.std.proofs.lemmas.Bool.{cases_eq, cases_Bool, cases_lt, cond_both}
-use Rattle.markup.specs.Forest.{Forest, Node, NodeData, Place, no_node, node_count, data_of, children_of, is_among, parent_of, parent_at, children_with, is_contents, holds_children, above_of, Above, Ends, IsForest, IsDistinct, IsLoose, IsParent, IsPlace, with_node, with_children, with_data, put, put_before, reparent_children, empty_forest, create_element, without, remove, remove_under, set_quirks}
-use Rattle.markup.specs.Forest.NodeData.{Document, Contents, Element, Text}
+use Rattle.markup.specs.Forest.{Forest, NodeData, Place, node_count, data_of, children_of, is_among, parent_of, parent_at, children_with, is_contents, holds_children, above_of, Above, Ends, IsForest, IsDistinct, IsLoose, IsParent, IsPlace, with_node, with_children, with_data, put, empty_forest, create_element, without, remove, remove_under}
+use Rattle.markup.specs.Forest.NodeData.{Document, Contents, Element}
 use Rattle.markup.specs.Forest.Place.{Last, Before}
-use Rattle.markup.specs.Forest.Above.{here, further}
-use Rattle.markup.specs.Forest.Ends.{top, below}
+use Rattle.markup.specs.Forest.Ends.{top}
 use Rattle.markup.specs.declared.names.QualName.{QualName}
 use Rattle.markup.specs.declared.attributes.Attribute.{Attribute}
 use Rattle.markup.specs.declared.flags.ElementFlags.{ElementFlags}
 use Rattle.markup.specs.declared.quirks.QuirksMode.{QuirksMode}
-use Rattle.markup.proofs.Children.{is_among-push_same, is_among-push_other, is_among-without_same, is_among-without_other, is_among-before_same, is_among-before_other, is_among-append_left, is_among-append_right, IsDistinct-push, IsDistinct-without, IsDistinct-before, IsDistinct-append, without-absent}
-use Rattle.markup.proofs.Parents.{parent_of-only, parent_of-none, parent_of-same, is_among-parent, is_among-no_parent, children_of-with_children, children_of-with_children_other, data_of-with_children, node_count-with_children, node_count-with_node, node_at-with_node_old, node_at-with_node_new, children_of-with_node, parent_of-with_node, parent_of-past, above_of-same, above_of-with_node_old, among_with_children, parent_of-with_children, no_parent-from_loose, children_of-with_data, data_of-with_data, data_of-with_data_other, parent_of-with_data, parent-IsNode, data_of-past, children_of-past, data_of-with_node_old, data_of-with_node_new}
-use Rattle.markup.proofs.Walks.{IsPut, IsLess, IsMoved, IsGrown, Above-grown, Above-up, Ends-less, Ends-put, Ends-moved, not_above-childless}
+use Rattle.markup.proofs.Children.{is_among-push_same, is_among-push_other, is_among-without_same, is_among-without_other, is_among-before_same, is_among-before_other, IsDistinct-push, IsDistinct-without, IsDistinct-before, without-absent}
+use Rattle.markup.proofs.Parents.{parent_of-only, parent_of-none, is_among-parent, is_among-no_parent, children_of-with_children, children_of-with_children_other, data_of-with_children, node_count-with_children, node_count-with_node, children_of-with_node, parent_of-with_node, parent_of-past, above_of-same, above_of-with_node_old, among_with_children, parent_of-with_children, no_parent-from_loose, children_of-with_data, data_of-with_data, data_of-with_data_other, parent_of-with_data, parent-IsNode, data_of-past, children_of-past, data_of-with_node_old, data_of-with_node_new}
+use Rattle.markup.proofs.Walks.{IsPut, IsLess, IsGrown, Above-grown, Ends-less, Ends-put, not_above-childless}
 
 -- places
 

@@ -8,7 +8,8 @@ use Rattle.std.proofs.lemmas.Str.{chars-IsAscii, encodes-chars}
 use lib.Utf8.{encodes}
 use Rattle.markup.specs.Plain.{is_plain}
 
-IsAscii-plain : (bs : List ℕ) → is_plain bs ≡ true → IsAscii bs
+-- a text that passes the test is ASCII
+pub IsAscii-plain : (bs : List ℕ) → is_plain bs ≡ true → IsAscii bs
 IsAscii-plain [] h i = omega arith
 IsAscii-plain (b ∷ bs) h zero = ltb-true b 128 (and_parts _ _ h).0
 IsAscii-plain (b ∷ bs) h (suc i) = IsAscii-plain bs (and_parts _ _ h).1 i

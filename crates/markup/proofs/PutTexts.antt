@@ -1,8 +1,7 @@
 -- Text, new nodes and attributes at their places: what is left of the older nodes.
-use Rattle.std.proofs.Common.{◌≡◌, ◌≢◌, ◌==◌, ◌+◌, ◌<◌, ◌≤◌, ℕ, zero, suc, Bool, true, false, cond, List, [], ◌∷◌, ◌++◌, Option, Some, None, length, sym, ap, ◌∙◌, refl, inl, inr, arith}
-use Rattle.std.proofs.lemmas.List.{get_or_past}
-use Rattle.std.proofs.lemmas.Bool.{cases_eq, cases_Bool, cases_lt, cond_both}
-use Rattle.markup.specs.Forest.{Forest, Node, NodeData, Place, no_node, node_count, data_of, children_of, is_among, parent_of, parent_at, is_contents, holds_children, element_name, text_of, template_of, above_of, IsForest, IsParent, IsPlace, with_node, with_data, put, put_new, put_text, joined_text, previous_at, data_if, last_of, those_before, with_attributes, add_attributes}
+use Rattle.std.proofs.Common.{◌≡◌, ◌==◌, ◌<◌, ℕ, true, false, List, ◌++◌, Option, Some, None, length, sym, ap, ◌∙◌, refl, inl, inr, arith}
+use Rattle.std.proofs.lemmas.Bool.{cases_lt, cond_both}
+use Rattle.markup.specs.Forest.{Forest, NodeData, Place, node_count, data_of, children_of, parent_of, parent_at, is_contents, holds_children, element_name, text_of, template_of, IsForest, IsParent, IsPlace, with_node, with_data, put_new, put_text, joined_text, previous_at, data_if, those_before, with_attributes, add_attributes}
 use Rattle.markup.specs.Forest.NodeData.{Document, Contents, Doctype, Comment, ProcessingInstruction, Element, Text}
 use Rattle.markup.specs.Forest.Place.{Last, Before}
 use Rattle.markup.specs.declared.names.QualName.{QualName}

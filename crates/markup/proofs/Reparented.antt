@@ -1,8 +1,8 @@
 -- All children of one node behind those of another.
-use Rattle.std.proofs.Common.{◌≡◌, ◌≢◌, ◌<◌, ℕ, Bool, true, false, List, [], ◌∷◌, ◌++◌, Option, Some, None, sym, ap, ◌∙◌, refl, subst, inl, inr, arith, get_or, set}
+use Rattle.std.proofs.Common.{◌≡◌, ◌≢◌, ◌<◌, ℕ, true, false, List, [], ◌++◌, Some, sym, ap, ◌∙◌, refl, inl, inr, arith, set}
 use Rattle.std.proofs.lemmas.List.{set-get_or, set-set}
 use Rattle.std.proofs.lemmas.Bool.{cases_eq, cases_Bool}
-use Rattle.markup.specs.Forest.{Forest, Node, no_node, node_count, data_of, children_of, is_among, parent_of, is_contents, holds_children, above_of, Above, IsForest, IsParent, with_children, reparent_children}
+use Rattle.markup.specs.Forest.{Forest, Node, no_node, node_count, data_of, children_of, is_among, parent_of, is_contents, holds_children, Above, IsForest, IsParent, with_children, reparent_children}
 use Rattle.markup.proofs.Children.{is_among-append_left, is_among-append_right, IsDistinct-append}
 use Rattle.markup.proofs.Parents.{parent_of-only, parent_of-same, is_among-no_parent, children_of-with_children, children_of-with_children_other, data_of-with_children, node_count-with_children, above_of-same}
 use Rattle.markup.proofs.Walks.{IsMoved, Above-up, Ends-moved}

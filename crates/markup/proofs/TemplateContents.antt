@@ -1,9 +1,9 @@
 -- Each change leaves each template followed by the node of its contents.
-use Rattle.std.proofs.Common.{◌≡◌, ◌≢◌, ◌==◌, ◌+◌, ◌-◌, ◌<◌, ◌≤◌, ℕ, zero, suc, Bool, true, false, cond, List, [], ◌∷◌, ◌++◌, Option, Some, None, length, codes, sym, ap, ◌∙◌, refl, inl, inr, arith}
-use Rattle.std.proofs.lemmas.Bool.{cases_eq, cases_Bool, cases_lt, cond_both}
+use Rattle.std.proofs.Common.{◌≡◌, ◌==◌, ◌+◌, ◌-◌, ◌<◌, ℕ, zero, suc, true, false, List, ◌++◌, Option, Some, None, length, codes, sym, ap, ◌∙◌, refl, inl, inr, arith}
+use Rattle.std.proofs.lemmas.Bool.{cases_eq, cases_lt, cond_both}
 use Rattle.markup.specs.Names.{is_html_name}
-use Rattle.markup.specs.Named.{HasContents, IsOrdinary, is_named}
-use Rattle.markup.specs.Forest.{Forest, NodeData, Place, node_count, data_of, is_contents, element_name, template_of, text_of, IsForest, IsPlace, with_node, with_data, put_new, put_text, joined_text, previous_at, data_if, create_element, empty_forest, add_attributes, with_attributes}
+use Rattle.markup.specs.Named.{HasContents, IsOrdinary}
+use Rattle.markup.specs.Forest.{Forest, NodeData, Place, node_count, data_of, is_contents, element_name, template_of, text_of, with_node, with_data, put_new, put_text, joined_text, previous_at, data_if, create_element, empty_forest, add_attributes, with_attributes}
 use Rattle.markup.specs.Forest.NodeData.{Document, Contents, Doctype, Comment, ProcessingInstruction, Element, Text}
 use Rattle.markup.specs.declared.names.QualName.{QualName}
 use Rattle.markup.specs.declared.attributes.Attribute.{Attribute}

@@ -1,11 +1,11 @@
 -- Each call leaves what a sink has built a tree.
-use Rattle.std.proofs.Common.{◌≡◌, ◌<◌, ℕ, Bool, true, false, List, Option, Some, None, Result, Ok, Err, codes, refl, ap, arith}
+use Rattle.std.proofs.Common.{◌≡◌, ◌<◌, ℕ, true, List, Option, Some, None, Result, Ok, Err, codes, refl}
 use Rattle.std.specs.Option.{IsSome}
 use Rattle.std.specs.Result.{OnErr, OnOk}
 use Rattle.markup.specs.Names.{is_html_name}
-use Rattle.markup.specs.Named.{HasContents, IsOrdinary, IsTree}
-use Rattle.markup.specs.Forest.{Above, Forest, IsForest, IsNode, IsParent, IsPlace, MayPut, NodeData, Place, add_attributes, children_of, create_element, is_among, node_count, parent_of, place_before, place_near, put, put_child, put_new, put_text, remove, reparent_children, with_node}
-use Rattle.markup.specs.Forest.Place.{Last, Before}
+use Rattle.markup.specs.Named.{IsOrdinary, IsTree}
+use Rattle.markup.specs.Forest.{Above, Forest, IsForest, IsParent, IsPlace, MayPut, NodeData, Place, add_attributes, children_of, create_element, is_among, node_count, parent_of, place_before, place_near, put, put_child, put_new, remove, reparent_children, with_node}
+use Rattle.markup.specs.Forest.Place.{Last}
 use Rattle.markup.specs.declared.names.QualName.{QualName}
 use Rattle.markup.specs.declared.attributes.Attribute.{Attribute}
 use Rattle.markup.specs.declared.flags.ElementFlags.{ElementFlags}

@@ -1,6 +1,6 @@
 -- Who stands above whom, after nodes were made, put, moved or taken out.
-use Rattle.std.proofs.Common.{◌≡◌, ◌≢◌, ◌==◌, ◌+◌, ◌-◌, ◌<◌, ◌≤◌, ℕ, suc, zero, Bool, true, false, cond, List, [], ◌∷◌, Option, Some, None, sym, ap, ◌∙◌, refl, inl, inr, ◌⊎◌, arith}
-use Rattle.std.proofs.lemmas.Bool.{cases_eq, cases_Bool, eqb-true, eq-eqb, ne_eqb, eqb-false}
+use Rattle.std.proofs.Common.{◌≡◌, ◌≢◌, ◌==◌, ◌+◌, ◌-◌, ◌<◌, ◌≤◌, ℕ, Bool, true, false, [], Some, None, sym, ap, ◌∙◌, refl, inl, inr, ◌⊎◌, arith}
+use Rattle.std.proofs.lemmas.Bool.{cases_Bool, eqb-true, eq-eqb}
 use Rattle.markup.specs.Forest.{Forest, node_count, data_of, children_of, is_among, parent_of, is_contents, above_of, Above, Ends, IsForest}
 use Rattle.markup.specs.Forest.Above.{here, further}
 use Rattle.markup.specs.Forest.Ends.{top, below}

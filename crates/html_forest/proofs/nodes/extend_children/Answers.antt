@@ -1,4 +1,4 @@
-use Rattle.std.proofs.Common.{◌≡◌, ◌∙◌, ◌++◌, ap, arith, refl, ◌<◌, length, sym}
+use Rattle.std.proofs.Common.{◌∙◌, ◌++◌, ap, arith, refl, ◌<◌, length, sym}
 use Rattle.html_forest.specs.Views.{links_in, node_view}
 use Rattle.html_forest.proofs.Lists.{OnErr-always, list_of-at, map-set_unseen, nodes_view-set_list}
 use Rattle.html_forest.proofs.nodes.extend_children.Goals as goal

@@ -1,4 +1,4 @@
-use Rattle.std.proofs.Common.{◌<◌, arith, length, sym}
+use Rattle.std.proofs.Common.{arith, sym}
 use Rattle.markup.proofs.Forests.{IsParent-place}
 use Rattle.markup.proofs.PutTexts.{previous-IsNode}
 use Rattle.html_forest.specs.Views.{forest_view, place_view}

@@ -1,4 +1,4 @@
-use Rattle.std.proofs.Common.{◌∙◌, ◌<◌, ℕ, Option, ap, arith, length, sym}
+use Rattle.std.proofs.Common.{◌<◌, ℕ, Option, ap, length, sym}
 use Rattle.std.proofs.lemmas.Bool.{ltb-true}
 use Rattle.html_forest.proofs.Kept.{links-kept}
 use Rattle.html_forest.proofs.forest.Forest.parent.Goals as goal

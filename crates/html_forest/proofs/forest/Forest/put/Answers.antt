@@ -1,7 +1,6 @@
-use Rattle.std.proofs.Common.{◌<◌, ◌≡◌, ◌∙◌, Some, ap, arith, length, sym}
-use Rattle.markup.specs.Forest.{parent_at}
+use Rattle.std.proofs.Common.{◌<◌, arith, length}
 use Rattle.markup.proofs.Forests.{IsParent-place}
-use Rattle.html_forest.specs.Views.{links_of, place_view}
+use Rattle.html_forest.specs.Views.{links_of}
 use Rattle.html_forest.proofs.Kept.{IsKept-put, length-links_of}
 use Rattle.html_forest.proofs.Lists.{length-nodes_view}
 use Rattle.html_forest.proofs.forest.Forest.put.Goals as goal

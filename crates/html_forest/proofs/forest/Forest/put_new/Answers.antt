@@ -1,5 +1,5 @@
-use Rattle.std.proofs.Common.{◌<◌, ◌≡◌, ◌∙◌, List, Some, ap, arith, length, sym}
-use Rattle.markup.specs.Forest.{Node, node_count, parent_at, put_new}
+use Rattle.std.proofs.Common.{◌≡◌, List, ap, arith, length}
+use Rattle.markup.specs.Forest.{Node, put_new}
 use Rattle.markup.proofs.Forests.{IsParent-place}
 use Rattle.html_forest.specs.Views.{data_view, forest_view, links_of, nodes_view, place_view}
 use Rattle.html_forest.proofs.Kept.{IsKept-put_new, length-links_of}

@@ -1,4 +1,4 @@
-use Rattle.std.proofs.Common.{◌≡◌, ◌∙◌, None, Some, ap, cond}
+use Rattle.std.proofs.Common.{◌∙◌}
 use Rattle.html_forest.proofs.forest.ForestTreeSink.get_template_contents.Goals as goal
 
 pub unreachable-requires : goal.unreachable-requires

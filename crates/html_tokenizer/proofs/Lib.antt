@@ -1,0 +1,9 @@
+pub mod Faults
+pub mod Inserts
+pub mod Longest
+pub mod Matches
+pub mod Names
+pub mod Orders
+pub mod Spelled
+pub mod TableLaws
+mod Worked
