@@ -1,12 +1,23 @@
 """Writes the named character references of the HTML Standard (section 13.5) as a table.
 
 A line for each name: the name without its ampersand, a space, and the one or two values in
-hexadecimal, in the order of the names.
+hexadecimal, in the order of the names. The same file lies where the program that checks it runs.
 
-    python3 tools/named_references.py > crates/table_check/data/named_references.table
+    python3 tools/named_references.py
 """
 
 from html.entities import html5
+from pathlib import Path
 
-for name in sorted(html5):
-    print(name, *(f"{ord(character):X}" for character in html5[name]))
+ROOT = Path(__file__).resolve().parent.parent
+FILES = ["data/named_references.table", "crates/table_check/data/named_references.table"]
+
+
+def row(name: str) -> str:
+    values = " ".join(f"{ord(character):X}" for character in html5[name])
+    return f"{name} {values}\n"
+
+
+table = "".join(row(name) for name in sorted(html5))
+for file in FILES:
+    (ROOT / file).write_text(table, encoding="ascii")
