@@ -3,14 +3,14 @@ use Rattle.std.proofs.Common.{◌≡◌, ◌∙◌, ℕ, ◌-◌, Bool, true, fa
 use Rattle.std.specs.Prelude.{nat_eq, nat_lt, not, ◌==◌}
 use Rattle.std.specs.Char.{is_ascii_alphanumeric}
 use Rattle.std.specs.List.{list_all, ends_with}
-use Rattle.std.specs.Str.{IsUtf8, chars}
-use Rattle.std.proofs.lemmas.Bool.{and_parts, and_from, cond-true, cond-false}
+use Rattle.std.specs.Str.{IsAscii, IsUtf8, chars}
+use Rattle.std.proofs.lemmas.Bool.{and_parts, and_from, cond-true, cond-false, ltb-true}
 use Rattle.std.proofs.lemmas.Bool.Decides.{Decides-eqb, nat_tests}
 use Rattle.std.proofs.lemmas.Slice.Eq.{ends_is}
+use Rattle.std.proofs.lemmas.Str.Ascii.{IsAscii-cons, IsAscii-nil}
 use Rattle.std.proofs.lemmas.Str.{encodes-IsAscii, encodes-chars}
 use lib.Utf8.{encodes}
 use Rattle.markup.specs.Plain.{is_plain}
-use Rattle.markup.proofs.Plain.{IsAscii-plain}
 use Rattle.html_tokenizer.specs.References.{is_reference_name, stem}
 
 pub is_plain-append : (xs ys : List ℕ) → is_plain xs ≡ true → is_plain ys ≡ true → is_plain (xs ++ ys) ≡ true
@@ -32,6 +32,10 @@ stem-plain name false e h = rw (cond-false _ _ _ e) at h
 pub is_plain-name : (name : List ℕ) → is_reference_name name ≡ true → is_plain name ≡ true
 is_plain-name name h = stem-plain name _ refl (list_all-plain (stem name) (and_parts (not (length (stem name) == 0)) _ h).1)
 
+pub IsAscii-from_plain : (text : List ℕ) → is_plain text ≡ true → IsAscii text
+IsAscii-from_plain [] h = IsAscii-nil
+IsAscii-from_plain (c ∷ cs) h = let p = and_parts _ _ h in IsAscii-cons c cs (ltb-true c 128 p.0) (IsAscii-from_plain cs p.1)
+
 -- text of ASCII alone is spelled by its characters
 pub bytes_of_plain : (bytes name : List ℕ) → IsUtf8 bytes → chars bytes ≡ name → is_plain name ≡ true → bytes ≡ name
-bytes_of_plain bytes name u e p = sym (encodes-chars bytes u) ∙ (ap encodes e ∙ encodes-IsAscii name (IsAscii-plain name p))
+bytes_of_plain bytes name u e p = sym (encodes-chars bytes u) ∙ (ap encodes e ∙ encodes-IsAscii name (IsAscii-from_plain name p))

@@ -9,13 +9,13 @@ use Rattle.std.proofs.lemmas.Slice.Eq.{starts_is}
 use Rattle.std.proofs.lemmas.Str.{IsUtf8-from_ascii, chars-append, encodes-IsAscii, encodes-append, encodes-chars}
 use lib.Utf8.{encodes}
 use Rattle.markup.specs.Plain.{is_plain}
-use Rattle.markup.proofs.Plain.{IsAscii-plain, chars-plain}
+use Rattle.markup.proofs.Plain.{chars-plain}
 use Rattle.html_tokenizer.specs.Order.{IsOrder, name_at}
 use Rattle.html_tokenizer.specs.References.{goes_on, goes_on_behind, is_reference_name, longer_of, longest_match}
 use Rattle.html_tokenizer.specs.declared.references.ReferenceRow.{ReferenceRow}
 use Rattle.html_tokenizer.proofs.Longest.{named_at}
 use Rattle.html_tokenizer.proofs.Matches.{place_of_any}
-use Rattle.html_tokenizer.proofs.Names.{bytes_of_plain, is_plain-name}
+use Rattle.html_tokenizer.proofs.Names.{IsAscii-from_plain, bytes_of_plain, is_plain-name}
 
 -- a test that only ASCII passes answers the same for bytes as for their characters
 same_test : (test : List ℕ → Bool) → ((text : List ℕ) → test text ≡ true → is_plain text ≡ true) → (bytes : List ℕ) → IsUtf8 bytes → test bytes ≡ test (chars bytes)
@@ -49,7 +49,7 @@ goes_on-chars rows order bytes o u = same_test (goes_on rows) (goes_on_plain row
 -- whether a text begins with a name shows in its bytes as in its characters
 starts_with-chars : (bytes name : List ℕ) → IsUtf8 bytes → is_plain name ≡ true → starts_with nat_eq bytes name ≡ starts_with nat_eq (chars bytes) name
 starts_with-chars bytes name u p =
-    let ascii : IsAscii name = IsAscii-plain name p in
+    let ascii : IsAscii name = IsAscii-from_plain name p in
     let a = starts_is Decides-eqb bytes name (starts_with nat_eq bytes name) refl in
     let b = starts_is Decides-eqb (chars bytes) name (starts_with nat_eq (chars bytes) name) refl in
     same_from_decides {P = starts_with nat_eq bytes name ≡ true} (starts_with nat_eq bytes name) (starts_with nat_eq (chars bytes) name)
