@@ -1,6 +1,7 @@
 //! Worked forests, and the forest beside a plain one, call by call.
 mod both;
 mod conditions;
+mod hooks;
 mod plain;
 mod rows;
 mod steps;

@@ -47,7 +47,7 @@ fn children(alloc: Global, forest: &Forest, id: NodeId) -> Result<String, ParseF
     Ok(out)
 }
 
-fn built(alloc: Global, steps: &[Step]) -> Result<Forest, ParseFault> {
+pub(super) fn built(alloc: Global, steps: &[Step]) -> Result<Forest, ParseFault> {
     let mut forest = Forest::new(alloc)?;
     for step in steps {
         let _taken = take(alloc, &mut forest, *step)?;
