@@ -1,0 +1,8 @@
+use Rattle.std.proofs.Common.{refl}
+use Rattle.html_tokens.specs.Reading.{reading_from}
+use Rattle.html_tokens.specs.Tags.{value_from}
+use Rattle.html_tokens.proofs.rows.longest_name_rows.Goals as goal
+
+pub returns : goal.returns
+unfolding reading_from value_from
+returns c = refl

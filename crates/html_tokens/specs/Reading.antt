@@ -1,0 +1,74 @@
+-- What a whole text makes of a sink (HTML Standard, section 13.2.5).
+use Rattle.std.specs.Prelude.{ℕ, zero, suc, ◌+◌, ◌-◌, min, Bool, true, false, nat_eq, List, [], ◌∷◌, take, drop, Option, Some, None, Result, Ok, Err}
+use Rattle.html_tokens.specs.declared.replies.TokenSinkResult.{TokenSinkResult}
+use Rattle.html_tokens.specs.declared.replies.TokenSinkResult.TheVariants.{Continue, Script, Plaintext, RawData, EncodingIndicator}
+use Rattle.html_tokens.specs.declared.states.State.{State}
+use Rattle.html_tokens.specs.declared.states.State.TheVariants as state
+use Rattle.html_tokens.specs.declared.token.Token.{Token}
+use Rattle.html_tokens.specs.declared.token.Token.TheVariants.{EOFToken}
+use Rattle.html_tokens.specs.Table.{Row}
+use Rattle.html_tokens.specs.Item.{Place, InData, InRaw, InPlaintext, Stand, moved, Item}
+use Rattle.html_tokens.specs.Items.{item}
+
+-- what one step gives, with the next
+infixl 10 ◌>>=◌
+abbrev pub ◌>>=◌ : {A B F : Type 0} → Result A F → (A → Result B F) → Result B F
+(Ok x) >>= f = f x
+(Err e) >>= f = Err e
+
+-- where a reading goes on behind the sink's reply
+abbrev pub next_stand : {H : Type 0} → Stand → TokenSinkResult H → Stand
+next_stand st Continue = st
+next_stand st (Script handle) = st
+next_stand st Plaintext = moved st InPlaintext
+next_stand st (RawData kind) = moved st (InRaw kind)
+next_stand st (EncodingIndicator label) = st
+
+-- the text state in which a reading begins
+abbrev pub first_place : Option State → Place
+first_place None = InData
+first_place (Some state.Plaintext) = InPlaintext
+first_place (Some (state.RawData kind)) = InRaw kind
+first_place (Some _) = InData
+
+-- where a reading begins, by a tokenizer's options
+abbrev pub first_stand : Option State → Option (List ℕ) → Stand
+first_stand initial_state last_start_tag_name = record { place = first_place initial_state; last_start_tag = last_start_tag_name }
+
+abbrev pub line_break : Bool → ℕ
+line_break true = 1
+line_break false = 0
+
+-- how many line breaks a text has
+abbrev pub line_breaks : List ℕ → ℕ
+line_breaks [] = 0
+line_breaks (c ∷ t) = line_break (nat_eq c 10) + line_breaks t
+
+-- the line behind so many line breaks, which stops at the greatest number of 64 bits
+abbrev pub line_number : ℕ → ℕ
+line_number breaks = min (breaks + 1) 0xffff_ffff_ffff_ffff
+
+-- what a token, or none, makes of a sink behind so many line breaks
+abbrev pub said : {S H F : Type 0} → (S → Token → ℕ → Result (S × TokenSinkResult H) F) → Option Token → ℕ → S → Result (S × TokenSinkResult H) F
+said step None breaks s = Ok (s, Continue)
+said step (Some token) breaks s = step s token (line_number breaks)
+
+module _ {S H F : Type 0} (step : S → Token → ℕ → Result (S × TokenSinkResult H) F) (cdata : S → Bool) (ends : S → S) (rows : List Row) where
+  -- what a text behind n characters of it makes of a sink, where so many line breaks were read
+  unfoldable pub reading_from : ℕ → Stand → ℕ → S → List ℕ → Result S F
+  reading_from n st breaks s [] = step s EOFToken (line_number breaks) >>= λ p. Ok (ends p.0)
+  reading_from zero st breaks s (c ∷ t) =
+      let i = item rows (cdata s) st c t in
+      let read = breaks + line_breaks (take i.len (c ∷ t)) in
+      said step i.token read s >>= λ p. reading_from (i.len - 1) (next_stand i.next p.1) read p.0 t
+  reading_from (suc n) st breaks s (c ∷ t) = reading_from n st breaks s t
+
+  -- what a text makes of a sink
+  abbrev pub reading : Stand → ℕ → S → List ℕ → Result S F
+  reading st breaks s t = reading_from 0 st breaks s t
+
+  -- an item, and then the reading of what follows it
+  abbrev pub play : Item → ℕ → S → List ℕ → Result S F
+  play i breaks s t =
+      let read = breaks + line_breaks (take i.len t) in
+      said step i.token read s >>= λ p. reading (next_stand i.next p.1) read p.0 (drop i.len t)

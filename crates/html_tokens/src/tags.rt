@@ -1,0 +1,97 @@
+//! Tags (HTML Standard, section 13.2.5).
+ghost use Rattle.std.specs.Prelude.{◌≡◌, ◌↔◌, IfOk, IfErr, IsTrue, IsPermutation};
+ghost use Rattle.html_tokens.specs.TagEquality.{IsEquivModuloAttrOrder, count_of, have_same_counts, value_of};
+ghost use Rattle.markup.specs.declared.fault.ParseFault.TheVariants.{Memory};
+
+use markup::{Attribute, Attributes, LocalName, ParseFault, Text};
+use std::alloc::Global;
+
+/// Whether a tag opens or closes an element.
+#[derive(Clone, Copy, Debug, PartialEq, Eq, PartialOrd, Ord, Hash)]
+pub enum TagKind {
+    /// As `<p>`.
+    StartTag,
+    /// As `</p>`.
+    EndTag,
+}
+
+/// A tag. The names of its attributes are distinct: of those written with one name the first stays.
+#[derive(Debug, Drop, PartialEq, Eq)]
+pub struct Tag {
+    /// Whether it opens or closes.
+    pub kind: TagKind,
+    /// The name, with ASCII letters lowered.
+    pub name: LocalName,
+    /// Whether `/` stands right before the `>`.
+    pub self_closing: bool,
+    /// The attributes in the order in which they are written.
+    pub attrs: Attributes,
+    /// Whether an attribute was dropped because of its name.
+    pub had_duplicate_attributes: bool,
+}
+
+impl Tag {
+    /// A tag of its own with the same parts.
+    pub fn copy(&self, alloc: Global) -> Result<Tag, ParseFault>
+        ensures ok { IfOk result (λ copied. copied ≡ self.now) }
+        ensures err { IfErr result (λ fault. fault ≡ Memory) }
+    {
+        Ok(Tag {
+            kind: self.kind,
+            name: self.name.copy(alloc)?,
+            self_closing: self.self_closing,
+            attrs: self.attrs.copy(alloc)?,
+            had_duplicate_attributes: self.had_duplicate_attributes,
+        })
+    }
+
+    /// Whether both are tags of one kind and name whose attributes are the same in some order. `self_closing` and
+    /// `had_duplicate_attributes` count for nothing.
+    pub fn equiv_modulo_attr_order(&self, other: &Tag) -> bool
+        ensures { IsTrue result ↔ IsEquivModuloAttrOrder self.now other.now }
+    {
+        self.kind == other.kind
+            && self.name == other.name
+            && is_permutation(self.attrs.as_slice(), other.attrs.as_slice())
+    }
+
+    /// The value of the first attribute with this local name, in any namespace.
+    pub fn get_attribute(&self, alloc: Global, name: &LocalName) -> Result<Option<Text>, ParseFault>
+        ensures ok { IfOk result (λ value. value ≡ value_of name.now self.now.attrs) }
+        ensures err { IfErr result (λ fault. fault ≡ Memory) }
+    {
+        match self
+            .attrs
+            .as_slice()
+            .iter()
+            .find(|attribute| attribute.name.local == *name)
+        {
+            None => Ok(None),
+            Some(attribute) => Ok(Some(attribute.value.copy(alloc)?)),
+        }
+    }
+}
+
+// How often an attribute is in a list.
+fn count(attributes: &[Attribute], attribute: &Attribute) -> usize
+    ensures { result ≡ count_of attribute.now attributes.now }
+{
+    attributes
+        .iter()
+        .filter(|other| attribute == *other)
+        .count()
+}
+
+// Whether each attribute of the first list is as often in the second.
+fn has_same_counts(first: &[Attribute], second: &[Attribute]) -> bool
+    ensures { result ≡ have_same_counts first.now second.now }
+{
+    first.iter().all(|attribute| count(first, attribute) == count(second, attribute))
+}
+
+// Whether two lists are the same in some order. Tags have few attributes, so each is counted.
+fn is_permutation(first: &[Attribute], second: &[Attribute]) -> bool
+    ensures { IsTrue result ↔ IsPermutation first.now second.now }
+{
+    first.len() == second.len() && has_same_counts(first, second)
+}
