@@ -3,5 +3,6 @@ mod both;
 mod conditions;
 mod hooks;
 mod plain;
+mod refused;
 mod rows;
 mod steps;

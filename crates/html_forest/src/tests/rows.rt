@@ -34,7 +34,7 @@ fn write_node(about: &NodeData, out: &mut String) -> Result<(), ParseFault> {
     Ok(())
 }
 
-fn children(alloc: Global, forest: &Forest, id: NodeId) -> Result<String, ParseFault> {
+pub(super) fn children(alloc: Global, forest: &Forest, id: NodeId) -> Result<String, ParseFault> {
     let mut out = String::new(alloc);
     for child in forest.children(id) {
         if !out.is_empty() {
