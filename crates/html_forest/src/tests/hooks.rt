@@ -29,6 +29,8 @@ fn hooks(rt: HostRuntime) -> Result<(), Fail> {
     let id = NodeId::new(1);
     assert!(rt; forest.node(id).is_some());
     assert_eq!(rt; told(&mut forest, &id), (false, true, false));
+    forest.associate_with_form(&id, &id, (&id, None));
+    assert_eq!(rt; forest.error_count(), 0);
     Ok(())
 }
 
