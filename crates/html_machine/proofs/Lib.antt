@@ -1,0 +1,5 @@
+pub mod Errors
+pub mod Glue
+pub mod Lawful
+pub mod Readings
+pub mod TextStates

@@ -1,0 +1,7 @@
+//! The tokenizer: a machine that takes text in any pieces (HTML Standard, section 13.2.5).
+#![tactic(auto)]
+
+mod characters;
+mod tell;
+mod text_states;
+pub mod tokenizer;
