@@ -148,9 +148,9 @@ module _ {K S H : Type 0} (step : Step S) (view : K → S) (cdata : S → Bool) 
   failed old new c st token result fault next from ok is fails law =
       let p = err_from_is_err_and result is in
       rw (p.1, p.2) (λ pauses t.
-        fails-along _ _ fault (now-at step view cdata ends sound number old st old.stream.breaks (view old.sink, pauses) (c ∷ t) from ∙ law old.stream.breaks (view old.sink, pauses) ok t)
-        (fails-first step view cdata ends sound number (step (view old.sink) token (line_number old.stream.breaks)) _ fault
-          (λ h. bind-err (noting step (view old.sink, pauses) token (line_number old.stream.breaks)) _ (noted-err pauses (step (view old.sink) token (line_number old.stream.breaks)) h)) fails))
+      fails-along _ _ fault (now-at step view cdata ends sound number old st old.stream.breaks (view old.sink, pauses) (c ∷ t) from ∙ law old.stream.breaks (view old.sink, pauses) ok t)
+      (fails-first step view cdata ends sound number (step (view old.sink) token (line_number old.stream.breaks)) _ fault
+      (λ h. bind-err (noting step (view old.sink, pauses) token (line_number old.stream.breaks)) _ (noted-err pauses (step (view old.sink) token (line_number old.stream.breaks)) h)) fails))
 
   -- what is to come where a token was told
   told-next : (old mid : Tokenizer K) (token : Token) (pauses : List Reply) (next : S × List Reply → Result (S × List Reply) Refusal) → Told step view cdata ends sound number token old mid
@@ -193,10 +193,10 @@ module _ {K S H : Type 0} (step : Step S) (view : K → S) (cdata : S → Bool) 
       → Keeps step view cdata ends sound number mid new c result → Keeps step view cdata ends sound number old new c result
   keeps_silent old mid new c st st' result from to stream same law h =
       keeps-along old mid new c result stream (λ pauses t.
-        now-at step view cdata ends sound number old st old.stream.breaks (view old.sink, pauses) (c ∷ t) from
-        ∙ law old.stream.breaks (view old.sink, pauses) t
-        ∙ sym (now-at step view cdata ends sound number mid st' old.stream.breaks (view old.sink, pauses) (c ∷ t) to)
-        ∙ ap (λ k. now step view cdata ends sound number mid old.stream.breaks (view k, pauses) (c ∷ t)) (sym same)) h
+      now-at step view cdata ends sound number old st old.stream.breaks (view old.sink, pauses) (c ∷ t) from
+      ∙ law old.stream.breaks (view old.sink, pauses) t
+      ∙ sym (now-at step view cdata ends sound number mid st' old.stream.breaks (view old.sink, pauses) (c ∷ t) to)
+      ∙ ap (λ k. now step view cdata ends sound number mid old.stream.breaks (view k, pauses) (c ∷ t)) (sym same)) h
 
   -- A token was told, and then the character is taken by another state.
   pub keeps_told : (old mid on new target : Tokenizer K) (c : ℕ) (st st' : State) (token : Token) (result : Result (ProcessResult H) ParseFault) → IsAt old st → sound (view old.sink) → Told step view cdata ends sound number token old mid
@@ -205,16 +205,16 @@ module _ {K S H : Type 0} (step : Step S) (view : K → S) (cdata : S → Bool) 
       → Keeps step view cdata ends sound number on new c result → Keeps step view cdata ends sound number old new c result
   keeps_told old mid on new target c st st' token result from ok told is to stream law h =
       keeps-along old on new c result (ap (λ k. k.stream) is ∙ stream) (λ pauses t.
-        now-at step view cdata ends sound number old st old.stream.breaks (view old.sink, pauses) (c ∷ t) from
-        ∙ law old.stream.breaks (view old.sink, pauses) ok t
-        ∙ told-next old mid token pauses (λ s. at step view cdata ends sound number st' target old.stream.breaks s (c ∷ t)) told
-        ∙ sym (now-target target mid.sink st' old.stream.breaks (view mid.sink, pauses) (c ∷ t) to)
-        ∙ sym (ap (λ k. now step view cdata ends sound number k old.stream.breaks (view k.sink, pauses) (c ∷ t)) is)) h
+      now-at step view cdata ends sound number old st old.stream.breaks (view old.sink, pauses) (c ∷ t) from
+      ∙ law old.stream.breaks (view old.sink, pauses) ok t
+      ∙ told-next old mid token pauses (λ s. at step view cdata ends sound number st' target old.stream.breaks s (c ∷ t)) told
+      ∙ sym (now-target target mid.sink st' old.stream.breaks (view mid.sink, pauses) (c ∷ t) to)
+      ∙ sym (ap (λ k. now step view cdata ends sound number k old.stream.breaks (view k.sink, pauses) (c ∷ t)) is)) h
 
   -- The tag was told, and the character ended it.
   pub took_tag : (old new : Tokenizer K) (c : ℕ) (st : State) (result : Result (ProcessResult H) ParseFault) → IsAt old st → nat_eq c 10 ≡ false → EndsTag step view cdata ends sound number old new result
       → ((b : ℕ) (s : S × List Reply) → sound s.0 → (t : List ℕ) → at step view cdata ends sound number st old b s (c ∷ t)
-          ≡ (noting step s (TagToken old.tag) (line_number b) >>= λ p. reading (noting step) (noting_cdata cdata) (noting_end ends) (rows_of old) (next_stand (behind_tag (standing old InData) old.tag) p.1) b p.0 t))
+      ≡ (noting step s (TagToken old.tag) (line_number b) >>= λ p. reading (noting step) (noting_cdata cdata) (noting_end ends) (rows_of old) (next_stand (behind_tag (standing old InData) old.tag) p.1) b p.0 t))
       → sound (view old.sink) → Keeps step view cdata ends sound number old new c result
   took_tag old new c st (Ok result) from unbroken h law ok = record {
     same = λ pauses t.
@@ -228,7 +228,7 @@ module _ {K S H : Type 0} (step : Step S) (view : K → S) (cdata : S → Bool) 
   took_tag old new c st (Err fault) from unbroken h law ok = λ pauses t.
       fails-along _ _ fault (now-at step view cdata ends sound number old st old.stream.breaks (view old.sink, pauses) (c ∷ t) from ∙ law old.stream.breaks (view old.sink, pauses) ok t)
       (fails-first step view cdata ends sound number (step (view old.sink) (TagToken old.tag) (line_number old.stream.breaks)) _ fault
-        (λ e. bind-err (noting step (view old.sink, pauses) (TagToken old.tag) (line_number old.stream.breaks)) _ (noted-err pauses (step (view old.sink) (TagToken old.tag) (line_number old.stream.breaks)) e)) h)
+      (λ e. bind-err (noting step (view old.sink, pauses) (TagToken old.tag) (line_number old.stream.breaks)) _ (noted-err pauses (step (view old.sink) (TagToken old.tag) (line_number old.stream.breaks)) e)) h)
 
   -- An error that was told changes nothing that is to come.
   erred-now : (old mid : Tokenizer K) (b : ℕ) (pauses : List Reply) (t : List ℕ) → Erred step view cdata ends sound number old mid → now step view cdata ends sound number old b (view old.sink, pauses) t ≡ now step view cdata ends sound number mid b (view mid.sink, pauses) t

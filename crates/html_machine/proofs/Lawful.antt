@@ -7,7 +7,6 @@ use Rattle.html_tokens.specs.declared.token.Token.{Token}
 use Rattle.html_tokens.specs.declared.token.Token.TheVariants.{TagToken, CharacterTokens}
 use Rattle.html_tokens.specs.Pauses.{noted, noting, paused}
 use Rattle.html_tokens.specs.Reading.{◌>>=◌}
-use Rattle.html_tokens.specs.Sink as sink
 use Rattle.html_tokens.specs.Sink.{Step, Reply, Refusal, SinkLaws, IsReplyTo}
 use Rattle.html_machine.specs.Steps.{IsNoTag}
 
@@ -19,11 +18,6 @@ pub record Lawful {T : Type 0} (sound : T → Type 0) (step : Step T) : Type 0 w
   pub pieces : (s : T) → sound s → (a b : List ℕ) (k l m : ℕ) → (step s (CharacterTokens a) k >>= λ p. step p.0 (CharacterTokens b) l) ≡ step s (CharacterTokens (a ++ b)) m
   -- whatever is no tag gets no reply but to go on
   pub goes_on : (s : T) → sound s → (token : Token) → IsNoTag token → (line : ℕ) → IfOk (step s token line) (λ p. p.1 ≡ Continue)
-
--- two ways to write "and then"
-bind-is : {A B : Type 0} (r : Result A Refusal) (f : A → Result B Refusal) → sink.◌>>=◌ r f ≡ (r >>= f)
-bind-is (Ok x) f = refl
-bind-is (Err e) f = refl
 
 bind-within : {A B : Type 0} (r : Result A Refusal) (f g : A → Result B Refusal) → IfOk r (λ x. f x ≡ g x) → (r >>= f) ≡ (r >>= g)
 bind-within (Ok x) f g h = h
@@ -51,7 +45,7 @@ module _ {S : Type 0} (is_sound : S → Type 0) (step : Step S) (ended : S → S
   any_line : (s : S) → is_sound s → (a b : List ℕ) (k l m : ℕ) → (step s (CharacterTokens a) k >>= λ p. step p.0 (CharacterTokens b) l) ≡ step s (CharacterTokens (a ++ b)) m
   any_line s h a b k l m =
       bind-within (step s (CharacterTokens a) k) (λ p. step p.0 (CharacterTokens b) l) (λ p. step p.0 (CharacterTokens b) k) (IfOk-weaker (step s (CharacterTokens a) k) _ _ (λ p e. laws.lines p.0 e b l k) (laws.keeps s h (CharacterTokens a) k))
-      ∙ (sym (bind-is (step s (CharacterTokens a) k) (λ p. step p.0 (CharacterTokens b) k)) ∙ (laws.pieces s h a b k ∙ laws.lines s h (a ++ b) k m))
+      ∙ (laws.pieces s h a b k ∙ laws.lines s h (a ++ b) k m)
 
   -- a sink that also notes its pauses is lawful
   pub noting-lawful : Lawful (λ (s : S × List Reply). is_sound s.0) (noting step)

@@ -1,6 +1,5 @@
 -- What a tokenizer still makes of its sink, for each further text.
-use Rattle.std.specs.Prelude.{ℕ, ◌+◌, ◌-◌, min, Bool, true, false, nat_eq, List, [], ◌∷◌, ◌++◌, map, codes, Option, Some, None, Result}
-use Rattle.html_tokenizer.specs.declared.references.ReferenceRow.{ReferenceRow}
+use Rattle.std.specs.Prelude.{ℕ, ◌+◌, ◌-◌, min, Bool, true, false, nat_eq, List, [], ◌∷◌, ◌++◌, codes, Option, Some, None, Result}
 use Rattle.html_tokens.specs.declared.states.RawKind.{RawKind}
 use Rattle.html_tokens.specs.declared.states.RawKind.TheVariants as raw
 use Rattle.html_tokens.specs.declared.states.ScriptEscapeKind.TheVariants as script
@@ -22,7 +21,7 @@ use Rattle.html_machine.specs.declared.tokenizer.Tokenizer.{Tokenizer}
 
 -- the rows of the table of references
 abbrev pub rows_of : {K : Type 0} → Tokenizer K → List Row
-rows_of k = map (λ row. record { name = row.name; first = row.first; second = row.second }) k.stream.table
+rows_of k = k.stream.table
 
 -- what is held of a reference that may go on, with its "&"
 abbrev pub pending : Option (List ℕ) → List ℕ
