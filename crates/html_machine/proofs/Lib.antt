@@ -1,3 +1,4 @@
+pub mod CdataStates
 pub mod Errors
 pub mod Glue
 pub mod Lawful
@@ -5,3 +6,4 @@ pub mod Readings
 pub mod Runs
 pub mod Telling
 pub mod TextStates
+pub mod Words

@@ -1,5 +1,7 @@
 -- How a state's function keeps what is to come by one call that tells a token.
 use Rattle.std.proofs.Common.{◌≡◌, ◌∙◌, ℕ, ◌+◌, Bool, false, nat_eq, List, [], ◌∷◌, ◌++◌, Some, Result, Ok, Err, refl, sym, ap}
+use Rattle.std.specs.Result.{IsErrAnd}
+use Rattle.std.proofs.lemmas.Result.{err_from_is_err_and}
 use Rattle.markup.specs.declared.fault.ParseFault.{ParseFault}
 use Rattle.html_tokens.specs.declared.replies.ProcessResult.{ProcessResult}
 use Rattle.html_tokens.specs.declared.replies.ProcessResult.TheVariants as flow
@@ -11,7 +13,7 @@ use Rattle.html_tokens.specs.Sink.{Step, Reply, Refusal}
 use Rattle.html_machine.specs.declared.tokenizer.Tokenizer.{Tokenizer}
 use Rattle.html_machine.specs.Rest.{pending, held_at}
 use Rattle.html_machine.specs.Steps.{IsAt, Fails, Told, TakesAs, Took, Keeps, now}
-use Rattle.html_machine.proofs.Glue.{at, now-at, Says, took_told, fails-first, fails-along, bind-err, noted-err, no-break}
+use Rattle.html_machine.proofs.Glue.{at, now-at, Says, took_told, keeps_told, fails-first, fails-along, bind-err, noted-err, no-break}
 
 module _ {K S H : Type 0} (step : Step S) (view : K → S) (cdata : S → Bool) (ends : S → S) (sound : S → Type 0) (number : H → ℕ) where
   -- where only the state and what is held were set before a token was told
@@ -47,6 +49,24 @@ module _ {K S H : Type 0} (step : Step S) (view : K → S) (cdata : S → Bool) 
   keeps_taken old target new c st st' token (Ok (flow.EncodingIndicator label)) from to same stream ok told law = absurd told
   keeps_taken old target new c st st' token (Err fault) from to same stream ok fails law =
       not-told old new c st token fault _ from ok (fails-from old target token fault same stream fails) law
+
+  -- The state was set, a token told, and then the character is taken by that state.
+  pub keeps_then : (old target mid new : Tokenizer K) (c : ℕ) (st st' : State) (token : Token) (result : Result (ProcessResult H) ParseFault) → IsAt old st → IsAt target st' → target.sink ≡ old.sink → target.stream ≡ old.stream → sound (view old.sink)
+      → Told step view cdata ends sound number token target mid
+      → Says step view cdata ends sound number st old c token (λ b s t. at step view cdata ends sound number st' target b s (c ∷ t))
+      → Keeps step view cdata ends sound number mid new c result → Keeps step view cdata ends sound number old new c result
+  keeps_then old target mid new c st st' token result from to same stream ok told law h =
+      keeps_told step view cdata ends sound number old (record old { sink = mid.sink }) mid new target c st st' token result from ok (told-from old target mid token same stream told) told.changed to stream law h
+
+  -- The state was set, and the token that is told next could not be told.
+  pub not-told_from : (old target new : Tokenizer K) (c : ℕ) (st : State) (token : Token) (result : Result (ProcessResult H) ParseFault) (fault : ParseFault) (next : ℕ → S × List Reply → List ℕ → Result (S × List Reply) Refusal)
+      → IsAt old st → target.sink ≡ old.sink → target.stream ≡ old.stream → sound (view old.sink) → IsErrAnd result (λ y. y ≡ fault)
+      → Fails step view cdata ends sound number (step (view target.sink) token (line_number target.stream.breaks)) fault
+      → Says step view cdata ends sound number st old c token next
+      → Keeps step view cdata ends sound number old new c result
+  not-told_from old target new c st token result fault next from same stream ok is fails law =
+      let p = err_from_is_err_and result is in
+      rw (p.1, p.2) (not-told old new c st token fault next from ok (fails-from old target token fault same stream fails) law)
 
   -- what is to come where a reference has begun
   begun : (k : Tokenizer K) (st : State) (b : ℕ) (s : S × List Reply) (t : List ℕ) → k.state ≡ st → k.char_ref ≡ Some [] → now step view cdata ends sound number k b s t ≡ at step view cdata ends sound number st k b s (38 ∷ t)

@@ -3,7 +3,7 @@ ghost use Rattle.std.specs.Prelude.{◌∷◌, []};
 ghost use Rattle.html_tokens.specs.declared.states.State.TheVariants as state;
 ghost use Rattle.html_tokens.specs.declared.token.Token.TheVariants.{CharacterTokens, NullCharacterToken};
 ghost use Rattle.html_tokens.specs.Characters.{shown};
-ghost use Rattle.html_machine.specs.Steps.{IsAt, TakesAs, Keeps};
+ghost use Rattle.html_machine.specs.Steps.{IsAt, Tells, TakesAs, Keeps};
 
 use crate::tell::empty;
 use crate::tokenizer::Tokenizer;
@@ -69,6 +69,30 @@ impl<Sink: TokenSink> Tokenizer<Sink> {
         ensures { TakesAs Sink.step Sink.view Sink.asks_cdata Sink.ended Sink.is_sound Sink.number NullCharacterToken self.old self.new result }
     {
         self.tell_faulty("unexpected null character", Token::NullCharacterToken)?;
+        Ok(ProcessResult::Continue)
+    }
+
+    /// Hands out two characters as text.
+    pub(crate) fn tell_two(&mut self, first: char, second: char) -> Result<(), ParseFault>
+        requires sound { Sink.is_sound (Sink.view self.old.sink) }
+        ensures { Tells Sink.step Sink.view Sink.asks_cdata Sink.ended Sink.is_sound Sink.number (CharacterTokens (first ∷ second ∷ [])) self.old self.new result }
+    {
+        let mut text = empty(self.stream.alloc);
+        text.push(first)?;
+        text.push(second)?;
+        self.tell(Token::CharacterTokens(text))
+    }
+
+    /// Hands out two characters as text, and goes on.
+    pub(crate) fn take_two(
+        &mut self,
+        first: char,
+        second: char,
+    ) -> Result<ProcessResult<Sink::Handle>, ParseFault>
+        requires sound { Sink.is_sound (Sink.view self.old.sink) }
+        ensures { TakesAs Sink.step Sink.view Sink.asks_cdata Sink.ended Sink.is_sound Sink.number (CharacterTokens (first ∷ second ∷ [])) self.old self.new result }
+    {
+        self.tell_two(first, second)?;
         Ok(ProcessResult::Continue)
     }
 }
