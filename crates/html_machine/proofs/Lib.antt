@@ -2,8 +2,12 @@ pub mod CdataStates
 pub mod Errors
 pub mod Glue
 pub mod Lawful
+pub mod RawEndTags
+pub mod RawKinds
+pub mod RawStates
 pub mod Readings
 pub mod Runs
+pub mod ScriptStates
 pub mod Telling
 pub mod TextStates
 pub mod Words

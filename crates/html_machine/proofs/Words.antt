@@ -1,6 +1,6 @@
 -- Words of letters, as characters and as bytes.
 use Rattle.std.proofs.Common.{◌≡◌, ◌∙◌, ℕ, zero, suc, ◌+◌, ◌≤◌, ◌<◌, length, get_or, Bool, true, false, nat_eq, List, [], ◌∷◌, ◌++◌, map, Option, Some, None, refl, sym, ap, arith}
-use Rattle.std.specs.Prelude.{◌&&◌, IsTrue, nat_lt, ◌↔◌}
+use Rattle.std.specs.Prelude.{◌&&◌, codes, IsTrue, nat_lt, ◌↔◌}
 use Rattle.std.specs.Char.{to_ascii_lowercase, is_ascii_alphabetic}
 use Rattle.std.specs.List.{list_all}
 use Rattle.std.specs.Str.{chars, IsUtf8, IsAscii}
@@ -100,3 +100,8 @@ letters-same result name bs w v u e h test =
       λ s. ap (map to_ascii_lowercase) (sym spelt) ∙ same-bytes (chars name) w h s ∙ ap (map to_ascii_lowercase) (sym own),
       λ s. same-chars (chars name) w h (ap (map to_ascii_lowercase) spelt ∙ s ∙ ap (map to_ascii_lowercase) own),
     )
+
+-- the name "script", read from its bytes
+pub script-chars : chars (codes "script") ≡ codes "script"
+unfolding chars
+script-chars = refl

@@ -1,5 +1,5 @@
 //! Words of ASCII letters.
-ghost use Rattle.std.specs.Prelude.{◌≡◌, ◌∷◌, [], ◌++◌, true, map, IfOk, IfErr, OnOk, length, ◌==◌};
+ghost use Rattle.std.specs.Prelude.{codes, ◌≡◌, ◌∷◌, [], ◌++◌, true, map, IfOk, IfErr, OnOk, length, ◌==◌};
 ghost use Rattle.std.specs.Char.{is_ascii_alphabetic, to_ascii_lowercase};
 ghost use Rattle.std.specs.List.{list_all};
 ghost use Rattle.std.specs.Str.{chars};
@@ -79,6 +79,14 @@ impl Letters {
         ensures letters { list_all is_ascii_alphabetic self.now ≡ true }
     {
         name.eq_ignore_ascii_case(self.text.as_str())
+    }
+
+    /// Whether this is `script`, in any case.
+    pub(crate) fn is_script(&self) -> bool
+        ensures is { result ≡ same_any_case (codes "script") self.now }
+        ensures letters { list_all is_ascii_alphabetic self.now ≡ true }
+    {
+        self.is_any_case("script")
     }
 
     /// The letters lowered.

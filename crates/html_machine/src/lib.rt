@@ -4,6 +4,8 @@
 mod cdata_states;
 mod characters;
 mod letters;
+mod raw_states;
+mod script_states;
 mod tell;
 mod text_states;
 pub mod tokenizer;
