@@ -8,9 +8,9 @@ use Rattle.std.proofs.lemmas.List.{drop_more, take_more}
 use Rattle.std.proofs.lemmas.Slice.Eq.{bytes_eq-Decides}
 use Rattle.html_tokenizer.specs.Order.{IsOrdered, ordered_name}
 use Rattle.html_tokenizer.specs.References.{fault_behind, first_fault, has_values, is_named, is_reference_name}
-use Rattle.html_tokenizer.specs.declared.references.ReferenceRow.{ReferenceRow}
-use Rattle.html_tokenizer.specs.declared.references.TableFault.{TableFault}
-use Rattle.html_tokenizer.specs.declared.references.TableFault.TheVariants.{Duplicate}
+use Rattle.html_tokens.specs.declared.table.ReferenceRow.{ReferenceRow}
+use Rattle.html_tokens.specs.declared.table.TableFault.{TableFault}
+use Rattle.html_tokens.specs.declared.table.TableFault.TheVariants.{Duplicate}
 use Rattle.html_tokenizer.proofs.Matches.{any_at}
 
 -- a name at an index of the order is a name of the table

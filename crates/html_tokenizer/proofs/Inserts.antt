@@ -6,7 +6,7 @@ use Rattle.std.proofs.lemmas.List.{length-take-le, take_more}
 use Rattle.std.proofs.lemmas.List.Edits.{length-insert, get_or-insert_below, get_or-insert_at, get_or-insert_above}
 use Rattle.html_tokenizer.specs.Order.{IsBefore, IsOrder, IsPlaceOf, name_at, ordered_name}
 use Rattle.html_tokenizer.specs.References.{fault_behind, is_reference_name}
-use Rattle.html_tokenizer.specs.declared.references.ReferenceRow.{ReferenceRow}
+use Rattle.html_tokens.specs.declared.table.ReferenceRow.{ReferenceRow}
 use Rattle.html_tokenizer.proofs.Faults.{name_without_fault}
 
 name_at-before : (earlier : List ReferenceRow) (row : ReferenceRow) (place : ℕ) → place < length earlier → name_at (earlier ++ row ∷ []) place ≡ name_at earlier place

@@ -1,3 +1,4 @@
+pub mod Begins
 pub mod Faults
 pub mod Inserts
 pub mod Longest
@@ -6,4 +7,6 @@ pub mod Names
 pub mod Orders
 pub mod Spelled
 pub mod TableLaws
+pub mod TableValues
+pub mod WholeNames
 mod Worked

@@ -8,10 +8,11 @@ use Rattle.std.specs.Cmp.Lexicographic.{pointwise}
 use Rattle.std.proofs.lemmas.Bool.{and_parts, and_from, cases_lt, cond-true, cond-false, eqb-true, false_from_ne_true, le-leb, lt-leb, lt-ltb, or_parts, true≢false}
 use Rattle.std.proofs.lemmas.Bool.Decides.{nat_tests}
 use Rattle.std.proofs.lemmas.List.{length-take-le, take_more, take-append-drop}
-use Rattle.html_tokenizer.specs.References.{goes_on, goes_on_behind, is_named, is_reference_name, longer_of, longest_match}
+use Rattle.html_tokenizer.specs.References.{goes_on, goes_on_behind, is_named, is_reference_name, longer_of, longest}
 use Rattle.html_tokenizer.specs.Order.{IsOrder, name_at}
+use Rattle.html_tokenizer.proofs.Begins.{fitting-is}
 use Rattle.html_tokenizer.proofs.Matches.{same_place}
-use Rattle.html_tokenizer.specs.declared.references.ReferenceRow.{ReferenceRow}
+use Rattle.html_tokens.specs.declared.table.ReferenceRow.{ReferenceRow}
 
 nat_eq-sym : (a b : ℕ) → nat_eq a b ≡ nat_eq b a
 nat_eq-sym a b = grind (arith, nat_tests)
@@ -37,11 +38,11 @@ starts_with-cut (h ∷ hs) more (n ∷ ns) g =
     (starts_with-cut hs more ns)
 
 -- nothing goes on behind a text of no row more than it begins with
-pub longest_match-cut : (rows : List ReferenceRow) (held more : List ℕ) → goes_on rows held ≡ false → longest_match rows (held ++ more) ≡ longest_match rows held
-longest_match-cut [] held more g = refl
-longest_match-cut (row ∷ rows) held more g =
+pub longest-cut : (rows : List ReferenceRow) (held more : List ℕ) → goes_on rows held ≡ false → longest rows (held ++ more) ≡ longest rows held
+longest-cut [] held more g = refl
+longest-cut (row ∷ rows) held more g =
     let p = or_parts (goes_on_behind held row.name) (goes_on rows held) g in
-    rw (starts_with-cut held more row.name p.0, longest_match-cut rows held more p.1) refl
+    rw (fitting-is (held ++ more) row, fitting-is held row, starts_with-cut held more row.name p.0, longest-cut rows held more p.1) refl
 
 starts_with-nil : (ns : List ℕ) → starts_with nat_eq [] ns ≡ pointwise nat_eq ns []
 starts_with-nil [] = refl
@@ -54,11 +55,11 @@ starts_with-step [] c (n ∷ ns) e = ap (λ b. nat_eq n c && b) (starts_with-nil
 starts_with-step (f ∷ fs) c (n ∷ ns) e = under_first (nat_eq n f) _ _ _ e (starts_with-step fs c ns)
 
 -- with a character more that ends no name, the longest name stays
-pub longest_match-step : (rows : List ReferenceRow) (front : List ℕ) (c : ℕ) → is_named rows (front ++ c ∷ []) ≡ false → longest_match rows (front ++ c ∷ []) ≡ longest_match rows front
-longest_match-step [] front c g = refl
-longest_match-step (row ∷ rows) front c g =
+pub longest-step : (rows : List ReferenceRow) (front : List ℕ) (c : ℕ) → is_named rows (front ++ c ∷ []) ≡ false → longest rows (front ++ c ∷ []) ≡ longest rows front
+longest-step [] front c g = refl
+longest-step (row ∷ rows) front c g =
     let p = or_parts (bytes_eq row.name (front ++ c ∷ [])) (is_named rows (front ++ c ∷ [])) g in
-    rw (starts_with-step front c row.name p.0, longest_match-step rows front c p.1) refl
+    rw (fitting-is (front ++ c ∷ []) row, fitting-is front row, starts_with-step front c row.name p.0, longest-step rows front c p.1) refl
 
 -- a text begins with itself, and with nothing longer
 starts_with-itself : (text : List ℕ) → starts_with nat_eq text text ≡ true
@@ -94,9 +95,9 @@ row-within text row true s = starts_with-length text row.name s
 row-within text row false s = tt
 
 -- the longest name that a text begins with is no longer than the text
-pub longest_match-within : (rows : List ReferenceRow) (text : List ℕ) → Within (length text) (longest_match rows text)
-longest_match-within [] text = tt
-longest_match-within (row ∷ rows) text = longer_of-within (length text) _ (longest_match rows text) (row-within text row _ refl) (longest_match-within rows text)
+pub longest-within : (rows : List ReferenceRow) (text : List ℕ) → Within (length text) (longest rows text)
+longest-within [] text = tt
+longest-within (row ∷ rows) text = rw (fitting-is text row) (longer_of-within (length text) _ (longest rows text) (row-within text row _ refl) (longest-within rows text))
 
 longer_of-first : (row : ReferenceRow) (other : Option ReferenceRow) → Within (length row.name) other → longer_of (Some row) other ≡ Some row
 longer_of-first row None w = refl
@@ -122,28 +123,28 @@ row_at (row ∷ rows) zero l = (row, refl, refl)
 row_at (row ∷ rows) (suc place) l = row_at rows place (omega arith)
 
 -- where the text is a name, its row is the answer
-pub longest_match-named : (rows : List ReferenceRow) (place : ℕ) (text : List ℕ) → place < length rows → name_at rows place ≡ text → 0 < length text → ((p : ℕ) → p < length rows → name_at rows p ≡ text → p ≡ place) → longest_match rows text ≡ slice_get rows place
-longest_match-named [] place text l e z only = absurd (omega arith)
-longest_match-named (row ∷ rows) zero text l e z only =
-    rw (cond-true (starts_with nat_eq text row.name) (Some row) None (rw e (starts_with-itself text)))
-    (longer_of-first row (longest_match rows text) (subst (λ n. Within n (longest_match rows text)) (ap length (sym e)) (longest_match-within rows text)))
-longest_match-named (row ∷ rows) (suc place) text l e z only =
+pub longest-named : (rows : List ReferenceRow) (place : ℕ) (text : List ℕ) → place < length rows → name_at rows place ≡ text → 0 < length text → ((p : ℕ) → p < length rows → name_at rows p ≡ text → p ≡ place) → longest rows text ≡ slice_get rows place
+longest-named [] place text l e z only = absurd (omega arith)
+longest-named (row ∷ rows) zero text l e z only =
+    rw (fitting-is text row, cond-true (starts_with nat_eq text row.name) (Some row) None (rw e (starts_with-itself text)))
+    (longer_of-first row (longest rows text) (subst (λ n. Within n (longest rows text)) (ap length (sym e)) (longest-within rows text)))
+longest-named (row ∷ rows) (suc place) text l e z only =
     let r = row_at rows place (omega arith) in
     let n : length r.0.name ≡ length text = ap length (r.2 ∙ e) in
     let shorter : Within (length text - 1) (cond (starts_with nat_eq text row.name) (Some row) None) =
     row-shorter text row _ (λ same. zero≢suc place (only 0 (omega arith) same)) z refl in
-    rw (longest_match-named rows place text (omega arith) e z (λ p m same. let q : suc p ≡ suc place = only (suc p) (omega arith) same in omega arith), r.1)
+    rw (fitting-is text row, longest-named rows place text (omega arith) e z (λ p m same. let q : suc p ≡ suc place = only (suc p) (omega arith) same in omega arith), r.1)
     (longer_of-second (cond (starts_with nat_eq text row.name) (Some row) None) r.0 (length text - 1) shorter (omega arith))
   where
     zero≢suc : (n : ℕ) → 0 ≡ suc n → ⊥
     zero≢suc n e = omega arith
 
 -- no text begins with a name where it has no character
-longest_match-nil : (rows : List ReferenceRow) → ((place : ℕ) → place < length rows → name_at rows place ≡ [] → ⊥) → longest_match rows [] ≡ None
-longest_match-nil [] h = refl
-longest_match-nil (row ∷ rows) h =
-    rw (cond-false (starts_with nat_eq [] row.name) (Some row) None (false_from_ne_true _ (λ s. h 0 (omega arith) (whole [] row.name s (omega arith)))))
-    (longest_match-nil rows (λ place l. h (suc place) (omega arith)))
+longest-nil : (rows : List ReferenceRow) → ((place : ℕ) → place < length rows → name_at rows place ≡ [] → ⊥) → longest rows [] ≡ None
+longest-nil [] h = refl
+longest-nil (row ∷ rows) h =
+    rw (fitting-is [] row, cond-false (starts_with nat_eq [] row.name) (Some row) None (false_from_ne_true _ (λ s. h 0 (omega arith) (whole [] row.name s (omega arith)))))
+    (longest-nil rows (λ place l. h (suc place) (omega arith)))
 
 no_empty_name : is_reference_name [] ≡ true → ⊥
 no_empty_name h = true≢false (sym h)
@@ -152,18 +153,18 @@ no_empty_name h = true≢false (sym h)
 pub named_at : (rows : List ReferenceRow) (order : List ℕ) → IsOrder rows order → (place : ℕ) → place < length rows → is_reference_name (name_at rows place) ≡ true
 named_at rows order o place l = let w = o.whole place l in rw w.2 at (o.ordered.named w.0 w.1)
 
-pub longest-none : (rows : List ReferenceRow) (order : List ℕ) → IsOrder rows order → None ≡ longest_match rows []
+pub longest-none : (rows : List ReferenceRow) (order : List ℕ) → IsOrder rows order → None ≡ longest rows []
 longest-none rows order o =
-    sym (longest_match-nil rows (λ place l e. no_empty_name (rw e at (named_at rows order o place l))))
+    sym (longest-nil rows (λ place l e. no_empty_name (rw e at (named_at rows order o place l))))
 
 -- a turn of the search for the longest name: a name of one character more, or else the one so far
-pub longest-more : (rows : List ReferenceRow) (order text : List ℕ) (end : ℕ) (found longest : Option ℕ) → IsOrder rows order → end < length text → IfSome found (λ place. (place < length rows) × (name_at rows place ≡ take (end + 1) text)) → IfNone found (is_named rows (take (end + 1) text) ≡ false) → option_and_then (slice_get rows) longest ≡ longest_match rows (take end text) → option_and_then (slice_get rows) (option_or found longest) ≡ longest_match rows (take (end + 1) text)
-longest-more rows order text end None longest o l f a h =
+pub longest-more : (rows : List ReferenceRow) (order text : List ℕ) (end : ℕ) (found before : Option ℕ) → IsOrder rows order → end < length text → IfSome found (λ place. (place < length rows) × (name_at rows place ≡ take (end + 1) text)) → IfNone found (is_named rows (take (end + 1) text) ≡ false) → option_and_then (slice_get rows) before ≡ longest rows (take end text) → option_and_then (slice_get rows) (option_or found before) ≡ longest rows (take (end + 1) text)
+longest-more rows order text end None before o l f a h =
     let more = take_more text end 0 l in
-    h ∙ sym (ap (longest_match rows) more ∙ longest_match-step rows (take end text) (get_or text end 0) (sym (ap (is_named rows) more) ∙ a))
-longest-more rows order text end (Some place) longest o l f a h =
+    h ∙ sym (ap (longest rows) more ∙ longest-step rows (take end text) (get_or text end 0) (sym (ap (is_named rows) more) ∙ a))
+longest-more rows order text end (Some place) before o l f a h =
     let n : length (take (end + 1) text) ≡ end + 1 = length-take-le (end + 1) text (omega arith) in
-    sym (longest_match-named rows place (take (end + 1) text) f.0 f.1 (omega arith)
+    sym (longest-named rows place (take (end + 1) text) f.0 f.1 (omega arith)
     (λ p m same. same_place rows order o p place m f.0 (same ∙ sym f.1)))
 
 pub found-within : (rows : List ReferenceRow) (name : List ℕ) (found : Option ℕ) → IfSome found (λ place. (place < length rows) × (name_at rows place ≡ name)) → IfSome found (λ place. place < length rows)
@@ -175,9 +176,9 @@ within-more n None longest f h = h
 within-more n (Some place) longest f h = f
 
 -- where no name goes on, the longest name stays
-pub longest-all : (rows : List ReferenceRow) (text : List ℕ) (end : ℕ) → goes_on rows (take end text) ≡ false → longest_match rows (take end text) ≡ longest_match rows text
+pub longest-all : (rows : List ReferenceRow) (text : List ℕ) (end : ℕ) → goes_on rows (take end text) ≡ false → longest rows (take end text) ≡ longest rows text
 longest-all rows text end g =
-    sym (ap (longest_match rows) (sym (take-append-drop end text)) ∙ longest_match-cut rows (take end text) (drop end text) g)
+    sym (ap (longest rows) (sym (take-append-drop end text)) ∙ longest-cut rows (take end text) (drop end text) g)
 
 -- a row read at a place is the one there
 pub slice_get-get_or : (rows : List ReferenceRow) (place : ℕ) (row : ReferenceRow) → place < length rows → row ≡ get_or rows place row → Some row ≡ slice_get rows place

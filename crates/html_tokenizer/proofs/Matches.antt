@@ -13,7 +13,7 @@ use Rattle.std.proofs.lemmas.Cmp.{nat_list_cmp_total, tied_itself}
 use Rattle.std.proofs.lemmas.Slice.Eq.{bytes_eq-Decides}
 use Rattle.html_tokenizer.specs.References.{goes_on, goes_on_behind, is_named}
 use Rattle.html_tokenizer.specs.Order.{IsBefore, IsOrder, IsOrdered, IsPlaceOf, name_at, ordered_name}
-use Rattle.html_tokenizer.specs.declared.references.ReferenceRow.{ReferenceRow}
+use Rattle.html_tokens.specs.declared.table.ReferenceRow.{ReferenceRow}
 
 -- a name that passes is at some place, and the other way round
 pub any_at : (test : List ℕ → Bool) (rows : List ReferenceRow) (place : ℕ) → place < length rows → test (name_at rows place) ≡ true → list_any (λ row. test row.name) rows ≡ true

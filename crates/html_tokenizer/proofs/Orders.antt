@@ -7,7 +7,7 @@ use Rattle.std.proofs.lemmas.Bool.{cases_order}
 use Rattle.std.proofs.lemmas.Slice.Eq.{bytes_eq-Decides}
 use Rattle.std.proofs.lemmas.Cmp.{nat_list_cmp_total}
 use Rattle.html_tokenizer.specs.Order.{name_at, IsBefore, IsOrdered, ordered_name}
-use Rattle.html_tokenizer.specs.declared.references.ReferenceRow.{ReferenceRow}
+use Rattle.html_tokens.specs.declared.table.ReferenceRow.{ReferenceRow}
 
 pub IsBefore-trans : (a b c : List ℕ) → IsBefore a b → IsBefore b c → IsBefore a c
 IsBefore-trans a b c = nat_list_cmp_total.trans a b c

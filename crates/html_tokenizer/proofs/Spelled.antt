@@ -1,5 +1,5 @@
 -- Names are of ASCII alone, so texts may be compared with them by their bytes.
-use Rattle.std.proofs.Common.{◌≡◌, ◌∙◌, ℕ, ◌<◌, suc, Bool, true, false, cond, List, [], ◌∷◌, ◌++◌, length, drop, Some, None, refl, sym, ap, arith}
+use Rattle.std.proofs.Common.{◌≡◌, ◌∙◌, ℕ, ◌<◌, suc, Bool, true, false, List, [], ◌∷◌, ◌++◌, length, drop, refl, sym, ap, arith}
 use Rattle.std.specs.Prelude.{nat_eq, nat_lt}
 use Rattle.std.specs.List.{starts_with}
 use Rattle.std.specs.Str.{IsAscii, IsUtf8, chars}
@@ -11,8 +11,9 @@ use lib.Utf8.{encodes}
 use Rattle.markup.specs.Plain.{is_plain}
 use Rattle.markup.proofs.Plain.{chars-plain}
 use Rattle.html_tokenizer.specs.Order.{IsOrder, name_at}
-use Rattle.html_tokenizer.specs.References.{goes_on, goes_on_behind, is_reference_name, longer_of, longest_match}
-use Rattle.html_tokenizer.specs.declared.references.ReferenceRow.{ReferenceRow}
+use Rattle.html_tokenizer.specs.References.{goes_on, goes_on_behind, is_reference_name, longest}
+use Rattle.html_tokens.specs.declared.table.ReferenceRow.{ReferenceRow}
+use Rattle.html_tokenizer.proofs.Begins.{fitting-is}
 use Rattle.html_tokenizer.proofs.Longest.{named_at}
 use Rattle.html_tokenizer.proofs.Matches.{place_of_any}
 use Rattle.html_tokenizer.proofs.Names.{IsAscii-from_plain, bytes_of_plain, is_plain-name}
@@ -58,11 +59,10 @@ starts_with-chars bytes name u p =
       λ e. b.1 (chars (drop (length name) bytes)) (ap chars (a.0 e) ∙ (chars-append name (drop (length name) bytes) (IsUtf8-from_ascii name ascii) ∙ ap (λ n. n ++ chars (drop (length name) bytes)) (chars-plain name p))),
     )
 
-longest_match-spelled : (rows : List ReferenceRow) (bytes : List ℕ) → IsUtf8 bytes → ((place : ℕ) → place < length rows → is_plain (name_at rows place) ≡ true) → longest_match rows bytes ≡ longest_match rows (chars bytes)
-longest_match-spelled [] bytes u p = refl
-longest_match-spelled (row ∷ rows) bytes u p =
-    ap (λ b. longer_of (cond b (Some row) None) (longest_match rows bytes)) (starts_with-chars bytes row.name u (p 0 (omega arith)))
-    ∙ ap (longer_of (cond (starts_with nat_eq (chars bytes) row.name) (Some row) None)) (longest_match-spelled rows bytes u (λ place l. p (suc place) (omega arith)))
+longest-spelled : (rows : List ReferenceRow) (bytes : List ℕ) → IsUtf8 bytes → ((place : ℕ) → place < length rows → is_plain (name_at rows place) ≡ true) → longest rows bytes ≡ longest rows (chars bytes)
+longest-spelled [] bytes u p = refl
+longest-spelled (row ∷ rows) bytes u p =
+    rw (fitting-is bytes row, fitting-is (chars bytes) row, starts_with-chars bytes row.name u (p 0 (omega arith)), longest-spelled rows bytes u (λ place l. p (suc place) (omega arith))) refl
 
-pub longest_match-chars : (rows : List ReferenceRow) (order bytes : List ℕ) → IsOrder rows order → IsUtf8 bytes → longest_match rows bytes ≡ longest_match rows (chars bytes)
-longest_match-chars rows order bytes o u = longest_match-spelled rows bytes u (λ place l. is_plain-name (name_at rows place) (named_at rows order o place l))
+pub longest-chars : (rows : List ReferenceRow) (order bytes : List ℕ) → IsOrder rows order → IsUtf8 bytes → longest rows bytes ≡ longest rows (chars bytes)
+longest-chars rows order bytes o u = longest-spelled rows bytes u (λ place l. is_plain-name (name_at rows place) (named_at rows order o place l))

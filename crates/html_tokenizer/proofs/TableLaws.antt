@@ -9,10 +9,11 @@ use Rattle.std.proofs.lemmas.List.Elements.{All-nil, All-cons, All-push, All-wea
 use Rattle.std.proofs.lemmas.List.Quantifiers.{all_pairs_push}
 use Rattle.std.proofs.lemmas.Slice.Eq.{bytes_eq-Decides}
 use Rattle.html_tokenizer.specs.Order.{name_at}
-use Rattle.html_tokenizer.specs.References.{IsCheckedTable, IsFirstFault, MatchesLongest, fault_behind, fault_of, first_fault, has_values, is_named, is_reference_name, longer_of, longest_match}
-use Rattle.html_tokenizer.specs.declared.references.ReferenceRow.{ReferenceRow}
-use Rattle.html_tokenizer.specs.declared.references.TableFault.{TableFault}
-use Rattle.html_tokenizer.specs.declared.references.TableFault.TheVariants.{Memory}
+use Rattle.html_tokenizer.specs.References.{IsCheckedTable, IsFirstFault, MatchesLongest, fault_behind, fault_of, first_fault, has_values, is_named, is_reference_name, longer_of, longest}
+use Rattle.html_tokens.specs.declared.table.ReferenceRow.{ReferenceRow}
+use Rattle.html_tokens.specs.declared.table.TableFault.{TableFault}
+use Rattle.html_tokens.specs.declared.table.TableFault.TheVariants.{Memory}
+use Rattle.html_tokenizer.proofs.Begins.{fitting-is}
 use Rattle.html_tokenizer.proofs.Faults.{name_without_fault}
 use Rattle.html_tokenizer.proofs.Matches.{any_at}
 use Rattle.html_tokenizer.proofs.Orders.{name_at-get_or}
@@ -119,6 +120,6 @@ more-fits row rows text true (Some other) s m = decided (nat_le (length other.na
         }
 
 -- the longest match is what the text begins with at most
-pub longest_match-matches : (rows : List ReferenceRow) (text : List ℕ) → MatchesLongest rows text (longest_match rows text)
-longest_match-matches [] text = All-nil (λ row. starts_with nat_eq text row.name ≡ false)
-longest_match-matches (row ∷ rows) text = more-fits row rows text (starts_with nat_eq text row.name) (longest_match rows text) refl (longest_match-matches rows text)
+pub longest-matches : (rows : List ReferenceRow) (text : List ℕ) → MatchesLongest rows text (longest rows text)
+longest-matches [] text = All-nil (λ row. starts_with nat_eq text row.name ≡ false)
+longest-matches (row ∷ rows) text = rw (fitting-is text row) (more-fits row rows text (starts_with nat_eq text row.name) (longest rows text) refl (longest-matches rows text))

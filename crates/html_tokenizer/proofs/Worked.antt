@@ -1,9 +1,9 @@
 -- Worked rows of the definitions, computed.
 use Rattle.std.proofs.Common.{◌≡◌, true, false, List, [], ◌∷◌, Some, None, refl}
 use Rattle.std.specs.Prelude.{codes}
-use Rattle.html_tokenizer.specs.References.{fault_of, five_rows, goes_on, is_reference_name, longest_match, row_of}
-use Rattle.html_tokenizer.specs.declared.references.ReferenceRow.{ReferenceRow}
-use Rattle.html_tokenizer.specs.declared.references.TableFault.TheVariants.{BadName, BadValue, Duplicate}
+use Rattle.html_tokenizer.specs.References.{fault_of, five_rows, goes_on, is_reference_name, longest, row_of}
+use Rattle.html_tokens.specs.declared.table.ReferenceRow.{ReferenceRow}
+use Rattle.html_tokens.specs.declared.table.TableFault.TheVariants.{BadName, BadValue, Duplicate}
 
 name_with_semicolon : is_reference_name (codes "amp;") ≡ true
 name_with_semicolon = refl
@@ -42,13 +42,13 @@ five_checked = refl
 abbrev not_rows : List ReferenceRow
 not_rows = row_of (codes "not") 0xAC ∷ row_of (codes "notin;") 0x2209 ∷ []
 
-shorter_name : longest_match not_rows (codes "notit;") ≡ Some (row_of (codes "not") 0xAC)
+shorter_name : longest not_rows (codes "notit;") ≡ Some (row_of (codes "not") 0xAC)
 shorter_name = refl
 
-longer_name : longest_match not_rows (codes "notin; ") ≡ Some (row_of (codes "notin;") 0x2209)
+longer_name : longest not_rows (codes "notin; ") ≡ Some (row_of (codes "notin;") 0x2209)
 longer_name = refl
 
-no_name : longest_match not_rows (codes "no") ≡ None
+no_name : longest not_rows (codes "no") ≡ None
 no_name = refl
 
 held_goes_on : goes_on not_rows (codes "noti") ≡ true

@@ -4,7 +4,7 @@ use Rattle.std.specs.Ordering.{nat_cmp}
 use Rattle.std.specs.Cmp.Lexicographic.{slice_cmp}
 use Rattle.std.specs.declared.cmp.Ordering.TheVariants.{Less}
 use Rattle.html_tokenizer.specs.References.{fault_of, is_reference_name}
-use Rattle.html_tokenizer.specs.declared.references.ReferenceRow.{ReferenceRow}
+use Rattle.html_tokens.specs.declared.table.ReferenceRow.{ReferenceRow}
 
 -- the name of the row at a place
 abbrev pub name_at : List ReferenceRow → ℕ → List ℕ

@@ -1,12 +1,13 @@
 -- Tables of named character references, and what they say of a text (HTML Standard, sections 13.2.5.73 and 13.5).
-use Rattle.std.specs.Prelude.{◌≡◌, ◌≢◌, ◌+◌, ◌-◌, ◌≤◌, ◌==◌, ℕ, Bool, true, false, not, ◌&&◌, ◌||◌, nat_eq, nat_lt, nat_le, List, [], ◌∷◌, ◌++◌, length, take, Option, Some, None, if◌then◌else◌, codes, IsTrue, All, AllPairs, Contains}
+use Rattle.std.specs.Prelude.{◌≡◌, ◌≢◌, ◌+◌, ◌-◌, ◌≤◌, ◌==◌, ℕ, Bool, true, false, not, ◌&&◌, ◌||◌, nat_eq, nat_lt, List, [], ◌∷◌, ◌++◌, length, take, Option, Some, None, if◌then◌else◌, codes, IsTrue, All, AllPairs, Contains}
 use Rattle.std.specs.Char.{is_ascii_alphanumeric}
 use Rattle.std.specs.List.{list_all, list_any, starts_with, ends_with}
 use Rattle.std.specs.Option.{option_map_or, option_or}
 use Rattle.std.specs.Str.{bytes_eq}
-use Rattle.html_tokenizer.specs.declared.references.ReferenceRow.{ReferenceRow}
-use Rattle.html_tokenizer.specs.declared.references.TableFault.{TableFault}
-use Rattle.html_tokenizer.specs.declared.references.TableFault.TheVariants.{BadName, Duplicate, BadValue}
+use Rattle.html_tokens.specs.declared.table.ReferenceRow.{ReferenceRow}
+use Rattle.html_tokens.specs.declared.table.TableFault.{TableFault}
+use Rattle.html_tokens.specs.declared.table.TableFault.TheVariants.{BadName, Duplicate, BadValue}
+pub use Rattle.html_tokens.specs.Table.{goes_on, goes_on_behind, longer_of, longest}
 
 -- a name without the ";" at its end
 abbrev pub stem : List ℕ → List ℕ
@@ -42,25 +43,6 @@ first_fault earlier (row ∷ rows) = option_or (fault_behind earlier row) (first
 -- the fault of the first faulty row of a table
 abbrev pub fault_of : List ReferenceRow → Option TableFault
 fault_of rows = first_fault [] rows
-
--- whether a name goes on behind what is held
-abbrev pub goes_on_behind : List ℕ → List ℕ → Bool
-goes_on_behind held name = starts_with nat_eq name held && nat_lt (length held) (length name)
-
--- whether some name of the table goes on behind what is held
-abbrev pub goes_on : List ReferenceRow → List ℕ → Bool
-goes_on rows held = list_any (λ row. goes_on_behind held row.name) rows
-
--- the row with the longer name, the first one where both are as long
-abbrev pub longer_of : Option ReferenceRow → Option ReferenceRow → Option ReferenceRow
-longer_of None other = other
-longer_of (Some row) None = Some row
-longer_of (Some row) (Some other) = if nat_le (length other.name) (length row.name) then Some row else Some other
-
--- of the rows whose name the text begins with, the one with the longest name
-abbrev pub longest_match : List ReferenceRow → List ℕ → Option ReferenceRow
-longest_match [] text = None
-longest_match (row ∷ rows) text = longer_of (if starts_with nat_eq text row.name then Some row else None) (longest_match rows text)
 
 -- the row of a name that stands for one character
 abbrev pub row_of : List ℕ → ℕ → ReferenceRow

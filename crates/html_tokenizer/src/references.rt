@@ -2,90 +2,16 @@
 ghost use Rattle.std.specs.Prelude.{◌≡◌, ◌≢◌, None, Some, IfOk, IfErr, OnOk, IsTrue};
 ghost use Rattle.std.specs.Option.{option_copied};
 ghost use Rattle.std.specs.Str.{chars};
-ghost use Rattle.std.specs.String.{string_bytes};
 ghost use Rattle.markup.specs.Plain.{is_plain};
-ghost use Rattle.html_tokenizer.specs.References.{IsCheckedTable, IsFirstFault, MatchesLongest, fault_of, five_rows, goes_on, longest_match, row_of};
-ghost use Rattle.html_tokenizer.specs.declared.references.TableFault.TheVariants.{Memory};
+ghost use Rattle.html_tokenizer.specs.References.{IsCheckedTable, IsFirstFault, MatchesLongest, fault_of, five_rows, goes_on, longest, row_of};
+ghost use Rattle.html_tokens.specs.declared.table.TableFault.TheVariants.{Memory};
 
-use markup::Text;
-use std::alloc::{AllocError, AllocFailed, Global};
+pub use html_tokens::table::{ReferenceRow, TableFault};
+use std::alloc::{AllocError, Global};
 use std::marker::Model;
 
 mod check;
 mod order;
-
-/// A name without its ampersand, and the one or two characters that it stands for, as their numbers.
-#[derive(Debug, Drop)]
-pub struct ReferenceRow {
-    /// The name, as `amp;`.
-    pub name: Text,
-    /// The first character.
-    pub first: u32,
-    /// The second character, of a name that stands for two.
-    pub second: Option<u32>,
-}
-
-impl ReferenceRow {
-    ghost use Rattle.std.specs.Prelude.{◌≡◌, IfOk, IfErr};
-    ghost use Rattle.std.specs.Str.{chars};
-    ghost use Rattle.std.specs.String.{string_bytes};
-    ghost use Rattle.html_tokenizer.specs.declared.references.TableFault.TheVariants.{Memory};
-
-    /// The row of a name, which keeps the string's memory. Whether it may stand in a table is found out by `References::new`.
-    pub fn new(name: String, first: u32, second: Option<u32>) -> ReferenceRow
-        ensures { result ≡ record { name = chars (string_bytes name); first = first; second = second } }
-    {
-        ReferenceRow {
-            name: Text::new(name),
-            first,
-            second,
-        }
-    }
-
-    /// A row of its own with the same name and values.
-    pub fn copy(&self, alloc: Global) -> Result<ReferenceRow, TableFault>
-        ensures ok { IfOk result (λ copied. copied ≡ self.now) }
-        ensures err { IfErr result (λ fault. fault ≡ Memory) }
-    {
-        let name = String::from_str(alloc, self.name.as_str())?;
-        Ok(ReferenceRow::new(name, self.first, self.second))
-    }
-}
-
-/// Why a table of references was not made. Rows count from 1.
-#[derive(Clone, Copy, Debug, PartialEq, Eq)]
-pub enum TableFault {
-    /// The name is not letters and digits of ASCII, one at least, with `;` or nothing behind them.
-    BadName(u64),
-    /// An earlier row has the name.
-    Duplicate(u64),
-    /// A value is 0, or not the number of a character.
-    BadValue(u64),
-    /// There was not enough memory.
-    Memory,
-}
-
-impl From<AllocError> for TableFault {
-    ghost use Rattle.std.specs.Prelude.{◌≡◌};
-    ghost use Rattle.html_tokenizer.specs.declared.references.TableFault.TheVariants.{Memory};
-
-    ghost from_gives = { λ _ fault. fault ≡ Memory };
-
-    fn from(_error: AllocError) -> TableFault {
-        TableFault::Memory
-    }
-}
-
-impl<T: Drop> From<AllocFailed<T>> for TableFault {
-    ghost use Rattle.std.specs.Prelude.{◌≡◌};
-    ghost use Rattle.html_tokenizer.specs.declared.references.TableFault.TheVariants.{Memory};
-
-    ghost from_gives = { λ _ fault. fault ≡ Memory };
-
-    fn from(_error: AllocFailed<T>) -> TableFault {
-        TableFault::from(AllocError)
-    }
-}
 
 // The row of a name of ASCII alone, which stands for one character.
 fn make_row(alloc: Global, name: &str, value: u32) -> Result<ReferenceRow, AllocError>
@@ -120,7 +46,7 @@ pub struct References {
 
 impl Model for References {
     ghost use Rattle.std.specs.Prelude.{List};
-    ghost use Rattle.html_tokenizer.specs.declared.references.ReferenceRow.{ReferenceRow};
+    ghost use Rattle.html_tokens.specs.declared.table.ReferenceRow.{ReferenceRow};
     ghost use Rattle.html_tokenizer.specs.Order.{IsTable};
 
     ghost Value = { List ReferenceRow };
@@ -193,7 +119,7 @@ impl References {
 
     /// The row with the longest name that a text begins with (HTML Standard, section 13.2.5.73).
     pub fn longest(&self, text: &str) -> Option<&ReferenceRow>
-        ensures row { option_copied result ≡ longest_match self.now (chars text.now) }
+        ensures row { option_copied result ≡ longest self.now (chars text.now) }
         ensures longest { MatchesLongest self.now (chars text.now) (option_copied result) }
     {
         match order::longest(&self.rows, &self.order, text.as_bytes()) {

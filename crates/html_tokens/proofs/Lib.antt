@@ -3,6 +3,7 @@ pub mod ListingLaws
 pub mod NewlineLaws
 pub mod Permutations
 pub mod Readings
+pub mod SinkTexts
 pub mod SoundItems
 pub mod TextLaws
 pub mod TextPieces

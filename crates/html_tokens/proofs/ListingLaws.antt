@@ -18,8 +18,9 @@ joined-pieces ((NullCharacterToken, n) ∷ r) a b k l m = refl
 joined-pieces ((EOFToken, n) ∷ r) a b k l m = refl
 joined-pieces ((ParseError x, n) ∷ r) a b k l m = refl
 
-pub listing-joins : {H : Type 0} (replies : Tag → TokenSinkResult H) → JoinsText (step replies)
+pub listing-joins : {H : Type 0} (replies : Tag → TokenSinkResult H) → JoinsText (λ _. Unit {0}) (step replies)
 listing-joins replies = record {
-  pieces = λ s a b k l m. ap (λ t. Ok (record s { told = t }, Continue)) (joined-pieces s.told a b k l m);
-  goes_on = λ s a k. refl;
+  keeps = λ s h a k. tt;
+  pieces = λ s h a b k l m. ap (λ t. Ok (record s { told = t }, Continue)) (joined-pieces s.told a b k l m);
+  goes_on = λ s h a k. refl;
 }

@@ -1,5 +1,6 @@
 -- A reading begins with the item at its front.
 use Rattle.std.proofs.Common.{◌≡◌, ◌∙◌, ℕ, zero, suc, ◌+◌, ◌-◌, ◌≤◌, Bool, List, [], ◌∷◌, take, drop, Result, Ok, Err, refl, sym, ap, arith, sub-one}
+use Rattle.std.specs.Prelude.{IfOk}
 use Rattle.html_tokens.specs.declared.replies.TokenSinkResult.{TokenSinkResult}
 use Rattle.html_tokens.specs.declared.token.Token.{Token}
 use Rattle.html_tokens.specs.Item.{Stand}
@@ -12,6 +13,11 @@ use Rattle.html_tokens.proofs.Lengths.{item-takes}
 pub bind_same : {A B F : Type 0} (r : Result A F) (f g : A → Result B F) → ((x : A) → f x ≡ g x) → (r >>= f) ≡ (r >>= g)
 bind_same (Ok x) f g h = h x
 bind_same (Err e) f g h = refl
+
+-- the same where what it does with the value that is given is
+pub bind_where : {A B F : Type 0} (r : Result A F) (f g : A → Result B F) → IfOk r (λ x. f x ≡ g x) → (r >>= f) ≡ (r >>= g)
+bind_where (Ok x) f g h = h
+bind_where (Err e) f g h = refl
 
 -- a first character more, which is dropped
 drop-more : (n : ℕ) (c : ℕ) (t : List ℕ) → 1 ≤ n → drop n (c ∷ t) ≡ drop (n - 1) t

@@ -57,10 +57,11 @@ flatten (piece ∷ pieces) = piece ++ flatten pieces
 abbrev pub IsCutAnywhere : Type 0
 IsCutAnywhere = (cr : Bool) (ps qs : List (List ℕ)) → flatten ps ≡ flatten qs → newlines_of_pieces cr ps ≡ newlines_of_pieces cr qs
 
--- text in two pieces is as in one, on whatever line, and text gets no reply but to go on
-pub record JoinsText {S H F : Type 0} (step : S → Token → ℕ → Result (S × TokenSinkResult H) F) : Type 0 where
-  pub pieces : (s : S) (a b : List ℕ) (k l m : ℕ) → (step s (CharacterTokens a) k >>= λ p. step p.0 (CharacterTokens b) l) ≡ step s (CharacterTokens (a ++ b)) m
-  pub goes_on : (s : S) (a : List ℕ) (k : ℕ) → IfOk (step s (CharacterTokens a) k) (λ p. p.1 ≡ Continue)
+-- from sound states text in two pieces is as in one, on whatever line, leads to sound states, and gets no reply but to go on
+pub record JoinsText {S H F : Type 0} (is_sound : S → Type 0) (step : S → Token → ℕ → Result (S × TokenSinkResult H) F) : Type 0 where
+  pub keeps : (s : S) → is_sound s → (a : List ℕ) (k : ℕ) → IfOk (step s (CharacterTokens a) k) (λ p. is_sound p.0)
+  pub pieces : (s : S) → is_sound s → (a b : List ℕ) (k l m : ℕ) → (step s (CharacterTokens a) k >>= λ p. step p.0 (CharacterTokens b) l) ≡ step s (CharacterTokens (a ++ b)) m
+  pub goes_on : (s : S) → is_sound s → (a : List ℕ) (k : ℕ) → IfOk (step s (CharacterTokens a) k) (λ p. p.1 ≡ Continue)
 
 -- a character of data that is itself: not "<", "&" or U+0000
 abbrev pub is_itself : ℕ → Bool
@@ -69,11 +70,11 @@ is_itself c = not (nat_eq c 60) && not (nat_eq c 38) && not (nat_eq c 0)
 abbrev pub in_data : Option (List ℕ) → Stand
 in_data last = record { place = InData; last_start_tag = last }
 
--- a run of such characters is read as one text, so it is nothing to a reading where the run is cut
-abbrev pub IsRunOneText : {S H F : Type 0} → (S → Token → ℕ → Result (S × TokenSinkResult H) F) → (S → Bool) → (S → S) → Type 0
-IsRunOneText {S} step cdata ends =
-    JoinsText step
-    → (rows : List Row) (last : Option (List ℕ)) (breaks : ℕ) (s : S) (c : ℕ) (front t : List ℕ) (line : ℕ) → list_all is_itself (c ∷ front) ≡ true
+-- from a sound state a run of such characters is read as one text, so it is nothing to a reading where the run is cut
+abbrev pub IsRunOneText : {S H F : Type 0} → (S → Type 0) → (S → Token → ℕ → Result (S × TokenSinkResult H) F) → (S → Bool) → (S → S) → Type 0
+IsRunOneText {S} is_sound step cdata ends =
+    (rows : List Row) (last : Option (List ℕ)) (breaks : ℕ) (s : S) → is_sound s
+    → (c : ℕ) (front t : List ℕ) (line : ℕ) → list_all is_itself (c ∷ front) ≡ true
     → reading step cdata ends rows (in_data last) breaks s ((c ∷ front) ++ t)
     ≡ (step s (CharacterTokens (c ∷ front)) line >>= λ p. reading step cdata ends rows (in_data last) (breaks + line_breaks (c ∷ front)) p.0 t)
 
@@ -102,12 +103,12 @@ pub record ReadsEscapes (rows : List Row) : Type 0 where
 abbrev pub is_not_null : ℕ → Bool
 is_not_null c = not (nat_eq c 0)
 
--- escaped text without U+0000, read in data, is told as that text
-abbrev pub IsEscapeRead : {S H F : Type 0} → (S → Token → ℕ → Result (S × TokenSinkResult H) F) → (S → Bool) → (S → S) → Type 0
-IsEscapeRead {S} step cdata ends =
-    JoinsText step
-    → (rows : List Row) → ReadsEscapes rows
-    → (last : Option (List ℕ)) (breaks : ℕ) (s : S) (c : ℕ) (cs t : List ℕ) (line : ℕ) → list_all is_not_null (c ∷ cs) ≡ true
+-- escaped text without U+0000, read in data from a sound state, is told as that text
+abbrev pub IsEscapeRead : {S H F : Type 0} → (S → Type 0) → (S → Token → ℕ → Result (S × TokenSinkResult H) F) → (S → Bool) → (S → S) → Type 0
+IsEscapeRead {S} is_sound step cdata ends =
+    (rows : List Row) → ReadsEscapes rows
+    → (last : Option (List ℕ)) (breaks : ℕ) (s : S) → is_sound s
+    → (c : ℕ) (cs t : List ℕ) (line : ℕ) → list_all is_not_null (c ∷ cs) ≡ true
     → reading step cdata ends rows (in_data last) breaks s (escape (c ∷ cs) ++ t)
     ≡ (step s (CharacterTokens (c ∷ cs)) line >>= λ p. reading step cdata ends rows (in_data last) (breaks + line_breaks (c ∷ cs)) p.0 t)
 

@@ -1,5 +1,5 @@
 -- What a whole text makes of a sink (HTML Standard, section 13.2.5).
-use Rattle.std.specs.Prelude.{ℕ, zero, suc, ◌+◌, ◌-◌, min, Bool, true, false, nat_eq, List, [], ◌∷◌, take, drop, Option, Some, None, Result, Ok, Err}
+use Rattle.std.specs.Prelude.{ℕ, zero, suc, ◌+◌, ◌-◌, min, Bool, true, false, nat_eq, List, [], ◌∷◌, take, drop, Option, Some, None, Result, Ok}
 use Rattle.html_tokens.specs.declared.replies.TokenSinkResult.{TokenSinkResult}
 use Rattle.html_tokens.specs.declared.replies.TokenSinkResult.TheVariants.{Continue, Script, Plaintext, RawData, EncodingIndicator}
 use Rattle.html_tokens.specs.declared.states.State.{State}
@@ -9,12 +9,7 @@ use Rattle.html_tokens.specs.declared.token.Token.TheVariants.{EOFToken}
 use Rattle.html_tokens.specs.Table.{Row}
 use Rattle.html_tokens.specs.Item.{Place, InData, InRaw, InPlaintext, Stand, moved, Item}
 use Rattle.html_tokens.specs.Items.{item}
-
--- what one step gives, with the next
-infixl 10 ◌>>=◌
-abbrev pub ◌>>=◌ : {A B F : Type 0} → Result A F → (A → Result B F) → Result B F
-(Ok x) >>= f = f x
-(Err e) >>= f = Err e
+pub use Rattle.html_tokens.specs.Sink.{◌>>=◌}
 
 -- where a reading goes on behind the sink's reply
 abbrev pub next_stand : {H : Type 0} → Stand → TokenSinkResult H → Stand

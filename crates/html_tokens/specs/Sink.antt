@@ -31,7 +31,7 @@ Step S = S → Token → ℕ → Result (S × Reply) Refusal
 
 -- what one step gives, and then the next
 infixl 10 ◌>>=◌
-abbrev pub ◌>>=◌ : {A B : Type 0} → Result A Refusal → (A → Result B Refusal) → Result B Refusal
+abbrev pub ◌>>=◌ : {A B F : Type 0} → Result A F → (A → Result B F) → Result B F
 (Ok x) >>= next = next x
 (Err refusal) >>= next = Err refusal
 

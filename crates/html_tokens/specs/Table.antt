@@ -1,12 +1,12 @@
 -- Tables of named character references, and the longest name that a text begins with (HTML Standard, sections 13.2.5.73 and 13.5).
-use Rattle.std.specs.Prelude.{ℕ, nat_le, Bool, true, false, List, [], ◌∷◌, length, Option, Some, None, if◌then◌else◌}
+use Rattle.std.specs.Prelude.{ℕ, nat_eq, nat_le, nat_lt, Bool, true, false, ◌&&◌, List, [], ◌∷◌, length, Option, Some, None, if◌then◌else◌}
+use Rattle.std.specs.List.{list_any, starts_with}
+use Rattle.html_tokens.specs.declared.table.ReferenceRow.{ReferenceRow}
 use Rattle.html_tokens.specs.Characters.{begins}
 
 -- a name without its "&", and the one or two characters that it stands for
-pub record Row : Type 0 where
-  pub name : List ℕ
-  pub first : ℕ
-  pub second : Option ℕ
+abbrev pub Row : Type 0
+Row = ReferenceRow
 
 abbrev pub values_of : ℕ → Option ℕ → List ℕ
 values_of first None = first ∷ []
@@ -30,3 +30,11 @@ fitting false row = None
 abbrev pub longest : List Row → List ℕ → Option Row
 longest [] t = None
 longest (row ∷ rows) t = longer_of (fitting (begins row.name t) row) (longest rows t)
+
+-- whether a name goes on behind what is held
+abbrev pub goes_on_behind : List ℕ → List ℕ → Bool
+goes_on_behind held name = starts_with nat_eq name held && nat_lt (length held) (length name)
+
+-- whether some name of the table goes on behind what is held
+abbrev pub goes_on : List Row → List ℕ → Bool
+goes_on rows held = list_any (λ row. goes_on_behind held row.name) rows

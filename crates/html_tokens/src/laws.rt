@@ -1,31 +1,11 @@
 //! Laws over the definitions of tokenizing. Each function's contract is one law.
+ghost use Rattle.std.specs.Prelude.{⊤};
 ghost use Rattle.html_tokens.specs.Laws.{IsItemInText, IsReadByItems, IsSkipped, AreNewlinesJoined, IsCutAnywhere, IsRunOneText, IsEscapeRead, IsOwnNormalText, IsFirstKept, IsEachTokenSound, ReadsEscapes, AreLinesCounted, JoinsText};
 ghost use Rattle.html_tokens.specs.RowForms.{five, raw_text};
 ghost use Rattle.html_tokens.specs.Listing;
 ghost use Rattle.html_tokens.specs.TagEquality.{IsTagEquivalence};
 
-/// What a reading needs to know of a sink. It has no function: laws alone speak of it.
-pub trait Steps {
-    ghost use Rattle.std.specs.Prelude.{ℕ, Bool, Result};
-    ghost use Rattle.markup.specs.declared.fault.ParseFault.{ParseFault};
-    ghost use Rattle.html_tokens.specs.declared.replies.TokenSinkResult.{TokenSinkResult};
-    ghost use Rattle.html_tokens.specs.declared.token.Token.{Token};
-
-    /// What a sink stands for.
-    ghost State: { Type 0 };
-
-    /// What its replies name scripts by.
-    ghost Handle: { Type 0 };
-
-    /// What a token with its line makes of a state, and the reply; or a refusal.
-    ghost step: { State → Token → ℕ → Result (State × TokenSinkResult Handle) ParseFault };
-
-    /// Whether the adjusted current node is present and not HTML.
-    ghost cdata: { State → Bool };
-
-    /// What the end makes of a state.
-    ghost end: { State → State };
-}
+use crate::sink::TokenSink;
 
 /// An item takes a character at least, and stands at the front of the text.
 pub fn items_stand_at_the_front()
@@ -33,13 +13,13 @@ pub fn items_stand_at_the_front()
 {}
 
 /// Reading a text is reading its first item, and then what follows it.
-pub fn readings_go_by_items<S: Steps>()
-    ensures { IsReadByItems S.step S.cdata S.end }
+pub fn readings_go_by_items<S: TokenSink>()
+    ensures { IsReadByItems S.step S.asks_cdata S.ended }
 {}
 
 /// Behind an item a reading goes on as for what is left of the text.
-pub fn readings_go_on_behind_items<S: Steps>()
-    ensures { IsSkipped S.step S.cdata S.end }
+pub fn readings_go_on_behind_items<S: TokenSink>()
+    ensures { IsSkipped S.step S.asks_cdata S.ended }
 {}
 
 /// A text in two pieces has the line breaks of the whole.
@@ -52,14 +32,19 @@ pub fn texts_may_be_cut_anywhere()
     ensures { IsCutAnywhere }
 {}
 
+/// From sound states every sink takes text in pieces as in one, whatever the lines.
+pub fn sinks_join_text<S: TokenSink>()
+    ensures { JoinsText S.is_sound S.step }
+{}
+
 /// A run of plain text in data is read as one text, wherever it is cut.
-pub fn runs_are_one_text<S: Steps>()
-    ensures { IsRunOneText S.step S.cdata S.end }
+pub fn runs_are_one_text<S: TokenSink>()
+    ensures { IsRunOneText S.is_sound S.step S.asks_cdata S.ended }
 {}
 
 /// Escaped text, read in data, is told as the text.
-pub fn escaped_text_is_read_back<S: Steps>()
-    ensures { IsEscapeRead S.step S.cdata S.end }
+pub fn escaped_text_is_read_back<S: TokenSink>()
+    ensures { IsEscapeRead S.is_sound S.step S.asks_cdata S.ended }
 {}
 
 /// Text without a carriage return is its own normalised text.
@@ -84,7 +69,7 @@ pub fn line_breaks_add_up()
 
 /// The listing sink of the worked rows takes text in pieces.
 pub fn listing_joins_text()
-    ensures { JoinsText (Listing.step raw_text) }
+    ensures { JoinsText (λ _. ⊤) (Listing.step raw_text) }
 {}
 
 /// Of attributes of one name the first stays.

@@ -10,10 +10,18 @@ pub mod replies;
 pub mod rows;
 pub mod sink;
 pub mod states;
+pub mod table;
 pub mod tags;
+#[cfg(test)]
+mod tests;
 pub mod token;
 
+pub use counting::Counting;
+pub use listed::{Listed, Told};
 pub use options::TokenizerOpts;
 pub use replies::{ProcessResult, TokenSinkResult};
+pub use sink::TokenSink;
+pub use states::State;
+pub use table::{ReferenceRow, TableFault};
 pub use tags::{Tag, TagKind};
 pub use token::{Doctype, Token};

@@ -1,7 +1,7 @@
 //! Looking names up in a table whose rows are ordered.
 ghost use Rattle.std.specs.Prelude.{◌≡◌, ◌<◌, ◌≤◌, ℕ, false, length, IsTrue, IfOk, IfErr, IfSome, IfNone, slice_get};
 ghost use Rattle.std.specs.Option.{option_and_then};
-ghost use Rattle.html_tokenizer.specs.References.{goes_on, is_named, is_reference_name, longest_match};
+ghost use Rattle.html_tokenizer.specs.References.{goes_on, is_named, is_reference_name, longest};
 ghost use Rattle.html_tokenizer.specs.Order.{IsBefore, IsOrder, IsOrdered, IsPlaceOf, name_at, ordered_name};
 
 use crate::references::ReferenceRow;
@@ -80,7 +80,7 @@ fn find(rows: &[ReferenceRow], order: &[usize], name: &[u8]) -> Option<usize>
 pub fn longest(rows: &[ReferenceRow], order: &[usize], text: &[u8]) -> Option<usize>
     requires { IsOrder rows.now order.now }
     ensures within { IfSome result (λ place. place < length rows.now) }
-    ensures longest { option_and_then (slice_get rows.now) result ≡ longest_match rows.now text.now }
+    ensures longest { option_and_then (slice_get rows.now) result ≡ longest rows.now text.now }
 {
     let mut longest = None;
     let mut end = 0;

@@ -1,5 +1,8 @@
+use Rattle.html_tokens.proofs.SinkTexts.{joins-from_laws}
 use Rattle.html_tokens.proofs.TextLaws.{escape-read}
 use Rattle.html_tokens.proofs.laws.escaped_text_is_read_back.Goals as goal
 
 pub returns : goal.returns
-returns g c joins rows reads last breaks s ch cs t line h = escape-read g.S.Steps.step g.S.Steps.cdata g.S.Steps.end rows joins reads last breaks s ch cs t line h
+returns g c rows reads =
+    let T = g.S.TokenSink in
+    escape-read T.step T.asks_cdata T.ended rows T.is_sound (joins-from_laws T.is_sound T.step T.ended T.is_quiet g.met.S.TokenSink.laws) reads

@@ -1,5 +1,8 @@
+use Rattle.html_tokens.proofs.SinkTexts.{joins-from_laws}
 use Rattle.html_tokens.proofs.TextLaws.{run-one_text}
 use Rattle.html_tokens.proofs.laws.runs_are_one_text.Goals as goal
 
 pub returns : goal.returns
-returns g c joins rows last breaks s ch front t line h = run-one_text g.S.Steps.step g.S.Steps.cdata g.S.Steps.end rows joins last breaks s ch front t line h
+returns g c rows =
+    let T = g.S.TokenSink in
+    run-one_text T.step T.asks_cdata T.ended rows T.is_sound (joins-from_laws T.is_sound T.step T.ended T.is_quiet g.met.S.TokenSink.laws)

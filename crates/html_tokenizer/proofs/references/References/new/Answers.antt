@@ -3,7 +3,7 @@ use Rattle.std.specs.Prelude.{IfErr}
 use Rattle.std.proofs.lemmas.Grind.{common_steps}
 use Rattle.std.proofs.lemmas.List.{drop_all}
 use Rattle.html_tokenizer.specs.References.{fault_of, first_fault}
-use Rattle.html_tokenizer.specs.declared.references.TableFault.TheVariants.{Memory}
+use Rattle.html_tokens.specs.declared.table.TableFault.TheVariants.{Memory}
 use Rattle.html_tokenizer.proofs.TableLaws.{checked_from_fault_of, first_told}
 use Rattle.html_tokenizer.proofs.Faults.{first_fault-at}
 use Rattle.html_tokenizer.proofs.Inserts.{IsOrder-more}
