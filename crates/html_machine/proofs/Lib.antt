@@ -1,3 +1,4 @@
+pub mod Comments
 pub mod Errors
 pub mod Glue
 pub mod Lawful

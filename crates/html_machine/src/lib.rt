@@ -2,6 +2,7 @@
 #![tactic(auto)]
 
 mod characters;
+mod comment_states;
 mod tell;
 mod text_states;
 pub mod tokenizer;
