@@ -19,9 +19,9 @@ use Rattle.html_tokens.specs.Table.{Row}
 use Rattle.html_machine.specs.declared.tokenizer.Tokenizer.{Tokenizer}
 use Rattle.html_machine.specs.Rest.{rows_of, standing, held_at}
 use Rattle.html_machine.specs.Steps.{IsAt, Fails, Told, Took, Keeps}
-use Rattle.html_machine.proofs.Lawful.{Lawful, noting-lawful}
-use Rattle.html_machine.proofs.Readings.{play-is, play-end, sum-zero}
-use Rattle.html_machine.proofs.Glue.{Says, at, took, took_emitted, keeps_silent, failed, no-break}
+use Rattle.html_machine.proofs.Readings.{play-is}
+use Rattle.html_machine.proofs.Ends.{EndSays, end-says, emitted-took, emitted-failed, same-text, behind-one}
+use Rattle.html_machine.proofs.Glue.{at, took, keeps_silent}
 
 -- ITEMS
 
@@ -77,47 +77,44 @@ module _ {K S H : Type 0} (step : Step S) (view : K → S) (cdata : S → Bool) 
   holding k front st = record k { comment = front; state = st }
 
   -- A comment is told next, and ">" ends it.
-  abbrev pub EndSays : State → Tokenizer K → List ℕ → Type 0
-  EndSays st old front = Says step view cdata ends sound number st old 62 (CommentToken front) (λ b s t. at step view cdata ends sound number state.Data (emitted old) (b + line_break (nat_eq 62 10)) s t)
+  abbrev pub CommentSays : State → Tokenizer K → List ℕ → Type 0
+  CommentSays st old front = EndSays step view cdata ends sound number quiet laws st old (emitted old) (CommentToken front)
 
-  end-says : (old : Tokenizer K) (b : ℕ) (s : S × List Reply) → sound s.0 → (front t u : List ℕ) (n : ℕ) (i : Item) → i ≡ told (CommentToken front) n (standing old InData) → line_breaks (take n u) ≡ 0 → drop n u ≡ t
+  comment-says : (old : Tokenizer K) (b : ℕ) (s : S × List Reply) → sound s.0 → (front t u : List ℕ) (n : ℕ) (i : Item) → i ≡ told (CommentToken front) n (standing old InData) → line_breaks (take n u) ≡ 0 → drop n u ≡ t
       → play (noting step) (noting_cdata cdata) (noting_end ends) (rows_of old) i b s u ≡ (noting step s (CommentToken front) (line_number b) >>= λ p. reading (noting step) (noting_cdata cdata) (noting_end ends) (rows_of old) (standing old InData) (b + 0) p.0 t)
-  end-says old b s h front t u n i is unbroken left =
-      play-end (λ p. sound p.0) (noting step) (noting_cdata cdata) (noting_end ends) (rows_of old) (noting-lawful sound step ends quiet laws) i (CommentToken front) n (standing old InData) b s h u tt is unbroken
-      ∙ ap (λ x. noting step s (CommentToken front) (line_number b) >>= λ p. reading (noting step) (noting_cdata cdata) (noting_end ends) (rows_of old) (standing old InData) b p.0 x) left
-      ∙ ap (λ x. noting step s (CommentToken front) (line_number b) >>= λ p. reading (noting step) (noting_cdata cdata) (noting_end ends) (rows_of old) (standing old InData) x p.0 t) (sym (sum-zero b))
+  comment-says old b s h front t u n i is unbroken left = end-says step view cdata ends sound number quiet laws old b s h (CommentToken front) t u n i tt is unbroken left
 
-  pub bogus-says : (old : Tokenizer K) → EndSays state.BogusComment old old.comment
+  pub bogus-says : (old : Tokenizer K) → CommentSays state.BogusComment old old.comment
   unfolding held_at
-  bogus-says old b s h t = end-says old b s h old.comment t (62 ∷ t) 1 _ refl refl refl
+  bogus-says old b s h t = comment-says old b s h old.comment t (62 ∷ t) 1 _ refl refl refl
 
-  pub start-says : (old : Tokenizer K) → EndSays state.CommentStart old []
+  pub start-says : (old : Tokenizer K) → CommentSays state.CommentStart old []
   unfolding held_at
-  start-says old b s h t = end-says old b s h [] t (62 ∷ t) 1 _ refl refl refl
+  start-says old b s h t = comment-says old b s h [] t (62 ∷ t) 1 _ refl refl refl
 
-  pub start_dash-says : (old : Tokenizer K) → EndSays state.CommentStartDash old []
+  pub start_dash-says : (old : Tokenizer K) → CommentSays state.CommentStartDash old []
   unfolding held_at
-  start_dash-says old b s h t = end-says old b s h [] t (45 ∷ 62 ∷ t) 2 _ refl refl refl
+  start_dash-says old b s h t = comment-says old b s h [] t (45 ∷ 62 ∷ t) 2 _ refl refl refl
 
   end-mark : (t : List ℕ) → comment_end (45 ∷ 45 ∷ 62 ∷ t) ≡ Some 3
   end-mark [] = refl
   end-mark (c ∷ t) = refl
 
-  pub end_state-says : (old : Tokenizer K) → EndSays state.CommentEnd old old.comment
+  pub end_state-says : (old : Tokenizer K) → CommentSays state.CommentEnd old old.comment
   unfolding held_at
-  end_state-says old b s h t = end-says old b s h old.comment t (45 ∷ 45 ∷ 62 ∷ t) 3 (comment_after (standing old InData) old.comment (45 ∷ 45 ∷ 62 ∷ t)) (rw (end-mark t) refl) refl refl
+  end_state-says old b s h t = comment-says old b s h old.comment t (45 ∷ 45 ∷ 62 ∷ t) 3 (comment_after (standing old InData) old.comment (45 ∷ 45 ∷ 62 ∷ t)) (rw (end-mark t) refl) refl refl
 
-  pub end_bang-says : (old : Tokenizer K) → EndSays state.CommentEndBang old old.comment
+  pub end_bang-says : (old : Tokenizer K) → CommentSays state.CommentEndBang old old.comment
   unfolding held_at
-  end_bang-says old b s h t = end-says old b s h old.comment t (45 ∷ 45 ∷ 33 ∷ 62 ∷ t) 4 _ refl refl refl
+  end_bang-says old b s h t = comment-says old b s h old.comment t (45 ∷ 45 ∷ 33 ∷ 62 ∷ t) 4 _ refl refl refl
 
   -- The comment was told, or could not be told.
-  pub emitted-took : (old new : Tokenizer K) (c : ℕ) (st : State) (front : List ℕ) → c ≡ 62 → IsAt old st → sound (view old.sink) → Told step view cdata ends sound number (CommentToken front) (emitted old) new → EndSays st old front → Took step view cdata ends sound number old new c flow.Continue
-  emitted-took old new c st front e from ok told says = rw e (took_emitted step view cdata ends sound number old (emitted old) new 62 st state.Data (CommentToken front) from ok refl refl (record { state = refl; fresh = from.fresh }) told says)
+  pub comment-took : (old new : Tokenizer K) (c : ℕ) (st : State) (front : List ℕ) → c ≡ 62 → IsAt old st → sound (view old.sink) → Told step view cdata ends sound number (CommentToken front) (emitted old) new → CommentSays st old front → Took step view cdata ends sound number old new c flow.Continue
+  comment-took old new c st front e from ok told says = emitted-took step view cdata ends sound number quiet laws old (emitted old) new c st (CommentToken front) e from ok refl refl (record { state = refl; fresh = from.fresh }) told says
 
-  pub emitted-failed : (old new : Tokenizer K) (c : ℕ) (st : State) (front : List ℕ) (result : Result (ProcessResult H) ParseFault) (fault : ParseFault) → c ≡ 62 → IsAt old st → sound (view old.sink) → IsErrAnd result (λ y. y ≡ fault)
-      → Fails step view cdata ends sound number (step (view old.sink) (CommentToken front) (line_number old.stream.breaks)) fault → EndSays st old front → Keeps step view cdata ends sound number old new c result
-  emitted-failed old new c st front result fault e from ok is fails says = rw e (failed step view cdata ends sound number old new 62 st (CommentToken front) result fault _ from ok is fails says)
+  pub comment-failed : (old new : Tokenizer K) (c : ℕ) (st : State) (front : List ℕ) (result : Result (ProcessResult H) ParseFault) (fault : ParseFault) → c ≡ 62 → IsAt old st → sound (view old.sink) → IsErrAnd result (λ y. y ≡ fault)
+      → Fails step view cdata ends sound number (step (view old.sink) (CommentToken front) (line_number old.stream.breaks)) fault → CommentSays st old front → Keeps step view cdata ends sound number old new c result
+  comment-failed old new c st front result fault e from ok is fails says = emitted-failed step view cdata ends sound number quiet laws old (emitted old) new c st (CommentToken front) result fault e from ok is fails says
 
   -- A character more of the comment is held, or of what may end it.
   module _ (old : Tokenizer K) (c : ℕ) (ok : sound (view old.sink)) where
@@ -142,28 +139,25 @@ module _ {K S H : Type 0} (step : Step S) (view : K → S) (cdata : S → Bool) 
 
   -- A dash or "!" is held beside the comment.
   module _ (old : Tokenizer K) (ok : sound (view old.sink)) where
-    same-text : (i : Item) (b : ℕ) (s : S × List Reply) (u : List ℕ) → play (noting step) (noting_cdata cdata) (noting_end ends) (rows_of old) i b s u ≡ play (noting step) (noting_cdata cdata) (noting_end ends) (rows_of old) i (b + 0) s u
-    same-text i b s u = ap (λ x. play (noting step) (noting_cdata cdata) (noting_end ends) (rows_of old) i x s u) (sym (sum-zero b))
-
     pub start-dash : IsAt old state.CommentStart → Took step view cdata ends sound number old (record old { state = state.CommentStartDash }) 45 flow.Continue
     unfolding held_at
-    start-dash from = moves old 45 ok state.CommentStart state.CommentStartDash old.comment from (λ b s t. same-text _ b s (45 ∷ t))
+    start-dash from = moves old 45 ok state.CommentStart state.CommentStartDash old.comment from (λ b s t. same-text step view cdata ends sound number quiet laws old _ b s (45 ∷ t))
 
     pub start_dash-dash : (front : List ℕ) → front ≡ [] → IsAt old state.CommentStartDash → Took step view cdata ends sound number old (holding old front state.CommentEnd) 45 flow.Continue
     unfolding held_at
-    start_dash-dash front is from = rw is (moves old 45 ok state.CommentStartDash state.CommentEnd [] from (λ b s t. same-text _ b s (45 ∷ 45 ∷ t)))
+    start_dash-dash front is from = rw is (moves old 45 ok state.CommentStartDash state.CommentEnd [] from (λ b s t. same-text step view cdata ends sound number quiet laws old _ b s (45 ∷ 45 ∷ t)))
 
     pub comment-dash : IsAt old state.Comment → Took step view cdata ends sound number old (record old { state = state.CommentEndDash }) 45 flow.Continue
     unfolding held_at
-    comment-dash from = moves old 45 ok state.Comment state.CommentEndDash old.comment from (λ b s t. same-text _ b s (45 ∷ t))
+    comment-dash from = moves old 45 ok state.Comment state.CommentEndDash old.comment from (λ b s t. same-text step view cdata ends sound number quiet laws old _ b s (45 ∷ t))
 
     pub end_dash-dash : IsAt old state.CommentEndDash → Took step view cdata ends sound number old (record old { state = state.CommentEnd }) 45 flow.Continue
     unfolding held_at
-    end_dash-dash from = moves old 45 ok state.CommentEndDash state.CommentEnd old.comment from (λ b s t. same-text _ b s (45 ∷ 45 ∷ t))
+    end_dash-dash from = moves old 45 ok state.CommentEndDash state.CommentEnd old.comment from (λ b s t. same-text step view cdata ends sound number quiet laws old _ b s (45 ∷ 45 ∷ t))
 
     pub end-bang_held : IsAt old state.CommentEnd → Took step view cdata ends sound number old (record old { state = state.CommentEndBang }) 33 flow.Continue
     unfolding held_at
-    end-bang_held from = moves old 33 ok state.CommentEnd state.CommentEndBang old.comment from (λ b s t. same-text _ b s (45 ∷ 45 ∷ 33 ∷ t))
+    end-bang_held from = moves old 33 ok state.CommentEnd state.CommentEndBang old.comment from (λ b s t. same-text step view cdata ends sound number quiet laws old _ b s (45 ∷ 45 ∷ 33 ∷ t))
 
     pub end-dash_more : (front : List ℕ) → front ≡ old.comment ++ 45 ∷ [] → IsAt old state.CommentEnd → Took step view cdata ends sound number old (record old { comment = front }) 45 flow.Continue
     unfolding held_at
@@ -175,10 +169,6 @@ module _ {K S H : Type 0} (step : Step S) (view : K → S) (cdata : S → Bool) 
     goes-on : (st : State) → IsAt old st → ((b : ℕ) (s : S × List Reply) (t : List ℕ) → at step view cdata ends sound number st old b s (c ∷ t) ≡ at step view cdata ends sound number state.Comment (holding old front state.Comment) b s (c ∷ t)) → Keeps step view cdata ends sound number old new c result
     goes-on st from law = keeps_silent step view cdata ends sound number old (holding old front state.Comment) new c st state.Comment result from (record { state = refl; fresh = from.fresh }) refl refl law keeps
 
-    -- a character that breaks no line before it
-    behind-one : (d : ℕ) → nat_eq d 10 ≡ false → (i j : Item) (b : ℕ) (s : S × List Reply) (u : List ℕ) → i ≡ behind j → play (noting step) (noting_cdata cdata) (noting_end ends) (rows_of old) i b s (d ∷ u) ≡ play (noting step) (noting_cdata cdata) (noting_end ends) (rows_of old) j b s u
-    behind-one d e i j b s u is = play-is (noting step) (noting_cdata cdata) (noting_end ends) (rows_of old) i j b s d u is ∙ ap (λ x. play (noting step) (noting_cdata cdata) (noting_end ends) (rows_of old) j x s u) (no-break b d e)
-
     pub start-other : IsAt old state.CommentStart → front ≡ [] → nat_eq 62 c ≡ false → nat_eq 45 c ≡ false → Keeps step view cdata ends sound number old new c result
     unfolding held_at
     start-other from is e f = goes-on state.CommentStart from (λ b s t. rw (is, e, f) refl)
@@ -186,27 +176,27 @@ module _ {K S H : Type 0} (step : Step S) (view : K → S) (cdata : S → Bool) 
     pub start_dash-other : IsAt old state.CommentStartDash → front ≡ 45 ∷ [] → nat_eq 62 c ≡ false → nat_eq c 45 ≡ false → Keeps step view cdata ends sound number old new c result
     unfolding held_at
     start_dash-other from is e f = goes-on state.CommentStartDash from (λ b s t.
-        behind-one 45 refl (comment_at (standing old InData) (45 ∷ c ∷ t)) (comment_after (standing old InData) (45 ∷ []) (c ∷ t)) b s (c ∷ t) (at-dash (standing old InData) c t e f)
+        behind-one step view cdata ends sound number quiet laws old 45 refl (comment_at (standing old InData) (45 ∷ c ∷ t)) (comment_after (standing old InData) (45 ∷ []) (c ∷ t)) b s (c ∷ t) (at-dash (standing old InData) c t e f)
         ∙ ap (λ x. play (noting step) (noting_cdata cdata) (noting_end ends) (rows_of old) (comment_after (standing old InData) x (c ∷ t)) b s (c ∷ t)) (sym is))
 
     pub end_dash-other : IsAt old state.CommentEndDash → front ≡ old.comment ++ 45 ∷ [] → nat_eq c 45 ≡ false → Keeps step view cdata ends sound number old new c result
     unfolding held_at
     end_dash-other from is e = goes-on state.CommentEndDash from (λ b s t.
-        behind-one 45 refl _ _ b s (c ∷ t) (dash-letter (standing old InData) old.comment c t e)
+        behind-one step view cdata ends sound number quiet laws old 45 refl _ _ b s (c ∷ t) (dash-letter (standing old InData) old.comment c t e)
         ∙ ap (λ x. play (noting step) (noting_cdata cdata) (noting_end ends) (rows_of old) (comment_after (standing old InData) x (c ∷ t)) b s (c ∷ t)) (sym is))
 
     pub end-other : IsAt old state.CommentEnd → front ≡ old.comment ++ codes "--" → nat_eq c 62 ≡ false → nat_eq c 33 ≡ false → nat_eq c 45 ≡ false → Keeps step view cdata ends sound number old new c result
     unfolding held_at
     end-other from is e f h = goes-on state.CommentEnd from (λ b s t.
-        behind-one 45 refl _ _ b s (45 ∷ c ∷ t) (dashes-letter (standing old InData) old.comment c t e f h)
-        ∙ behind-one 45 refl _ _ b s (c ∷ t) refl
+        behind-one step view cdata ends sound number quiet laws old 45 refl _ _ b s (45 ∷ c ∷ t) (dashes-letter (standing old InData) old.comment c t e f h)
+        ∙ behind-one step view cdata ends sound number quiet laws old 45 refl _ _ b s (c ∷ t) refl
         ∙ ap (λ x. play (noting step) (noting_cdata cdata) (noting_end ends) (rows_of old) (comment_after (standing old InData) x (c ∷ t)) b s (c ∷ t)) (sym is))
 
     pub bang-other : IsAt old state.CommentEndBang → front ≡ old.comment ++ codes "--!" → nat_eq c 62 ≡ false → Keeps step view cdata ends sound number old new c result
     unfolding held_at
     bang-other from is e = goes-on state.CommentEndBang from (λ b s t.
         let left : Item = comment_after (standing old InData) (old.comment ++ codes "--!") (c ∷ t) in
-        behind-one 45 refl (comment_after (standing old InData) old.comment (45 ∷ 45 ∷ 33 ∷ c ∷ t)) (behind (behind left)) b s (45 ∷ 33 ∷ c ∷ t) (bang-letter (standing old InData) old.comment c t e)
-        ∙ behind-one 45 refl (behind (behind left)) (behind left) b s (33 ∷ c ∷ t) refl
-        ∙ behind-one 33 refl (behind left) left b s (c ∷ t) refl
+        behind-one step view cdata ends sound number quiet laws old 45 refl (comment_after (standing old InData) old.comment (45 ∷ 45 ∷ 33 ∷ c ∷ t)) (behind (behind left)) b s (45 ∷ 33 ∷ c ∷ t) (bang-letter (standing old InData) old.comment c t e)
+        ∙ behind-one step view cdata ends sound number quiet laws old 45 refl (behind (behind left)) (behind left) b s (33 ∷ c ∷ t) refl
+        ∙ behind-one step view cdata ends sound number quiet laws old 33 refl (behind left) left b s (c ∷ t) refl
         ∙ ap (λ x. play (noting step) (noting_cdata cdata) (noting_end ends) (rows_of old) (comment_after (standing old InData) x (c ∷ t)) b s (c ∷ t)) (sym is))

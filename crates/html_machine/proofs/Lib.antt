@@ -1,4 +1,6 @@
 pub mod Comments
+pub mod Doctypes
+pub mod Ends
 pub mod Errors
 pub mod Glue
 pub mod Lawful

@@ -3,6 +3,7 @@
 
 mod characters;
 mod comment_states;
+mod doctype_states;
 mod tell;
 mod text_states;
 pub mod tokenizer;

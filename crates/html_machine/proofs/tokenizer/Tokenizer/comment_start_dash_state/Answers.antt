@@ -1,7 +1,7 @@
 use Rattle.std.proofs.Common.{◌≡◌, ◌∙◌, refl, sym}
 use Rattle.std.proofs.lemmas.Bool.{ne_eqb}
 use Rattle.html_tokens.specs.declared.states.State.TheVariants as state
-use Rattle.html_machine.proofs.Comments.{start_dash-says, start_dash-dash, start_dash-other, emitted-took, emitted-failed}
+use Rattle.html_machine.proofs.Comments.{start_dash-says, start_dash-dash, start_dash-other, comment-took, comment-failed}
 use Rattle.html_machine.proofs.tokenizer.Tokenizer.comment_start_dash_state.Goals as goal
 
 pub returns-then-c-eq45 : goal.returns-then-c-eq45
@@ -12,13 +12,13 @@ returns-then-c-eq45 g c =
 pub returns-in_err-emit_faulty_comment : goal.returns-in_err-emit_faulty_comment
 returns-in_err-emit_faulty_comment g c =
     let m = g.Sink.TokenSink in
-    emitted-failed m.step m.view m.asks_cdata m.ended m.is_sound m.number m.is_quiet g.met.Sink.TokenSink.laws
+    comment-failed m.step m.view m.asks_cdata m.ended m.is_sound m.number m.is_quiet g.met.Sink.TokenSink.laws
     _ _ _ state.CommentStartDash c.empty.result _ _ c.if-c-eq62.true c.requires.at c.requires.sound c.from_residual.ensures.1 c.in_err-emit_faulty_comment.ensures (rw c.empty.ensures (start_dash-says m.step m.view m.asks_cdata m.ended m.is_sound m.number m.is_quiet g.met.Sink.TokenSink.laws _))
 
 pub returns-then-c-eq62 : goal.returns-then-c-eq62
 returns-then-c-eq62 g c =
     let m = g.Sink.TokenSink in
-    emitted-took m.step m.view m.asks_cdata m.ended m.is_sound m.number m.is_quiet g.met.Sink.TokenSink.laws
+    comment-took m.step m.view m.asks_cdata m.ended m.is_sound m.number m.is_quiet g.met.Sink.TokenSink.laws
     _ _ _ state.CommentStartDash c.empty.result c.if-c-eq62.true c.requires.at c.requires.sound c.in_ok-emit_faulty_comment.ensures (rw c.empty.ensures (start_dash-says m.step m.view m.asks_cdata m.ended m.is_sound m.number m.is_quiet g.met.Sink.TokenSink.laws _))
 
 pub returns : goal.returns
