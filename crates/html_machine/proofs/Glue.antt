@@ -31,11 +31,11 @@ use Rattle.html_machine.specs.Steps.{IsAt, IsNoTag, paused_by, now, Fails, Told,
 pub no-break : (b c : ℕ) → nat_eq c 10 ≡ false → b + line_break (nat_eq c 10) ≡ b
 no-break b c h = rw h (sum-zero b)
 
-bind-err : {A B : Type 0} (r : Result A Refusal) (f : A → Result B Refusal) → IsErr r → IsErr (r >>= f)
+pub bind-err : {A B : Type 0} (r : Result A Refusal) (f : A → Result B Refusal) → IsErr r → IsErr (r >>= f)
 bind-err (Ok x) f h = cc
 bind-err (Err e) f h = refl
 
-noted-err : {S : Type 0} (pauses : List Reply) (r : Result (S × Reply) Refusal) → IsErr r → IsErr (noted pauses r)
+pub noted-err : {S : Type 0} (pauses : List Reply) (r : Result (S × Reply) Refusal) → IsErr r → IsErr (noted pauses r)
 noted-err pauses (Ok x) h = cc
 noted-err pauses (Err e) h = refl
 
@@ -137,7 +137,7 @@ module _ {K S H : Type 0} (step : Step S) (view : K → S) (cdata : S → Bool) 
   abbrev pub Says : State → Tokenizer K → ℕ → Token → (ℕ → S × List Reply → List ℕ → Result (S × List Reply) Refusal) → Type 0
   Says st old c token next = (b : ℕ) (s : S × List Reply) → sound s.0 → (t : List ℕ) → at step view cdata ends sound number st old b s (c ∷ t) ≡ (noting step s token (line_number b) >>= λ p. next b p.0 t)
 
-  fails-along : {A : Type 0} (a b : Result A Refusal) (fault : ParseFault) → a ≡ b → Fails step view cdata ends sound number b fault → Fails step view cdata ends sound number a fault
+  pub fails-along : {A : Type 0} (a b : Result A Refusal) (fault : ParseFault) → a ≡ b → Fails step view cdata ends sound number b fault → Fails step view cdata ends sound number a fault
   fails-along a b fault e f = rw e f
 
   -- The call that tells a token failed, and it was to be told next.

@@ -1,3 +1,4 @@
+pub mod CdataStates
 pub mod Comments
 pub mod Doctypes
 pub mod Ends
@@ -5,4 +6,7 @@ pub mod Errors
 pub mod Glue
 pub mod Lawful
 pub mod Readings
+pub mod Runs
+pub mod Telling
 pub mod TextStates
+pub mod Words

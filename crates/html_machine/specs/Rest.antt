@@ -69,13 +69,13 @@ module _ {K T : Type 0} (step : Step T) (cdata : T → Bool) (ends : T → T) wh
   held_at (state.RawLessThanSign (raw.ScriptDataEscaped script.DoubleEscaped)) k b s t = read_at (InRaw (kind_after (raw.ScriptDataEscaped script.DoubleEscaped) (codes "<") t)) k b s t
   held_at (state.RawLessThanSign kind) k b s t = read_at (InRaw kind) k b s (60 ∷ t)
   held_at (state.RawEndTagOpen kind) k b s t = read_at (InRaw kind) k b s (60 ∷ 47 ∷ t)
-  held_at (state.RawEndTagName kind) k b s t = read_at (InRaw kind) k b s (60 ∷ 47 ∷ (k.temporary ++ t))
+  held_at (state.RawEndTagName kind) k b s t = read_at (InRaw kind) k b s (60 ∷ 47 ∷ (k.word ++ t))
   held_at (state.ScriptDataEscapeStart script.Escaped) k b s t = read_at (InRaw (kind_after raw.ScriptData (codes "<!") t)) k b s t
-  held_at (state.ScriptDataEscapeStart script.DoubleEscaped) k b s t = read_at (InRaw (kind_after (raw.ScriptDataEscaped script.Escaped) (60 ∷ k.temporary) t)) k b s t
+  held_at (state.ScriptDataEscapeStart script.DoubleEscaped) k b s t = read_at (InRaw (kind_after (raw.ScriptDataEscaped script.Escaped) (60 ∷ k.word) t)) k b s t
   held_at state.ScriptDataEscapeStartDash k b s t = read_at (InRaw (kind_after raw.ScriptData (codes "<!-") t)) k b s t
   held_at (state.ScriptDataEscapedDash kind) k b s t = read_at (InRaw (kind_after (raw.ScriptDataEscaped kind) (codes "-") t)) k b s t
   held_at (state.ScriptDataEscapedDashDash kind) k b s t = read_at (InRaw (kind_after (raw.ScriptDataEscaped kind) (codes "--") t)) k b s t
-  held_at state.ScriptDataDoubleEscapeEnd k b s t = read_at (InRaw (kind_after (raw.ScriptDataEscaped script.DoubleEscaped) (60 ∷ 47 ∷ k.temporary) t)) k b s t
+  held_at state.ScriptDataDoubleEscapeEnd k b s t = read_at (InRaw (kind_after (raw.ScriptDataEscaped script.DoubleEscaped) (60 ∷ 47 ∷ k.word) t)) k b s t
   -- tags
   held_at state.BeforeAttributeName k b s t = read_at (InTag k.tag) k b s t
   held_at state.AttributeName k b s t = played (attribute_after (rows_of k) (standing k InData) k.tag k.attribute_name t) k b s t

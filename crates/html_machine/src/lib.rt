@@ -1,9 +1,11 @@
 //! The tokenizer: a machine that takes text in any pieces (HTML Standard, section 13.2.5).
 #![tactic(auto)]
 
+mod cdata_states;
 mod characters;
 mod comment_states;
 mod doctype_states;
+mod letters;
 mod tell;
 mod text_states;
 pub mod tokenizer;
