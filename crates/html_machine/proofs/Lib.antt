@@ -1,5 +1,10 @@
+pub mod AttributeNames
 pub mod Errors
 pub mod Glue
 pub mod Lawful
 pub mod Readings
+pub mod TagEnds
+pub mod TagGlue
+pub mod TagReadings
+pub mod TagStates
 pub mod TextStates

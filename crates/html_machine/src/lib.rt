@@ -1,7 +1,9 @@
 //! The tokenizer: a machine that takes text in any pieces (HTML Standard, section 13.2.5).
 #![tactic(auto)]
 
+mod attribute_states;
 mod characters;
+mod tag_states;
 mod tell;
 mod text_states;
 pub mod tokenizer;
