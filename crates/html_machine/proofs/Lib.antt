@@ -1,3 +1,4 @@
+pub mod AttributeNames
 pub mod CdataStates
 pub mod Comments
 pub mod Doctypes
@@ -7,6 +8,10 @@ pub mod Glue
 pub mod Lawful
 pub mod Readings
 pub mod Runs
+pub mod TagEnds
+pub mod TagGlue
+pub mod TagReadings
+pub mod TagStates
 pub mod Telling
 pub mod TextStates
 pub mod Words
