@@ -6,7 +6,9 @@ pub mod Ends
 pub mod Errors
 pub mod Glue
 pub mod Lawful
+pub mod Opens
 pub mod Readings
+pub mod Refused
 pub mod Runs
 pub mod TagEnds
 pub mod TagGlue
