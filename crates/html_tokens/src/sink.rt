@@ -14,7 +14,7 @@ use markup::ParseFault;
 /// shows.
 pub trait TokenSink {
     /// What a reply names a node by.
-    type Handle;
+    type Handle: Drop;
 
     // What a sink stands for.
     ghost State: { Type 0 };
