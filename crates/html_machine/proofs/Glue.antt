@@ -176,6 +176,26 @@ module _ {K S H : Type 0} (step : Step S) (view : K → S) (cdata : S → Bool) 
     sound = told.sound;
   })
 
+  -- A token was told by the machine with other fields, where it stays.
+  pub took_emitted : (old source new : Tokenizer K) (c : ℕ) (st st' : State) (token : Token) → IsAt old st → sound (view old.sink) → source.sink ≡ old.sink → source.stream ≡ old.stream → IsAt source st'
+      → Told step view cdata ends sound number token source new
+      → Says st old c token (λ b s t. at step view cdata ends sound number st' source (b + line_break (nat_eq c 10)) s t)
+      → Took step view cdata ends sound number old new c flow.Continue
+  took_emitted old source new c st st' token from ok same stream to told law =
+      let told' : Told step view cdata ends sound number token (record source { sink = old.sink; stream = old.stream }) new = rw (← same, ← stream) told in
+      let source' : Tokenizer K = record source { sink = old.sink; stream = old.stream } in
+      let is : source' ≡ source = rw (← same, ← stream) refl in
+      record {
+        same = λ pauses t.
+            now-at step view cdata ends sound number old st old.stream.breaks (view old.sink, pauses) (c ∷ t) from
+            ∙ law old.stream.breaks (view old.sink, pauses) ok t
+            ∙ told-next source' new token pauses (λ s. at step view cdata ends sound number st' source (old.stream.breaks + line_break (nat_eq c 10)) s t) told'
+            ∙ sym (now-target source new.sink st' (old.stream.breaks + line_break (nat_eq c 10)) (view new.sink, pauses) t to)
+            ∙ sym (ap (λ k. now step view cdata ends sound number k (old.stream.breaks + line_break (nat_eq c 10)) (view k.sink, pauses) t) told.changed);
+        stream = ap (λ k. k.stream) told.changed ∙ stream;
+        sound = told.sound;
+      }
+
   -- The character goes on to where the machine makes of it, and of all that follows, what was to be made.
   keeps-along : (old mid new : Tokenizer K) (c : ℕ) (result : Result (ProcessResult H) ParseFault) → mid.stream ≡ old.stream
       → ((pauses : List Reply) (t : List ℕ) → now step view cdata ends sound number old old.stream.breaks (view old.sink, pauses) (c ∷ t) ≡ now step view cdata ends sound number mid old.stream.breaks (view mid.sink, pauses) (c ∷ t))

@@ -3,10 +3,12 @@ use Rattle.std.specs.Prelude.{ℕ, ◌+◌, ◌-◌, min, Bool, true, false, nat
 use Rattle.html_tokens.specs.declared.states.RawKind.{RawKind}
 use Rattle.html_tokens.specs.declared.states.RawKind.TheVariants as raw
 use Rattle.html_tokens.specs.declared.states.ScriptEscapeKind.TheVariants as script
+use Rattle.html_tokens.specs.declared.states.DoctypeIdKind.{DoctypeIdKind}
 use Rattle.html_tokens.specs.declared.states.DoctypeIdKind.TheVariants as id
 use Rattle.html_tokens.specs.declared.states.AttrValueKind.TheVariants as value
 use Rattle.html_tokens.specs.declared.states.State.{State}
 use Rattle.html_tokens.specs.declared.states.State.TheVariants as state
+use Rattle.html_tokens.specs.declared.token.Doctype.{Doctype}
 use Rattle.html_tokens.specs.declared.token.Token.{Token}
 use Rattle.html_tokens.specs.Comments.{comment_at, comment_after, bogus_comment_after}
 use Rattle.html_tokens.specs.Doctypes.{doctype_at, doctype_name_after, after_name, after_public_keyword, after_system_keyword, public_after, system_after, after_public, after_system, junk_after}
@@ -31,6 +33,11 @@ pending (Some cs) = 38 ∷ cs
 -- where a reading stands at this place
 abbrev pub standing : {K : Type 0} → Tokenizer K → Place → Stand
 standing k place = record { place = place; last_start_tag = k.last_start_tag }
+
+-- a doctype with one of its identifiers
+abbrev pub with_identifier : DoctypeIdKind → Doctype → List ℕ → Doctype
+with_identifier id.Public d cs = record d { public_id = Some cs }
+with_identifier id.System d cs = record d { system_id = Some cs }
 
 -- how a script's text goes on behind a front that was told, before t
 abbrev pub kind_after : RawKind → List ℕ → List ℕ → RawKind

@@ -4,8 +4,10 @@ use Rattle.markup.specs.declared.fault.ParseFault.{ParseFault}
 use Rattle.markup.specs.declared.fault.ParseFault.TheVariants.{Memory, TokenInText, Ended, Shape, Failed}
 use Rattle.html_tokens.specs.declared.replies.ProcessResult.{ProcessResult}
 use Rattle.html_tokens.specs.declared.replies.ProcessResult.TheVariants as flow
+use Rattle.html_tokens.specs.declared.replies.TokenSinkResult.{TokenSinkResult}
 use Rattle.html_tokens.specs.declared.replies.TokenSinkResult.TheVariants as reply
 use Rattle.html_tokens.specs.declared.states.State.{State}
+use Rattle.html_tokens.specs.declared.states.State.TheVariants as state
 use Rattle.html_tokens.specs.declared.token.Token.{Token}
 use Rattle.html_tokens.specs.declared.token.Token.TheVariants.{TagToken}
 use Rattle.html_tokens.specs.declared.tags.Tag.{Tag}
@@ -33,6 +35,22 @@ paused_by number pauses flow.Continue = pauses
 paused_by number pauses flow.Suspend = pauses
 paused_by number pauses (flow.Script handle) = pauses ++ reply.Script (number handle) ∷ []
 paused_by number pauses (flow.EncodingIndicator label) = pauses ++ reply.EncodingIndicator label ∷ []
+
+-- where the machine goes by the reply to a tag
+abbrev pub state_behind : {H : Type 0} → TokenSinkResult H → State
+state_behind reply.Continue = state.Data
+state_behind (reply.Script handle) = state.Data
+state_behind reply.Plaintext = state.Plaintext
+state_behind (reply.RawData kind) = state.RawData kind
+state_behind (reply.EncodingIndicator label) = state.Data
+
+-- with what it hands back control
+abbrev pub answer_to : {H : Type 0} → TokenSinkResult H → ProcessResult H
+answer_to reply.Continue = flow.Continue
+answer_to (reply.Script handle) = flow.Script handle
+answer_to reply.Plaintext = flow.Continue
+answer_to (reply.RawData kind) = flow.Continue
+answer_to (reply.EncodingIndicator label) = flow.EncodingIndicator label
 
 module _ {K S H : Type 0} (step : Step S) (view : K → S) (cdata : S → Bool) (ends : S → S) (is_sound : S → Type 0) (number : H → ℕ) where
   -- what the characters t make of the sink and of the pauses so far

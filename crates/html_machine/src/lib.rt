@@ -1,11 +1,16 @@
 //! The tokenizer: a machine that takes text in any pieces (HTML Standard, section 13.2.5).
 #![tactic(auto)]
 
+mod attribute_states;
 mod cdata_states;
 mod characters;
+mod comment_states;
+mod doctype_states;
 mod letters;
+mod open_states;
 mod raw_states;
 mod script_states;
+mod tag_states;
 mod tell;
 mod text_states;
 pub mod tokenizer;

@@ -24,7 +24,7 @@ pub(crate) fn empty(alloc: Global) -> Text
 
 impl<Sink: TokenSink> Tokenizer<Sink> {
     /// The line on which the next character stands, counted from 1.
-    fn line(&self) -> u64
+    pub(crate) fn line(&self) -> u64
         ensures { result ≡ line_number self.now.stream.breaks }
     {
         self.stream.breaks.saturating_add(1)

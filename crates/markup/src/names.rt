@@ -1,5 +1,5 @@
 //! The names of elements and attributes.
-ghost use Rattle.std.specs.Prelude.{◌≡◌, IfOk, IfErr, IsTrue};
+ghost use Rattle.std.specs.Prelude.{◌≡◌, ◌++◌, ◌∷◌, [], IfOk, IfErr, OnOk, OnErr, IsTrue};
 ghost use Rattle.std.specs.Str.{bytes_eq, chars};
 ghost use Rattle.std.specs.String.{string_bytes};
 ghost use Rattle.markup.specs.Plain.{is_plain};
@@ -49,6 +49,16 @@ impl LocalName {
         ensures { result ≡ bytes_eq self.now plain.now }
     {
         self.name.is(plain)
+    }
+
+    /// Adds a character at the end.
+    pub fn push(&mut self, character: char) -> Result<(), ParseFault>
+        ensures ok { OnOk result (self.new ≡ self.old ++ character ∷ []) }
+        ensures err { OnErr result (self.new ≡ self.old) }
+        ensures fault { IfErr result (λ fault. fault ≡ Memory) }
+    {
+        self.name.push(character)?;
+        Ok(())
     }
 
     /// A name of its own with the same characters.

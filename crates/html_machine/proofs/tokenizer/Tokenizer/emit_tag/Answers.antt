@@ -1,0 +1,13 @@
+use Rattle.html_machine.proofs.TagEnds.{tag-failed, tag-ended}
+use Rattle.html_machine.proofs.tokenizer.Tokenizer.emit_tag.Goals as goal
+
+pub returns-in_err-tell_faulty_tag : goal.returns-in_err-tell_faulty_tag
+returns-in_err-tell_faulty_tag g c =
+    let m = g.Sink.TokenSink in
+    tag-failed m.step m.view m.asks_cdata m.ended m.is_sound m.number _ _ _ _ c.from_residual-in_err-tell_faulty_tag.ensures.1 c.in_err-tell_faulty_tag.ensures
+
+pub returns : goal.returns
+returns g c =
+    let m = g.Sink.TokenSink in
+    tag-ended m.step m.view m.asks_cdata m.ended m.is_sound m.number _ c.tell_faulty_tag.new.self _ _ _ _ _ _ _ _ c.requires.fresh c.in_ok-tell_faulty_tag.ensures
+    c.in_ok-last_start_tag.ensures.ok c.replace-tag.ensures.value c.line-line.ensures c.in_ok-reply.ensures.gives c.in_ok-reply.ensures.sound c.follow.ensures.moved c.follow.ensures.answer
