@@ -8,7 +8,9 @@ pub mod Glue
 pub mod Lawful
 pub mod Opens
 pub mod RawEndTags
+pub mod RawEnds
 pub mod RawKinds
+pub mod RawNames
 pub mod RawStates
 pub mod Readings
 pub mod Refused

@@ -37,14 +37,14 @@ use Rattle.html_machine.proofs.ScriptStates.{char-says, kind-says}
 
 module _ {K S H : Type 0} (step : Step S) (view : K → S) (cdata : S → Bool) (ends : S → S) (sound : S → Type 0) (number : H → ℕ) (quiet : S → Token → Bool) (laws : SinkLaws sound step ends quiet) where
   -- "<" and then another character are told, and the text has this kind behind them
-  two-says : (old : Tokenizer K) (kind : RawKind) (b : ℕ) (s : S × List Reply) → sound s.0 → (c : ℕ) (t : List ℕ) → nat_eq c 60 ≡ false → nat_eq c 38 ≡ false → nat_eq c 0 ≡ false → nat_eq c 10 ≡ false → (ends_at_tag kind && is_fitting_end old.last_start_tag (c ∷ t)) ≡ false
+  pub two-says : (old : Tokenizer K) (kind : RawKind) (b : ℕ) (s : S × List Reply) → sound s.0 → (c : ℕ) (t : List ℕ) → nat_eq c 60 ≡ false → nat_eq c 38 ≡ false → nat_eq c 0 ≡ false → nat_eq c 10 ≡ false → (ends_at_tag kind && is_fitting_end old.last_start_tag (c ∷ t)) ≡ false
       → raw_text step view cdata ends sound number old kind b s (60 ∷ c ∷ t) ≡ (noting step s (CharacterTokens (60 ∷ c ∷ [])) (line_number b) >>= λ p. raw_text step view cdata ends sound number old (kind_after kind (60 ∷ c ∷ []) t) b p.0 t)
   two-says old kind b s h c t e f z n fits =
       let mid = kind_behind kind 60 (c ∷ t) in
       reading-two (λ p. sound p.0) (noting step) (noting_cdata cdata) (noting_end ends) (rows_of old) (noting-lawful sound step ends quiet laws) (standing old (InRaw kind)) (standing old (InRaw mid)) (standing old (InRaw (kind_behind mid c t))) b s h 60 c t (line_number b) refl n
       (λ x. open-item old kind x (c ∷ t) fits) (λ x. plain-item old mid x c t e f z)
 
-  fits-none : (k : Tokenizer K) (kind : RawKind) (t : List ℕ) → is_fitting_end k.last_start_tag t ≡ false → (ends_at_tag kind && is_fitting_end k.last_start_tag t) ≡ false
+  pub fits-none : (k : Tokenizer K) (kind : RawKind) (t : List ℕ) → is_fitting_end k.last_start_tag t ≡ false → (ends_at_tag kind && is_fitting_end k.last_start_tag t) ≡ false
   fits-none k kind t e = rw e (and-none (ends_at_tag kind))
 
   -- "/" behind "<"

@@ -44,6 +44,9 @@ letter-no_slash c h = grind (arith, nat_tests)
 pub letter-no_end : (c : ℕ) → is_ascii_alphabetic c ≡ true → ends_tag_name c ≡ false
 letter-no_end c h = grind (arith, nat_tests)
 
+pub end-no_letter : (c : ℕ) → ends_tag_name c ≡ true → is_ascii_alphabetic c ≡ false
+end-no_letter c h = grind (arith, nat_tests)
+
 -- a letter's lower case is that of letters only
 apart : (n c : ℕ) → is_ascii_alphabetic n ≡ true → is_ascii_alphabetic c ≡ false → nat_eq (to_ascii_lowercase n) (to_ascii_lowercase c) ≡ false
 apart n c h e = grind (arith, nat_tests)
