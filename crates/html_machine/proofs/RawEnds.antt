@@ -1,5 +1,5 @@
 -- The fitting end tag of raw text.
-use Rattle.std.proofs.Common.{◌≡◌, ◌∙◌, ℕ, ◌+◌, Bool, true, false, nat_eq, List, [], ◌∷◌, ◌++◌, map, Option, Result, Ok, Err, refl, sym, ap, arith, append_assoc, append-nil}
+use Rattle.std.proofs.Common.{◌≡◌, ◌∙◌, ℕ, Bool, true, false, nat_eq, List, [], ◌∷◌, ◌++◌, map, Option, Result, refl, sym, ap, arith, append_assoc, append-nil}
 use Rattle.std.specs.Char.{is_ascii_alphabetic, to_ascii_lowercase}
 use Rattle.std.specs.List.{list_all}
 use Rattle.std.proofs.lemmas.Bool.Decides.{nat_tests}
@@ -12,9 +12,9 @@ use Rattle.html_tokens.specs.declared.tags.Tag.{Tag}
 use Rattle.html_tokens.specs.declared.tags.TagKind.TheVariants.{EndTag}
 use Rattle.html_tokens.specs.Characters.{lowered}
 use Rattle.html_tokens.specs.Pauses.{noting, noting_cdata, noting_end}
-use Rattle.html_tokens.specs.Item.{InData, InRaw, Stand, behind}
+use Rattle.html_tokens.specs.Item.{InRaw, Stand, behind}
 use Rattle.html_tokens.specs.RawText.{is_fitting_end, ends_at_tag}
-use Rattle.html_tokens.specs.Reading.{line_break, reading, play}
+use Rattle.html_tokens.specs.Reading.{reading, play}
 use Rattle.html_tokens.specs.Sink.{Step, Reply}
 use Rattle.html_tokens.specs.Table.{Row}
 use Rattle.html_tokens.specs.Tags.{named, name_after}

@@ -1,17 +1,16 @@
 //! Text that only its own end tag ends (HTML Standard, sections 13.2.5.2 to 13.2.5.4, 13.2.5.9 to 13.2.5.17 and 13.2.5.20 to 13.2.5.30).
-ghost use Rattle.std.specs.Prelude.{◌≡◌, ◌∷◌, [], true, false};
+ghost use Rattle.std.specs.Prelude.{◌≡◌, ◌∷◌, true, false};
 ghost use Rattle.std.specs.Char.{is_ascii_alphabetic};
 ghost use Rattle.std.specs.List.{list_all};
 ghost use Rattle.html_tokens.specs.declared.states.State.TheVariants as state;
 ghost use Rattle.html_tokens.specs.declared.states.RawKind.TheVariants as raw;
 ghost use Rattle.html_tokens.specs.declared.states.ScriptEscapeKind.TheVariants as script;
 ghost use Rattle.html_tokens.specs.declared.token.Token.TheVariants.{CharacterTokens};
-ghost use Rattle.html_tokens.specs.Characters.{ends_tag_name};
 ghost use Rattle.html_tokens.specs.RawText.{ends_at_tag, has_references};
-ghost use Rattle.html_machine.specs.Steps.{IsAt, Tells, TakesAs, Keeps};
+ghost use Rattle.html_machine.specs.Steps.{IsAt, Tells, Keeps};
 ghost use Rattle.html_machine.specs.Words.{ends_raw_text, may_escape};
 
-use crate::characters::is_white_space;
+use crate::characters::ends_tag_name;
 use crate::letters::Letters;
 use crate::tell::empty;
 use crate::tokenizer::Tokenizer;
@@ -35,13 +34,6 @@ fn has_references(kind: RawKind) -> bool
     ensures { result ≡ has_references kind }
 {
     matches!(kind, RawKind::Rcdata)
-}
-
-/// White space, `/` or `>`.
-pub(crate) fn ends_tag_name(c: char) -> bool
-    ensures { result ≡ ends_tag_name c }
-{
-    is_white_space(c) || c == '/' || c == '>'
 }
 
 impl<Sink: TokenSink> Tokenizer<Sink> {
@@ -68,7 +60,7 @@ impl<Sink: TokenSink> Tokenizer<Sink> {
     }
 
     /// At `<`, which is held where it may begin the fitting end tag.
-    pub(crate) fn raw_less_than_sign(
+    fn raw_less_than_sign(
         &mut self,
         kind: RawKind,
     ) -> Result<ProcessResult<Sink::Handle>, ParseFault>
@@ -85,10 +77,7 @@ impl<Sink: TokenSink> Tokenizer<Sink> {
     }
 
     /// At `&`.
-    pub(crate) fn raw_ampersand(
-        &mut self,
-        kind: RawKind,
-    ) -> Result<ProcessResult<Sink::Handle>, ParseFault>
+    fn raw_ampersand(&mut self, kind: RawKind) -> Result<ProcessResult<Sink::Handle>, ParseFault>
         requires at { IsAt self.old (state.RawData kind) }
         requires sound { Sink.is_sound (Sink.view self.old.sink) }
         ensures { Keeps Sink.step Sink.view Sink.asks_cdata Sink.ended Sink.is_sound Sink.number self.old self.new 38 result }
@@ -102,10 +91,7 @@ impl<Sink: TokenSink> Tokenizer<Sink> {
     }
 
     /// At `-`.
-    pub(crate) fn raw_dash(
-        &mut self,
-        kind: RawKind,
-    ) -> Result<ProcessResult<Sink::Handle>, ParseFault>
+    fn raw_dash(&mut self, kind: RawKind) -> Result<ProcessResult<Sink::Handle>, ParseFault>
         requires at { IsAt self.old (state.RawData kind) }
         requires sound { Sink.is_sound (Sink.view self.old.sink) }
         ensures { Keeps Sink.step Sink.view Sink.asks_cdata Sink.ended Sink.is_sound Sink.number self.old self.new 45 result }
@@ -140,7 +126,7 @@ impl<Sink: TokenSink> Tokenizer<Sink> {
     }
 
     /// Behind `<`, where no escape may begin: `/`, or the `<` was text.
-    pub(crate) fn held_less_than_sign(
+    fn held_less_than_sign(
         &mut self,
         kind: RawKind,
         c: char,
@@ -161,10 +147,7 @@ impl<Sink: TokenSink> Tokenizer<Sink> {
     }
 
     /// Section 13.2.5.15.
-    pub(crate) fn script_less_than_sign(
-        &mut self,
-        c: char,
-    ) -> Result<ProcessResult<Sink::Handle>, ParseFault>
+    fn script_less_than_sign(&mut self, c: char) -> Result<ProcessResult<Sink::Handle>, ParseFault>
         requires at { IsAt self.old (state.RawLessThanSign raw.ScriptData) }
         requires sound { Sink.is_sound (Sink.view self.old.sink) }
         ensures { Keeps Sink.step Sink.view Sink.asks_cdata Sink.ended Sink.is_sound Sink.number self.old self.new c result }
@@ -177,10 +160,7 @@ impl<Sink: TokenSink> Tokenizer<Sink> {
     }
 
     /// Section 13.2.5.23.
-    pub(crate) fn escaped_less_than_sign(
-        &mut self,
-        c: char,
-    ) -> Result<ProcessResult<Sink::Handle>, ParseFault>
+    fn escaped_less_than_sign(&mut self, c: char) -> Result<ProcessResult<Sink::Handle>, ParseFault>
         requires at { IsAt self.old (state.RawLessThanSign (raw.ScriptDataEscaped script.Escaped)) }
         requires sound { Sink.is_sound (Sink.view self.old.sink) }
         ensures { Keeps Sink.step Sink.view Sink.asks_cdata Sink.ended Sink.is_sound Sink.number self.old self.new c result }
@@ -194,7 +174,7 @@ impl<Sink: TokenSink> Tokenizer<Sink> {
     }
 
     /// Section 13.2.5.30.
-    pub(crate) fn double_escaped_less_than_sign(
+    fn double_escaped_less_than_sign(
         &mut self,
         c: char,
     ) -> Result<ProcessResult<Sink::Handle>, ParseFault>
@@ -258,7 +238,7 @@ impl<Sink: TokenSink> Tokenizer<Sink> {
     }
 
     /// Behind the whole fitting name.
-    pub(crate) fn raw_end_tag(
+    fn raw_end_tag(
         &mut self,
         kind: RawKind,
         c: char,
@@ -282,7 +262,7 @@ impl<Sink: TokenSink> Tokenizer<Sink> {
     }
 
     /// Text escaped twice, in which no end tag is held.
-    pub(crate) fn double_escaped_end_tag(
+    fn double_escaped_end_tag(
         &mut self,
         kind: RawKind,
         c: char,
