@@ -1,5 +1,8 @@
 pub mod AttributeNames
+pub mod AttributeReadings
+pub mod AttributeValues
 pub mod Errors
+pub mod Finished
 pub mod Glue
 pub mod Lawful
 pub mod Readings
