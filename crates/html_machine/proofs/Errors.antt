@@ -1,14 +1,15 @@
 -- What a refused error says of every token.
-use Rattle.std.proofs.Common.{◌≡◌, ℕ, Bool, Result, Ok, Err, ap}
+use Rattle.std.proofs.Common.{◌≡◌, ◌∙◌, ℕ, Bool, Result, Ok, Err, ap, sym}
 use Rattle.std.specs.Prelude.{is_err}
 use Rattle.std.specs.Result.{IsErrAnd}
 use Rattle.std.proofs.lemmas.Result.{err_from_is_err_and}
 use Rattle.markup.specs.declared.fault.ParseFault.{ParseFault}
 use Rattle.markup.specs.declared.fault.ParseFault.TheVariants.{Memory, TokenInText, Ended, Shape, Failed}
 use Rattle.html_tokens.specs.declared.token.Token.{Token}
+use Rattle.html_tokens.specs.Reading.{line_number}
 use Rattle.html_tokens.specs.Sink.{Step, Gives, IsIdle, SinkLaws}
 use Rattle.html_machine.specs.declared.tokenizer.Tokenizer.{Tokenizer}
-use Rattle.html_machine.specs.Steps.{Fails, Errs}
+use Rattle.html_machine.specs.Steps.{Fails, Told, Tells, Erred, Errs}
 
 module _ {K S H : Type 0} (step : Step S) (view : K → S) (cdata : S → Bool) (ends : S → S) (sound : S → Type 0) (number : H → ℕ) (is_quiet : S → Token → Bool) (laws : SinkLaws sound step ends is_quiet) where
   -- where a sink refuses what is idle, it refuses every token
@@ -23,3 +24,18 @@ module _ {K S H : Type 0} (step : Step S) (view : K → S) (cdata : S → Bool) 
   errs-failed old new after h idle is own fault result given e =
       let p = err_from_is_err_and result e in
       rw (p.1, p.2) (λ token line. idle-fails (view old.sink) after h idle is own fault given token line)
+
+  -- an error was told, and then a token
+  pub tells-erred : (old mid new : Tokenizer K) (token : Token) (result : Result (Unit {0}) ParseFault) → Erred step view cdata ends sound number old mid → Tells step view cdata ends sound number token mid new result → Tells step view cdata ends sound number token old new result
+  tells-erred old mid new token (Ok x) h told = record {
+    gives = λ line e. ap (λ s. step s token line) (sym h.sink) ∙ told.gives line (e ∙ ap (λ k. line_number k.stream.breaks) (sym h.changed));
+    changed = told.changed ∙ ap {A = Tokenizer K} (λ k. record k { sink = new.sink }) h.changed;
+    sound = told.sound;
+  }
+  tells-erred old mid new token (Err fault) h fails =
+      rw (← h.sink) (rw (ap (λ k. line_number k.stream.breaks) h.changed) at fails)
+
+  pub tells-failed : (old mid new : Tokenizer K) (token : Token) (fault : ParseFault) (result : Result (Unit {0}) ParseFault) → Errs step view cdata ends sound number old mid (Err fault) → IsErrAnd result (λ y. y ≡ fault) → Tells step view cdata ends sound number token old new result
+  tells-failed old mid new token fault result h e =
+      let p = err_from_is_err_and result e in
+      rw (p.1, p.2) (h token (line_number old.stream.breaks))

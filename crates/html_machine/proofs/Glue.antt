@@ -28,14 +28,14 @@ use Rattle.html_machine.proofs.Readings.{sum-zero}
 use Rattle.html_machine.specs.Steps.{IsAt, IsNoTag, paused_by, now, Fails, Told, Tells, Erred, Errs, Took, Keeps, EndedTag, EndsTag}
 
 -- a character that is no line break ends no line
-no-break : (b c : ℕ) → nat_eq c 10 ≡ false → b + line_break (nat_eq c 10) ≡ b
+pub no-break : (b c : ℕ) → nat_eq c 10 ≡ false → b + line_break (nat_eq c 10) ≡ b
 no-break b c h = rw h (sum-zero b)
 
-bind-err : {A B : Type 0} (r : Result A Refusal) (f : A → Result B Refusal) → IsErr r → IsErr (r >>= f)
+pub bind-err : {A B : Type 0} (r : Result A Refusal) (f : A → Result B Refusal) → IsErr r → IsErr (r >>= f)
 bind-err (Ok x) f h = cc
 bind-err (Err e) f h = refl
 
-noted-err : {S : Type 0} (pauses : List Reply) (r : Result (S × Reply) Refusal) → IsErr r → IsErr (noted pauses r)
+pub noted-err : {S : Type 0} (pauses : List Reply) (r : Result (S × Reply) Refusal) → IsErr r → IsErr (noted pauses r)
 noted-err pauses (Ok x) h = cc
 noted-err pauses (Err e) h = refl
 
@@ -137,7 +137,7 @@ module _ {K S H : Type 0} (step : Step S) (view : K → S) (cdata : S → Bool) 
   abbrev pub Says : State → Tokenizer K → ℕ → Token → (ℕ → S × List Reply → List ℕ → Result (S × List Reply) Refusal) → Type 0
   Says st old c token next = (b : ℕ) (s : S × List Reply) → sound s.0 → (t : List ℕ) → at step view cdata ends sound number st old b s (c ∷ t) ≡ (noting step s token (line_number b) >>= λ p. next b p.0 t)
 
-  fails-along : {A : Type 0} (a b : Result A Refusal) (fault : ParseFault) → a ≡ b → Fails step view cdata ends sound number b fault → Fails step view cdata ends sound number a fault
+  pub fails-along : {A : Type 0} (a b : Result A Refusal) (fault : ParseFault) → a ≡ b → Fails step view cdata ends sound number b fault → Fails step view cdata ends sound number a fault
   fails-along a b fault e f = rw e f
 
   -- The call that tells a token failed, and it was to be told next.
@@ -175,6 +175,26 @@ module _ {K S H : Type 0} (step : Step S) (view : K → S) (cdata : S → Bool) 
     stream = stream;
     sound = told.sound;
   })
+
+  -- A token was told by the machine with other fields, where it stays.
+  pub took_emitted : (old source new : Tokenizer K) (c : ℕ) (st st' : State) (token : Token) → IsAt old st → sound (view old.sink) → source.sink ≡ old.sink → source.stream ≡ old.stream → IsAt source st'
+      → Told step view cdata ends sound number token source new
+      → Says st old c token (λ b s t. at step view cdata ends sound number st' source (b + line_break (nat_eq c 10)) s t)
+      → Took step view cdata ends sound number old new c flow.Continue
+  took_emitted old source new c st st' token from ok same stream to told law =
+      let told' : Told step view cdata ends sound number token (record source { sink = old.sink; stream = old.stream }) new = rw (← same, ← stream) told in
+      let source' : Tokenizer K = record source { sink = old.sink; stream = old.stream } in
+      let is : source' ≡ source = rw (← same, ← stream) refl in
+      record {
+        same = λ pauses t.
+            now-at step view cdata ends sound number old st old.stream.breaks (view old.sink, pauses) (c ∷ t) from
+            ∙ law old.stream.breaks (view old.sink, pauses) ok t
+            ∙ told-next source' new token pauses (λ s. at step view cdata ends sound number st' source (old.stream.breaks + line_break (nat_eq c 10)) s t) told'
+            ∙ sym (now-target source new.sink st' (old.stream.breaks + line_break (nat_eq c 10)) (view new.sink, pauses) t to)
+            ∙ sym (ap (λ k. now step view cdata ends sound number k (old.stream.breaks + line_break (nat_eq c 10)) (view k.sink, pauses) t) told.changed);
+        stream = ap (λ k. k.stream) told.changed ∙ stream;
+        sound = told.sound;
+      }
 
   -- The character goes on to where the machine makes of it, and of all that follows, what was to be made.
   keeps-along : (old mid new : Tokenizer K) (c : ℕ) (result : Result (ProcessResult H) ParseFault) → mid.stream ≡ old.stream

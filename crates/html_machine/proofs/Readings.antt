@@ -64,3 +64,11 @@ module _ {T : Type 0} (sound : T → Type 0) (step : Step T) (cdata : T → Bool
       ∙ play-told (CharacterTokens (d ∷ [])) 0 next read s h t tt
       ∙ ap (λ n. step s (CharacterTokens (d ∷ [])) (line_number n) >>= λ p. reading step cdata ends rows next n p.0 t) (sum-zero read)
       ∙ ap (λ r. r >>= λ p. reading step cdata ends rows next read p.0 t) (any_line s h (d ∷ []) (line_number read) l)
+
+  -- an item that is a token but no tag, and breaks no line
+  pub play-end : (i : Item) (token : Token) (n : ℕ) (st : Stand) (b : ℕ) (s : T) → sound s → (t : List ℕ) → IsNoTag token → i ≡ told token n st → line_breaks (take n t) ≡ 0
+      → play step cdata ends rows i b s t ≡ (step s token (line_number b) >>= λ p. reading step cdata ends rows st b p.0 (drop n t))
+  play-end i token n st b s h t none is unbroken =
+      ap (λ i. play step cdata ends rows i b s t) is
+      ∙ play-told token n st b s h t none
+      ∙ ap (λ read. step s token (line_number read) >>= λ p. reading step cdata ends rows st read p.0 (drop n t)) (ap (λ x. b + x) unbroken ∙ sum-zero b)

@@ -1,16 +1,12 @@
 -- How a state's function keeps what is to come: characters that end no line, and references in values.
-use Rattle.std.proofs.Common.{◌≡◌, ◌∙◌, ℕ, ◌+◌, Bool, false, nat_eq, List, [], ◌∷◌, Some, refl, sym, ap}
+use Rattle.std.proofs.Common.{◌≡◌, ◌∙◌, ℕ, Bool, false, nat_eq, List, [], ◌∷◌, Some, refl, sym, ap}
 use Rattle.html_tokens.specs.declared.replies.ProcessResult.TheVariants as flow
 use Rattle.html_tokens.specs.declared.states.State.{State}
-use Rattle.html_tokens.specs.Reading.{line_break}
 use Rattle.html_tokens.specs.Sink.{Step, Reply}
 use Rattle.html_machine.specs.declared.tokenizer.Tokenizer.{Tokenizer}
 use Rattle.html_machine.specs.Steps.{IsAt, Took}
-use Rattle.html_machine.proofs.Glue.{at, now-at, took}
+use Rattle.html_machine.proofs.Glue.{no-break, at, now-at, took}
 use Rattle.html_machine.proofs.Readings.{sum-zero}
-
-no-break : (b c : ℕ) → nat_eq c 10 ≡ false → b + line_break (nat_eq c 10) ≡ b
-no-break b c h = rw h (sum-zero b)
 
 module _ {K S H : Type 0} (step : Step S) (view : K → S) (cdata : S → Bool) (ends : S → S) (sound : S → Type 0) (number : H → ℕ) where
   -- The character is taken, which ends no line, and the machine stands in st'.

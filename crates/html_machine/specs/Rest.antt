@@ -3,10 +3,12 @@ use Rattle.std.specs.Prelude.{ℕ, ◌+◌, ◌-◌, min, Bool, true, false, nat
 use Rattle.html_tokens.specs.declared.states.RawKind.{RawKind}
 use Rattle.html_tokens.specs.declared.states.RawKind.TheVariants as raw
 use Rattle.html_tokens.specs.declared.states.ScriptEscapeKind.TheVariants as script
+use Rattle.html_tokens.specs.declared.states.DoctypeIdKind.{DoctypeIdKind}
 use Rattle.html_tokens.specs.declared.states.DoctypeIdKind.TheVariants as id
 use Rattle.html_tokens.specs.declared.states.AttrValueKind.TheVariants as value
 use Rattle.html_tokens.specs.declared.states.State.{State}
 use Rattle.html_tokens.specs.declared.states.State.TheVariants as state
+use Rattle.html_tokens.specs.declared.token.Doctype.{Doctype}
 use Rattle.html_tokens.specs.declared.token.Token.{Token}
 use Rattle.html_tokens.specs.Comments.{comment_at, comment_after, bogus_comment_after}
 use Rattle.html_tokens.specs.Doctypes.{doctype_at, doctype_name_after, after_name, after_public_keyword, after_system_keyword, public_after, system_after, after_public, after_system, junk_after}
@@ -31,6 +33,11 @@ pending (Some cs) = 38 ∷ cs
 -- where a reading stands at this place
 abbrev pub standing : {K : Type 0} → Tokenizer K → Place → Stand
 standing k place = record { place = place; last_start_tag = k.last_start_tag }
+
+-- a doctype with one of its identifiers
+abbrev pub with_identifier : DoctypeIdKind → Doctype → List ℕ → Doctype
+with_identifier id.Public d cs = record d { public_id = Some cs }
+with_identifier id.System d cs = record d { system_id = Some cs }
 
 -- how a script's text goes on behind a front that was told, before t
 abbrev pub kind_after : RawKind → List ℕ → List ℕ → RawKind
@@ -62,13 +69,13 @@ module _ {K T : Type 0} (step : Step T) (cdata : T → Bool) (ends : T → T) wh
   held_at (state.RawLessThanSign (raw.ScriptDataEscaped script.DoubleEscaped)) k b s t = read_at (InRaw (kind_after (raw.ScriptDataEscaped script.DoubleEscaped) (codes "<") t)) k b s t
   held_at (state.RawLessThanSign kind) k b s t = read_at (InRaw kind) k b s (60 ∷ t)
   held_at (state.RawEndTagOpen kind) k b s t = read_at (InRaw kind) k b s (60 ∷ 47 ∷ t)
-  held_at (state.RawEndTagName kind) k b s t = read_at (InRaw kind) k b s (60 ∷ 47 ∷ (k.temporary ++ t))
+  held_at (state.RawEndTagName kind) k b s t = read_at (InRaw kind) k b s (60 ∷ 47 ∷ (k.word ++ t))
   held_at (state.ScriptDataEscapeStart script.Escaped) k b s t = read_at (InRaw (kind_after raw.ScriptData (codes "<!") t)) k b s t
-  held_at (state.ScriptDataEscapeStart script.DoubleEscaped) k b s t = read_at (InRaw (kind_after (raw.ScriptDataEscaped script.Escaped) (60 ∷ k.temporary) t)) k b s t
+  held_at (state.ScriptDataEscapeStart script.DoubleEscaped) k b s t = read_at (InRaw (kind_after (raw.ScriptDataEscaped script.Escaped) (60 ∷ k.word) t)) k b s t
   held_at state.ScriptDataEscapeStartDash k b s t = read_at (InRaw (kind_after raw.ScriptData (codes "<!-") t)) k b s t
   held_at (state.ScriptDataEscapedDash kind) k b s t = read_at (InRaw (kind_after (raw.ScriptDataEscaped kind) (codes "-") t)) k b s t
   held_at (state.ScriptDataEscapedDashDash kind) k b s t = read_at (InRaw (kind_after (raw.ScriptDataEscaped kind) (codes "--") t)) k b s t
-  held_at state.ScriptDataDoubleEscapeEnd k b s t = read_at (InRaw (kind_after (raw.ScriptDataEscaped script.DoubleEscaped) (60 ∷ 47 ∷ k.temporary) t)) k b s t
+  held_at state.ScriptDataDoubleEscapeEnd k b s t = read_at (InRaw (kind_after (raw.ScriptDataEscaped script.DoubleEscaped) (60 ∷ 47 ∷ k.word) t)) k b s t
   -- tags
   held_at state.BeforeAttributeName k b s t = read_at (InTag k.tag) k b s t
   held_at state.AttributeName k b s t = played (attribute_after (rows_of k) (standing k InData) k.tag k.attribute_name t) k b s t

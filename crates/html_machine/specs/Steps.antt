@@ -82,6 +82,12 @@ module _ {K S H : Type 0} (step : Step S) (view : K → S) (cdata : S → Bool) 
   Tells token old new (Ok x) = Told token old new
   Tells token old new (Err fault) = Fails (step (view old.sink) token (line_number old.stream.breaks)) fault
 
+  -- The same of a call that then goes on to the next character.
+  abbrev pub TakesAs : Token → Tokenizer K → Tokenizer K → Result (ProcessResult H) ParseFault → Type 0
+  TakesAs token old new (Ok flow.Continue) = Told token old new
+  TakesAs token old new (Ok _) = ⊥
+  TakesAs token old new (Err fault) = Fails (step (view old.sink) token (line_number old.stream.breaks)) fault
+
   -- An error has been told, which changes nothing that the sink stands for.
   pub record Erred (old new : Tokenizer K) : Type 0 where
     pub sink : view new.sink ≡ view old.sink

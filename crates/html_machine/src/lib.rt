@@ -2,7 +2,11 @@
 #![tactic(auto)]
 
 mod attribute_states;
+mod cdata_states;
 mod characters;
+mod comment_states;
+mod doctype_states;
+mod letters;
 mod tag_states;
 mod tell;
 mod text_states;

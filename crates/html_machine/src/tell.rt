@@ -2,6 +2,7 @@
 ghost use Rattle.std.specs.Prelude.{◌≡◌, ◌∷◌, []};
 ghost use Rattle.std.specs.Str.{chars};
 ghost use Rattle.html_tokens.specs.declared.token.Token.TheVariants.{CharacterTokens, CommentToken};
+ghost use Rattle.html_tokens.specs.Characters.{shown};
 ghost use Rattle.html_tokens.specs.Reading.{line_number};
 ghost use Rattle.html_machine.specs.Steps.{IsNoTag, Tells, Errs, EndsTag};
 
@@ -69,5 +70,40 @@ impl<Sink: TokenSink> Tokenizer<Sink> {
     {
         let text = String::from_str(self.stream.alloc, text)?;
         self.tell(Token::CharacterTokens(Text::new(text)))
+    }
+
+    /// Tells of a parse error, and hands out the token that has it.
+    pub(crate) fn tell_faulty(
+        &mut self,
+        message: &'static str,
+        token: Token,
+    ) -> Result<(), ParseFault>
+        requires no_tag { IsNoTag token }
+        requires sound { Sink.is_sound (Sink.view self.old.sink) }
+        ensures { Tells Sink.step Sink.view Sink.asks_cdata Sink.ended Sink.is_sound Sink.number token self.old self.new result }
+    {
+        self.tell_error(message)?;
+        self.tell(token)
+    }
+
+    /// Hands out U+FFFD in place of U+0000, which is a parse error.
+    fn tell_replacement(&mut self) -> Result<(), ParseFault>
+        requires sound { Sink.is_sound (Sink.view self.old.sink) }
+        ensures { Tells Sink.step Sink.view Sink.asks_cdata Sink.ended Sink.is_sound Sink.number (CharacterTokens (0xFFFD ∷ [])) self.old self.new result }
+    {
+        self.tell_error("unexpected null character")?;
+        self.tell_char('\u{FFFD}')
+    }
+
+    /// Hands out a character of text in which U+FFFD stands for U+0000.
+    pub(crate) fn tell_shown(&mut self, c: char) -> Result<(), ParseFault>
+        requires sound { Sink.is_sound (Sink.view self.old.sink) }
+        ensures { Tells Sink.step Sink.view Sink.asks_cdata Sink.ended Sink.is_sound Sink.number (CharacterTokens (shown c ∷ [])) self.old self.new result }
+    {
+        if c == '\0' {
+            self.tell_replacement()
+        } else {
+            self.tell_char(c)
+        }
     }
 }

@@ -1,5 +1,6 @@
 //! What a tokenizer holds between two characters.
 
+use crate::letters::Letters;
 use html_tokenizer::References;
 use html_tokens::states::State;
 use html_tokens::{Doctype, Tag};
@@ -45,4 +46,6 @@ pub struct Tokenizer<Sink> {
     pub(crate) doctype: Doctype,
     /// Characters that were read of a word, a name or an identifier.
     pub(crate) temporary: Text,
+    /// The letters that were read of the name of an end tag, or of `script`.
+    pub(crate) word: Letters,
 }

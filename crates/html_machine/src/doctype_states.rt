@@ -1,0 +1,287 @@
+//! Doctypes, but for their keywords (HTML Standard, sections 13.2.5.53 to 13.2.5.55 and 13.2.5.57 to 13.2.5.68).
+ghost use Rattle.std.specs.Prelude.{◌≡◌, [], Some};
+ghost use Rattle.html_tokens.specs.declared.states.State.TheVariants as state;
+ghost use Rattle.html_tokens.specs.declared.states.DoctypeIdKind.TheVariants as id;
+ghost use Rattle.html_tokens.specs.declared.token.Token.TheVariants.{DoctypeToken};
+ghost use Rattle.html_tokens.specs.Doctypes;
+ghost use Rattle.html_machine.specs.Rest.{with_identifier};
+ghost use Rattle.html_machine.specs.Steps.{IsAt, Tells, Keeps};
+
+use crate::characters::{is_white_space, lowered, shown};
+use crate::tell::empty;
+use crate::tokenizer::Tokenizer;
+use html_tokens::sink::TokenSink;
+use html_tokens::states::{DoctypeIdKind, State};
+use html_tokens::{Doctype, ProcessResult, Token};
+use markup::ParseFault;
+use std::mem;
+
+/// A doctype of which nothing was read.
+fn no_doctype() -> Doctype
+    ensures { result ≡ Doctypes.no_doctype }
+{
+    Doctype {
+        name: None,
+        public_id: None,
+        system_id: None,
+        force_quirks: false,
+    }
+}
+
+impl<Sink: TokenSink> Tokenizer<Sink> {
+    /// Hands out the doctype. What follows is data.
+    pub(crate) fn emit_doctype(&mut self) -> Result<(), ParseFault>
+        requires sound { Sink.is_sound (Sink.view self.old.sink) }
+        ensures { Tells Sink.step Sink.view Sink.asks_cdata Sink.ended Sink.is_sound Sink.number (DoctypeToken self.old.doctype) (record self.old { doctype = Doctypes.no_doctype; state = state.Data }) self.new result }
+    {
+        let doctype = mem::replace(&mut self.doctype, no_doctype());
+        self.state = State::Data;
+        if doctype.force_quirks {
+            self.tell_faulty("faulty doctype", Token::DoctypeToken(doctype))
+        } else {
+            self.tell(Token::DoctypeToken(doctype))
+        }
+    }
+
+    pub(crate) fn doctype_state(
+        &mut self,
+        c: char,
+    ) -> Result<ProcessResult<Sink::Handle>, ParseFault>
+        requires at { IsAt self.old state.Doctype }
+        requires sound { Sink.is_sound (Sink.view self.old.sink) }
+        ensures { Keeps Sink.step Sink.view Sink.asks_cdata Sink.ended Sink.is_sound Sink.number self.old self.new c result }
+    {
+        self.state = State::BeforeDoctypeName;
+        self.before_doctype_name_state(c)
+    }
+
+    pub(crate) fn before_doctype_name_state(
+        &mut self,
+        c: char,
+    ) -> Result<ProcessResult<Sink::Handle>, ParseFault>
+        requires at { IsAt self.old state.BeforeDoctypeName }
+        requires sound { Sink.is_sound (Sink.view self.old.sink) }
+        ensures { Keeps Sink.step Sink.view Sink.asks_cdata Sink.ended Sink.is_sound Sink.number self.old self.new c result }
+    {
+        if is_white_space(c) {
+            return Ok(ProcessResult::Continue);
+        }
+        self.doctype = no_doctype();
+        if c == '>' {
+            self.doctype.force_quirks = true;
+            self.emit_doctype()?;
+            return Ok(ProcessResult::Continue);
+        }
+        self.temporary = empty(self.stream.alloc);
+        self.state = State::DoctypeName;
+        self.doctype_name_state(c)
+    }
+
+    /// Takes over the name that was read.
+    fn finish_name(&mut self)
+        ensures { self.new ≡ record self.old { doctype = record Doctypes.no_doctype { name = Some self.old.temporary }; temporary = [] } }
+    {
+        self.doctype = no_doctype();
+        let name = mem::replace(&mut self.temporary, empty(self.stream.alloc));
+        self.doctype.name = Some(name);
+    }
+
+    pub(crate) fn doctype_name_state(
+        &mut self,
+        c: char,
+    ) -> Result<ProcessResult<Sink::Handle>, ParseFault>
+        requires at { IsAt self.old state.DoctypeName }
+        requires sound { Sink.is_sound (Sink.view self.old.sink) }
+        ensures { Keeps Sink.step Sink.view Sink.asks_cdata Sink.ended Sink.is_sound Sink.number self.old self.new c result }
+    {
+        if is_white_space(c) {
+            self.finish_name();
+            self.state = State::AfterDoctypeName;
+            return Ok(ProcessResult::Continue);
+        }
+        if c == '>' {
+            self.finish_name();
+            self.emit_doctype()?;
+            return Ok(ProcessResult::Continue);
+        }
+        self.temporary.push(lowered(c))?;
+        Ok(ProcessResult::Continue)
+    }
+
+    pub(crate) fn after_doctype_keyword_state(
+        &mut self,
+        kind: DoctypeIdKind,
+        c: char,
+    ) -> Result<ProcessResult<Sink::Handle>, ParseFault>
+        requires at { IsAt self.old (state.AfterDoctypeKeyword kind) }
+        requires sound { Sink.is_sound (Sink.view self.old.sink) }
+        ensures { Keeps Sink.step Sink.view Sink.asks_cdata Sink.ended Sink.is_sound Sink.number self.old self.new c result }
+    {
+        self.state = State::BeforeDoctypeIdentifier(kind);
+        self.before_doctype_identifier_state(kind, c)
+    }
+
+    pub(crate) fn before_doctype_identifier_state(
+        &mut self,
+        kind: DoctypeIdKind,
+        c: char,
+    ) -> Result<ProcessResult<Sink::Handle>, ParseFault>
+        requires at { IsAt self.old (state.BeforeDoctypeIdentifier kind) }
+        requires sound { Sink.is_sound (Sink.view self.old.sink) }
+        ensures { Keeps Sink.step Sink.view Sink.asks_cdata Sink.ended Sink.is_sound Sink.number self.old self.new c result }
+    {
+        if is_white_space(c) {
+            return Ok(ProcessResult::Continue);
+        }
+        if c == '"' {
+            self.temporary = empty(self.stream.alloc);
+            self.state = State::DoctypeIdentifierDoubleQuoted(kind);
+            return Ok(ProcessResult::Continue);
+        }
+        if c == '\'' {
+            self.temporary = empty(self.stream.alloc);
+            self.state = State::DoctypeIdentifierSingleQuoted(kind);
+            return Ok(ProcessResult::Continue);
+        }
+        self.doctype.force_quirks = true;
+        self.state = State::BogusDoctype;
+        self.bogus_doctype_state(c)
+    }
+
+    /// Takes over the identifier that was read.
+    fn finish_identifier(&mut self, kind: DoctypeIdKind)
+        ensures { self.new ≡ record self.old { doctype = with_identifier kind self.old.doctype self.old.temporary; temporary = [] } }
+    {
+        let identifier = mem::replace(&mut self.temporary, empty(self.stream.alloc));
+        match kind {
+            DoctypeIdKind::Public => self.doctype.public_id = Some(identifier),
+            DoctypeIdKind::System => self.doctype.system_id = Some(identifier),
+        }
+    }
+
+    pub(crate) fn doctype_identifier_double_quoted_state(
+        &mut self,
+        kind: DoctypeIdKind,
+        c: char,
+    ) -> Result<ProcessResult<Sink::Handle>, ParseFault>
+        requires at { IsAt self.old (state.DoctypeIdentifierDoubleQuoted kind) }
+        requires sound { Sink.is_sound (Sink.view self.old.sink) }
+        ensures { Keeps Sink.step Sink.view Sink.asks_cdata Sink.ended Sink.is_sound Sink.number self.old self.new c result }
+    {
+        if c == '"' {
+            self.finish_identifier(kind);
+            self.state = State::AfterDoctypeIdentifier(kind);
+            return Ok(ProcessResult::Continue);
+        }
+        if c == '>' {
+            self.finish_identifier(kind);
+            self.doctype.force_quirks = true;
+            self.emit_doctype()?;
+            return Ok(ProcessResult::Continue);
+        }
+        self.temporary.push(shown(c))?;
+        Ok(ProcessResult::Continue)
+    }
+
+    pub(crate) fn doctype_identifier_single_quoted_state(
+        &mut self,
+        kind: DoctypeIdKind,
+        c: char,
+    ) -> Result<ProcessResult<Sink::Handle>, ParseFault>
+        requires at { IsAt self.old (state.DoctypeIdentifierSingleQuoted kind) }
+        requires sound { Sink.is_sound (Sink.view self.old.sink) }
+        ensures { Keeps Sink.step Sink.view Sink.asks_cdata Sink.ended Sink.is_sound Sink.number self.old self.new c result }
+    {
+        if c == '\'' {
+            self.finish_identifier(kind);
+            self.state = State::AfterDoctypeIdentifier(kind);
+            return Ok(ProcessResult::Continue);
+        }
+        if c == '>' {
+            self.finish_identifier(kind);
+            self.doctype.force_quirks = true;
+            self.emit_doctype()?;
+            return Ok(ProcessResult::Continue);
+        }
+        self.temporary.push(shown(c))?;
+        Ok(ProcessResult::Continue)
+    }
+
+    pub(crate) fn after_doctype_identifier_state(
+        &mut self,
+        kind: DoctypeIdKind,
+        c: char,
+    ) -> Result<ProcessResult<Sink::Handle>, ParseFault>
+        requires at { IsAt self.old (state.AfterDoctypeIdentifier kind) }
+        requires sound { Sink.is_sound (Sink.view self.old.sink) }
+        ensures { Keeps Sink.step Sink.view Sink.asks_cdata Sink.ended Sink.is_sound Sink.number self.old self.new c result }
+    {
+        match kind {
+            DoctypeIdKind::Public => {
+                self.state = State::BetweenDoctypePublicAndSystemIdentifiers;
+                self.after_doctype_public_identifier_state(c)
+            }
+            DoctypeIdKind::System => self.after_doctype_system_identifier_state(c),
+        }
+    }
+
+    pub(crate) fn after_doctype_public_identifier_state(
+        &mut self,
+        c: char,
+    ) -> Result<ProcessResult<Sink::Handle>, ParseFault>
+        requires at { IsAt self.old state.BetweenDoctypePublicAndSystemIdentifiers }
+        requires sound { Sink.is_sound (Sink.view self.old.sink) }
+        ensures { Keeps Sink.step Sink.view Sink.asks_cdata Sink.ended Sink.is_sound Sink.number self.old self.new c result }
+    {
+        if is_white_space(c) {
+            return Ok(ProcessResult::Continue);
+        }
+        if c == '"' {
+            self.temporary = empty(self.stream.alloc);
+            self.state = State::DoctypeIdentifierDoubleQuoted(DoctypeIdKind::System);
+            return Ok(ProcessResult::Continue);
+        }
+        if c == '\'' {
+            self.temporary = empty(self.stream.alloc);
+            self.state = State::DoctypeIdentifierSingleQuoted(DoctypeIdKind::System);
+            return Ok(ProcessResult::Continue);
+        }
+        if c == '>' {
+            self.emit_doctype()?;
+            return Ok(ProcessResult::Continue);
+        }
+        self.doctype.force_quirks = true;
+        self.state = State::BogusDoctype;
+        self.bogus_doctype_state(c)
+    }
+
+    pub(crate) fn after_doctype_system_identifier_state(
+        &mut self,
+        c: char,
+    ) -> Result<ProcessResult<Sink::Handle>, ParseFault>
+        requires at { IsAt self.old (state.AfterDoctypeIdentifier id.System) }
+        requires sound { Sink.is_sound (Sink.view self.old.sink) }
+        ensures { Keeps Sink.step Sink.view Sink.asks_cdata Sink.ended Sink.is_sound Sink.number self.old self.new c result }
+    {
+        if is_white_space(c) {
+            return Ok(ProcessResult::Continue);
+        }
+        self.state = State::BogusDoctype;
+        self.bogus_doctype_state(c)
+    }
+
+    pub(crate) fn bogus_doctype_state(
+        &mut self,
+        c: char,
+    ) -> Result<ProcessResult<Sink::Handle>, ParseFault>
+        requires at { IsAt self.old state.BogusDoctype }
+        requires sound { Sink.is_sound (Sink.view self.old.sink) }
+        ensures { Keeps Sink.step Sink.view Sink.asks_cdata Sink.ended Sink.is_sound Sink.number self.old self.new c result }
+    {
+        if c == '>' {
+            self.emit_doctype()?;
+            return Ok(ProcessResult::Continue);
+        }
+        Ok(ProcessResult::Continue)
+    }
+}
