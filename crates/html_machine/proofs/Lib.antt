@@ -1,9 +1,12 @@
 pub mod AttributeNames
+pub mod AttributeReadings
+pub mod AttributeValues
 pub mod CdataStates
 pub mod Comments
 pub mod Doctypes
 pub mod Ends
 pub mod Errors
+pub mod Finished
 pub mod Glue
 pub mod Lawful
 pub mod Opens

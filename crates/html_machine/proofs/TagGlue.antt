@@ -1,16 +1,12 @@
 -- How a state's function keeps what is to come: characters that end no line, and references in values.
-use Rattle.std.proofs.Common.{◌≡◌, ◌∙◌, ℕ, ◌+◌, Bool, false, nat_eq, List, ◌∷◌, sym, ap}
+use Rattle.std.proofs.Common.{◌≡◌, ◌∙◌, ℕ, Bool, false, nat_eq, List, [], ◌∷◌, Some, refl, sym, ap}
 use Rattle.html_tokens.specs.declared.replies.ProcessResult.TheVariants as flow
 use Rattle.html_tokens.specs.declared.states.State.{State}
-use Rattle.html_tokens.specs.Reading.{line_break}
 use Rattle.html_tokens.specs.Sink.{Step, Reply}
 use Rattle.html_machine.specs.declared.tokenizer.Tokenizer.{Tokenizer}
 use Rattle.html_machine.specs.Steps.{IsAt, Took}
-use Rattle.html_machine.proofs.Glue.{at, took}
+use Rattle.html_machine.proofs.Glue.{no-break, at, now-at, took}
 use Rattle.html_machine.proofs.Readings.{sum-zero}
-
-no-break : (b c : ℕ) → nat_eq c 10 ≡ false → b + line_break (nat_eq c 10) ≡ b
-no-break b c h = rw h (sum-zero b)
 
 module _ {K S H : Type 0} (step : Step S) (view : K → S) (cdata : S → Bool) (ends : S → S) (sound : S → Type 0) (number : H → ℕ) where
   -- The character is taken, which ends no line, and the machine stands in st'.
@@ -20,3 +16,19 @@ module _ {K S H : Type 0} (step : Step S) (view : K → S) (cdata : S → Bool) 
   took_here old new c st st' from to stream same ok unbroken law =
       took step view cdata ends sound number old new c st st' from to stream same ok
       (λ b s t. law b s t ∙ ap (λ n. at step view cdata ends sound number st' new n s t) (sym (no-break b c unbroken)))
+
+  -- "&" is taken, and with it a reference may begin.
+  pub took_reference : (old : Tokenizer K) (st : State) → IsAt old st → sound (view old.sink)
+      → ((b : ℕ) (s : S × List Reply) (t : List ℕ) → at step view cdata ends sound number st (record old { char_ref = Some [] }) b s t ≡ at step view cdata ends sound number st old b s t)
+      → Took step view cdata ends sound number old (record old { char_ref = Some [] }) 38 flow.Continue
+  took_reference old st from ok same =
+      let new = record old { char_ref = Some [] } in
+      record {
+        same = λ pauses t.
+            now-at step view cdata ends sound number old st old.stream.breaks (view old.sink, pauses) (38 ∷ t) from
+            ∙ sym (same old.stream.breaks (view old.sink, pauses) (38 ∷ t))
+            ∙ ap (λ x. at step view cdata ends sound number x new old.stream.breaks (view old.sink, pauses) (38 ∷ t)) (sym from.state)
+            ∙ ap (λ n. at step view cdata ends sound number old.state new n (view old.sink, pauses) (38 ∷ t)) (sym (sum-zero old.stream.breaks));
+        stream = refl;
+        sound = ok;
+      }

@@ -1,4 +1,4 @@
-use Rattle.std.proofs.Common.{◌≡◌, ◌∙◌, sym}
+use Rattle.std.proofs.Common.{◌∙◌, sym}
 use Rattle.html_machine.proofs.TagStates.{tag_name-space, tag_name-slash, tag_name-close, tag_name-more}
 use Rattle.html_machine.proofs.tokenizer.Tokenizer.tag_name_state.Goals as goal
 
