@@ -23,7 +23,8 @@ use Rattle.html_machine.specs.Rest.{rows_of, standing, held_at}
 use Rattle.html_machine.specs.Steps.{IsAt, Keeps}
 use Rattle.html_machine.specs.Words.{is_fitting, ends_raw_text}
 use Rattle.html_machine.proofs.Glue.{keeps_silent, at, no-break}
-use Rattle.html_machine.proofs.RawKinds.{and_parts, letter-no_break, letter-no_end, end-no_letter, fitting-word}
+use Rattle.html_machine.proofs.Words.{and_parts}
+use Rattle.html_machine.proofs.RawKinds.{letter-no_break, letter-no_end, end-no_letter, fitting-word}
 use Rattle.html_machine.proofs.Readings.{sum-zero, reading-is, play-is}
 use Rattle.html_machine.proofs.TagReadings.{name-more}
 

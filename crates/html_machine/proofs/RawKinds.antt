@@ -11,15 +11,12 @@ use Rattle.html_tokens.specs.declared.states.ScriptEscapeKind.TheVariants.{Escap
 use Rattle.html_tokens.specs.Characters.{ends_tag_name, begins_by, begins_name}
 use Rattle.html_tokens.specs.RawText.{is_letters, is_fitting_end, ends_at_tag, kind_behind}
 use Rattle.html_machine.specs.Rest.{kind_after}
+use Rattle.html_machine.proofs.Words.{and_parts}
 use Rattle.html_machine.specs.Words.{same_any_case, ends_raw_text, ends_script, may_escape}
 
 pub and-none : (a : Bool) → (a && false) ≡ false
 and-none true = refl
 and-none false = refl
-
-pub and_parts : (a b : Bool) → (a && b) ≡ true → (a ≡ true) × (b ≡ true)
-and_parts true b h = (refl, h)
-and_parts false b h = absurd cc
 
 -- a letter is none of the characters that matter to raw text
 pub letter-no_open : (c : ℕ) → is_ascii_alphabetic c ≡ true → nat_eq c 60 ≡ false

@@ -27,7 +27,8 @@ use Rattle.html_machine.proofs.Lawful.{noting-lawful}
 use Rattle.html_machine.proofs.Runs.{reading-text, told-more}
 use Rattle.html_machine.proofs.Glue.{Says, took, at, no-break}
 use Rattle.html_machine.proofs.Telling.{keeps_then, not-told_from}
-use Rattle.html_machine.proofs.RawKinds.{and_parts, letter-no_open, letter-no_reference, letter-no_dash, letter-no_null, letter-no_break, kind-same, kind_after-letters, kind-open_slash, double_escaped, fitting-word}
+use Rattle.html_machine.proofs.Words.{and_parts}
+use Rattle.html_machine.proofs.RawKinds.{letter-no_open, letter-no_reference, letter-no_dash, letter-no_null, letter-no_break, kind-same, kind_after-letters, kind-open_slash, double_escaped, fitting-word}
 use Rattle.html_machine.proofs.RawStates.{raw_text, plain-item}
 use Rattle.html_machine.proofs.RawEndTags.{two-says, fits-none}
 

@@ -11,7 +11,8 @@ use Rattle.std.proofs.lemmas.Str.{encodes-chars, encode_ascii, char_from_byte, e
 use Rattle.std.proofs.lemmas.Str.Ascii.{IsAscii-nil, IsAscii-cons, IsAscii-map, lowercase_ascii}
 use Rattle.html_machine.specs.Words.{same_any_case}
 
-and_parts : (a b : Bool) → (a && b) ≡ true → (a ≡ true) × (b ≡ true)
+-- both of what holds together
+pub and_parts : (a b : Bool) → (a && b) ≡ true → (a ≡ true) × (b ≡ true)
 and_parts true b h = (refl, h)
 and_parts false b h = absurd cc
 
