@@ -9,7 +9,9 @@ pub mod Errors
 pub mod Finished
 pub mod Glue
 pub mod Lawful
+pub mod Opens
 pub mod Readings
+pub mod Refused
 pub mod Runs
 pub mod TagEnds
 pub mod TagGlue

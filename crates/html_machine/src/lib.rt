@@ -7,6 +7,7 @@ mod characters;
 mod comment_states;
 mod doctype_states;
 mod letters;
+mod open_states;
 mod tag_states;
 mod tell;
 mod text_states;

@@ -1,18 +1,18 @@
 -- Bytes of a text, and its characters.
 use Rattle.std.proofs.Common.{◌≡◌, ℕ, ◌+◌, ◌<◌, Bool, true, false, List, [], ◌∷◌, ◌++◌, length, take, drop, refl, ap, sym, ◌∙◌, ◌==◌, subst, arith, rules, Bor, Option, Some, None}
-use Rattle.std.specs.Prelude.{IfSome, IsTrue, not, nat_eq, nat_lt, encode_utf8_all, IsUtf8, MatchOption}
+use Rattle.std.specs.Prelude.{IfSome, IsTrue, not, nat_eq, encode_utf8_all, IsUtf8, MatchOption}
 use Rattle.std.specs.Char.{len_utf8}
-use Rattle.std.specs.List.{list_all, starts_with}
+use Rattle.std.specs.List.{starts_with}
 use Rattle.std.specs.Str.{chars, NonePass, NoCharPasses, IsAscii}
 use Rattle.std.specs.Str.Pattern.{FindsPrefixBy, FindsTextPrefix, LacksTextAt, HasPassingCharAt, StripsPrefix}
 use Rattle.std.proofs.lemmas.Bool.Decides.{Decides-eqb}
 use Rattle.std.proofs.lemmas.Slice.Eq.{starts_is}
 use Rattle.std.proofs.lemmas.List.{take-append-drop}
-use Rattle.std.proofs.lemmas.Str.Ascii.{IsAscii-nil, IsAscii-cons}
 use Rattle.std.proofs.lemmas.Bool.{and_parts}
 use lib.Utf8.{scalars}
-use borrow.Author.Tests.{ltb-true}
 use Rattle.std.proofs.lemmas.Str.{chars-append, chars-IsAscii, chars_past_char, encodes_same, encodes-chars, scalars-chars, len_utf8_bounds, encodes-append, encodes-IsAscii, IsUtf8-from_ascii}
+use Rattle.markup.specs.Plain.{is_plain}
+use Rattle.markup.proofs.Plain.{IsAscii-plain}
 use Rattle.html_normal.specs.Cut.{IsBehindWhite, Stops}
 use Rattle.html_normal.specs.Thin.{is_white}
 
@@ -36,25 +36,18 @@ Stops-at p bs i j text here =
     let split : chars (drop i bs) ≡ here.0 ∷ chars (drop j bs) = chars_past_char (drop i bs) (drop j bs) here.0 text here.2.split in
     rw split here.1
 
--- a test of each byte as a fact of each place
-pub IsAscii-from_test : (bs : List ℕ) → IsTrue (list_all (λ b. nat_lt b 128) bs) → IsAscii bs
-IsAscii-from_test [] test = IsAscii-nil
-IsAscii-from_test (b ∷ bs) test =
-    let both = and_parts (nat_lt b 128) (list_all (λ b. nat_lt b 128) bs) test in
-    IsAscii-cons b bs (ltb-true b 128 both.0) (IsAscii-from_test bs both.1)
-
 -- an ASCII front of a text is the same front of its characters
-pub chars-front : (front bs rest : List ℕ) → IsTrue (list_all (λ b. nat_lt b 128) front) → bs ≡ front ++ rest → chars bs ≡ front ++ chars rest
+pub chars-front : (front bs rest : List ℕ) → IsTrue (is_plain front) → bs ≡ front ++ rest → chars bs ≡ front ++ chars rest
 chars-front front bs rest test split =
-    let ascii : IsAscii front = IsAscii-from_test front test in
+    let ascii : IsAscii front = IsAscii-plain front test in
     let e : chars (front ++ rest) ≡ chars front ++ chars rest = chars-append front rest (IsUtf8-from_ascii front ascii) in
     ap chars split ∙ e ∙ ap (λ cs. cs ++ chars rest) (chars-IsAscii front ascii)
 
 -- a text whose characters begin with an ASCII front begins with it
-pub starts_with-chars : (front bs : List ℕ) → IsUtf8 bs → IsTrue (list_all (λ b. nat_lt b 128) front) → LacksTextAt front bs 0
+pub starts_with-chars : (front bs : List ℕ) → IsUtf8 bs → IsTrue (is_plain front) → LacksTextAt front bs 0
     → starts_with nat_eq (chars bs) front ≡ false
 starts_with-chars front bs text test lacks =
-    let ascii : IsAscii front = IsAscii-from_test front test in
+    let ascii : IsAscii front = IsAscii-plain front test in
     let begins = (starts_is Decides-eqb (chars bs) front (starts_with nat_eq (chars bs) front) refl).0 in
     let absurd_of : starts_with nat_eq (chars bs) front ≡ true → ⊥ = λ yes.
     let split : chars bs ≡ front ++ drop (length front) (chars bs) = begins yes in
@@ -64,7 +57,7 @@ starts_with-chars front bs text test lacks =
     is_false (starts_with nat_eq (chars bs) front) absurd_of
 
 -- what stripping an ASCII front from a text tells of its characters
-pub front-stripped : (front bs : List ℕ) (r : Option (Bor (List ℕ))) → IsUtf8 bs → IsTrue (list_all (λ b. nat_lt b 128) front)
+pub front-stripped : (front bs : List ℕ) (r : Option (Bor (List ℕ))) → IsUtf8 bs → IsTrue (is_plain front)
     → MatchOption r (FindsTextPrefix front bs None) (λ x. StripsPrefix (FindsTextPrefix front) bs x.now)
     → MatchOption r (starts_with nat_eq (chars bs) front ≡ false) (λ rest. chars bs ≡ front ++ chars rest.now)
 front-stripped front bs None text test h = starts_with-chars front bs text test h

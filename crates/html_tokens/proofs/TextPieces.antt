@@ -5,7 +5,7 @@ use Rattle.std.proofs.lemmas.List.{append-nil}
 use Rattle.std.proofs.lemmas.Result.{IfOk-weaker}
 use Rattle.markup.specs.declared.fault.ParseFault.{ParseFault}
 use Rattle.markup.specs.declared.fault.ParseFault.TheVariants.{Memory, TokenInText, Ended, Shape, Failed}
-use Rattle.html_tokens.specs.Sink.{◌>>=◌, Step, Refusal, SinkLaws, Gives, IsIdle, IsRefusal}
+use Rattle.html_tokens.specs.Sink.{◌>>=◌, Step, Reply, Refusal, SinkLaws, Gives, IsIdle, IsRefusal}
 use Rattle.html_tokens.proofs.Readings.{bind_where}
 use Rattle.html_tokens.specs.Pieces.{joined, told, Refuses}
 use Rattle.html_tokens.specs.declared.replies.TokenSinkResult.TheVariants.{Continue}
@@ -15,6 +15,14 @@ use Rattle.html_tokens.specs.declared.token.Token.TheVariants.{CharacterTokens}
 bind-Ok : {A : Type 0} (r : Result A Refusal) → (r >>= Ok) ≡ r
 bind-Ok (Ok p) = refl
 bind-Ok (Err refusal) = refl
+
+-- the fault of a call is the refusal of its step, if it is one
+pub given-refused : {S H : Type 0} (number : H → ℕ) (given : Result (S × Reply) Refusal) (fault : ParseFault) (new : S) → Gives number given (Err fault) new → Refuses given fault
+given-refused number given Memory new h = tt
+given-refused number given TokenInText new h = h
+given-refused number given Ended new h = h
+given-refused number given Shape new h = h
+given-refused number given Failed new h = tt
 
 module _ {S : Type 0} (is_sound : S → Type 0) (step : Step S) (ended : S → S) (is_quiet : S → Token → Bool) (laws : SinkLaws is_sound step ended is_quiet) where
   -- one piece or more make of a sound state what their joined text makes of it, told with any line

@@ -4,7 +4,7 @@ ghost use Rattle.html_tokens.specs.Pieces.{joined, Refuses};
 ghost use Rattle.html_tokens.specs.Sink.{tells_failed, fails, OnRefused, IsRefusal, one_more};
 ghost use Rattle.html_tokens.specs.declared.replies.TokenSinkResult.TheVariants.{Continue};
 ghost use Rattle.html_tokens.specs.declared.token.Token.{Token};
-ghost use Rattle.html_tokens.specs.declared.token.Token.TheVariants.{CharacterTokens};
+ghost use Rattle.html_tokens.specs.declared.token.Token.TheVariants.{CharacterTokens, ParseError};
 
 use crate::sink::TokenSink;
 use crate::token::Token;
@@ -41,6 +41,7 @@ where
     requires { S.is_sound (S.view sink.old) }
     ensures same { OnOk result (S.view sink.new ≡ S.view sink.old) }
     ensures counted { OnOk result (S.errors sink.new ≡ one_more (S.errors sink.old)) }
+    ensures refusal { IfErr result (λ fault. Refuses (S.step (S.view sink.old) (ParseError words.entry) line_number) fault) }
     ensures refused { IfErr result (λ fault. IsRefusal fault → (token : Token) (line : ℕ) → IsErr (S.step (S.view sink.old) token line)) }
     ensures refused_same { OnRefused result (S.view sink.new ≡ S.view sink.old) }
     ensures failed_before { tells_failed result ≡ S.has_failed sink.old }

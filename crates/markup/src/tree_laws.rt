@@ -1,8 +1,10 @@
-//! Laws of trees, over any sink: what its calls keep, as contracts of functions that make one call.
-ghost use Rattle.std.specs.Prelude.{◌≡◌, ℕ, IsSome, Some, true, codes};
+//! Laws of trees, over any sink: what its calls keep, as contracts of functions that make one call. What the call does stands beside what it keeps, in the words of [`TreeSink`].
+ghost use Rattle.std.specs.Prelude.{◌≡◌, ◌≤◌, ℕ, IfErr, IfOk, IsSome, OnErr, OnOk, Some, true, codes};
+ghost use Rattle.markup.specs.declared.fault.ParseFault.TheVariants.{Memory};
 ghost use Rattle.markup.specs.Names.{is_html_name};
 ghost use Rattle.markup.specs.Named.{IsTree};
-ghost use Rattle.markup.specs.Forest.{Above, IsNode, IsParent, MayPut, above_of, children_of, is_among, parent_of, place_before, place_near};
+ghost use Rattle.markup.specs.Forest.{Above, IsNode, IsParent, MayPut, above_of, add_attributes, add_error, children_of, create_element, is_among, node_count, parent_of, place_before, place_near, put_child, put_new, remove, reparent_children, set_quirks, with_node};
+ghost use Rattle.markup.specs.Forest.NodeData.{Comment, Doctype, ProcessingInstruction};
 ghost use Rattle.markup.specs.Forest.Place.{Last};
 
 use crate::attributes::Attributes;
@@ -43,6 +45,8 @@ pub fn same_node_is_transitive<S: TreeSink>(
 
 /// What a sink has built is a tree: each node has at most one parent, and none stands above itself, where a template stands above its contents.
 pub fn document_of_tree<S: TreeSink>(sink: &mut S) -> S::Handle
+    ensures document { S.node result ≡ 0 }
+    ensures same { S.forest sink.new ≡ S.forest sink.old }
     ensures tree { IsTree (S.forest sink.new) }
     ensures one_parent { (p q n : ℕ) → is_among n (children_of (S.forest sink.new) p) ≡ true → is_among n (children_of (S.forest sink.new) q) ≡ true → p ≡ q }
     ensures no_cycle { (n m : ℕ) → above_of (S.forest sink.new) n ≡ Some m → Above (S.forest sink.new) n m → ⊥ }
@@ -53,7 +57,8 @@ pub fn document_of_tree<S: TreeSink>(sink: &mut S) -> S::Handle
 /// A parse error leaves a tree.
 pub fn parse_error_keeps_tree<S: TreeSink>(sink: &mut S, message: CowStr<'static>)
     requires { IsTree (S.forest sink.old) }
-    ensures { IsTree (S.forest sink.new) }
+    ensures told { S.forest sink.new ≡ add_error (S.forest sink.old) }
+    ensures tree { IsTree (S.forest sink.new) }
 {
     sink.parse_error(message);
 }
@@ -67,7 +72,11 @@ pub fn create_element_keeps_tree<S: TreeSink>(
 ) -> Result<S::Handle, ParseFault>
     requires tree { IsTree (S.forest sink.old) }
     requires flags { flags.template ≡ is_html_name (Some name) (codes "template") }
-    ensures { IsTree (S.forest sink.new) }
+    ensures named { IfOk result (λ made. S.node made ≡ node_count (S.forest sink.old)) }
+    ensures ok { OnOk result (S.forest sink.new ≡ create_element (S.forest sink.old) name attributes flags) }
+    ensures err { OnErr result (S.forest sink.new ≡ S.forest sink.old) }
+    ensures fault { IfErr result (λ fault. fault ≡ Memory) }
+    ensures tree { IsTree (S.forest sink.new) }
 {
     sink.create_element(name, attributes, flags)
 }
@@ -78,7 +87,11 @@ pub fn create_comment_keeps_tree<S: TreeSink>(
     text: Text,
 ) -> Result<S::Handle, ParseFault>
     requires { IsTree (S.forest sink.old) }
-    ensures { IsTree (S.forest sink.new) }
+    ensures named { IfOk result (λ made. S.node made ≡ node_count (S.forest sink.old)) }
+    ensures ok { OnOk result (S.forest sink.new ≡ with_node (S.forest sink.old) (Comment text)) }
+    ensures err { OnErr result (S.forest sink.new ≡ S.forest sink.old) }
+    ensures fault { IfErr result (λ fault. fault ≡ Memory) }
+    ensures tree { IsTree (S.forest sink.new) }
 {
     sink.create_comment(text)
 }
@@ -90,7 +103,11 @@ pub fn create_pi_keeps_tree<S: TreeSink>(
     text: Text,
 ) -> Result<S::Handle, ParseFault>
     requires { IsTree (S.forest sink.old) }
-    ensures { IsTree (S.forest sink.new) }
+    ensures named { IfOk result (λ made. S.node made ≡ node_count (S.forest sink.old)) }
+    ensures ok { OnOk result (S.forest sink.new ≡ with_node (S.forest sink.old) (ProcessingInstruction target text)) }
+    ensures err { OnErr result (S.forest sink.new ≡ S.forest sink.old) }
+    ensures fault { IfErr result (λ fault. fault ≡ Memory) }
+    ensures tree { IsTree (S.forest sink.new) }
 {
     sink.create_pi(target, text)
 }
@@ -104,7 +121,11 @@ pub fn append_keeps_tree<S: TreeSink>(
     requires tree { IsTree (S.forest sink.old) }
     requires parent { IsParent (S.forest sink.old) (S.node parent.now) }
     requires child { MayPut S.node (S.forest sink.old) (Last (S.node parent.now)) child }
-    ensures { IsTree (S.forest sink.new) }
+    ensures ok { OnOk result (S.forest sink.new ≡ put_child S.node (S.forest sink.old) (Last (S.node parent.now)) child) }
+    ensures err { OnErr result (S.forest sink.new ≡ S.forest sink.old) }
+    ensures fault { IfErr result (λ fault. fault ≡ Memory) }
+    ensures grows { node_count (S.forest sink.old) ≤ node_count (S.forest sink.new) }
+    ensures tree { IsTree (S.forest sink.new) }
 {
     sink.append(parent, child)
 }
@@ -118,7 +139,11 @@ pub fn append_before_sibling_keeps_tree<S: TreeSink>(
     requires tree { IsTree (S.forest sink.old) }
     requires sibling { IsSome (parent_of (S.forest sink.old) (S.node sibling.now)) }
     requires child { MayPut S.node (S.forest sink.old) (place_before (S.node sibling.now) (parent_of (S.forest sink.old) (S.node sibling.now))) child }
-    ensures { IsTree (S.forest sink.new) }
+    ensures ok { OnOk result (S.forest sink.new ≡ put_child S.node (S.forest sink.old) (place_before (S.node sibling.now) (parent_of (S.forest sink.old) (S.node sibling.now))) child) }
+    ensures err { OnErr result (S.forest sink.new ≡ S.forest sink.old) }
+    ensures fault { IfErr result (λ fault. fault ≡ Memory) }
+    ensures grows { node_count (S.forest sink.old) ≤ node_count (S.forest sink.new) }
+    ensures tree { IsTree (S.forest sink.new) }
 {
     sink.append_before_sibling(sibling, child)
 }
@@ -134,7 +159,11 @@ pub fn append_based_on_parent_node_keeps_tree<S: TreeSink>(
     requires element { IsNode (S.forest sink.old) (S.node element.now) }
     requires previous { IsParent (S.forest sink.old) (S.node previous.now) }
     requires child { MayPut S.node (S.forest sink.old) (place_near (S.node element.now) (S.node previous.now) (parent_of (S.forest sink.old) (S.node element.now))) child }
-    ensures { IsTree (S.forest sink.new) }
+    ensures ok { OnOk result (S.forest sink.new ≡ put_child S.node (S.forest sink.old) (place_near (S.node element.now) (S.node previous.now) (parent_of (S.forest sink.old) (S.node element.now))) child) }
+    ensures err { OnErr result (S.forest sink.new ≡ S.forest sink.old) }
+    ensures fault { IfErr result (λ fault. fault ≡ Memory) }
+    ensures grows { node_count (S.forest sink.old) ≤ node_count (S.forest sink.new) }
+    ensures tree { IsTree (S.forest sink.new) }
 {
     sink.append_based_on_parent_node(element, previous, child)
 }
@@ -147,7 +176,11 @@ pub fn append_doctype_to_document_keeps_tree<S: TreeSink>(
     system_id: Text,
 ) -> Result<(), ParseFault>
     requires { IsTree (S.forest sink.old) }
-    ensures { IsTree (S.forest sink.new) }
+    ensures ok { OnOk result (S.forest sink.new ≡ put_new (S.forest sink.old) (Last 0) (Doctype name public_id system_id)) }
+    ensures err { OnErr result (S.forest sink.new ≡ S.forest sink.old) }
+    ensures fault { IfErr result (λ fault. fault ≡ Memory) }
+    ensures grows { node_count (S.forest sink.old) ≤ node_count (S.forest sink.new) }
+    ensures tree { IsTree (S.forest sink.new) }
 {
     sink.append_doctype_to_document(name, public_id, system_id)
 }
@@ -155,7 +188,8 @@ pub fn append_doctype_to_document_keeps_tree<S: TreeSink>(
 /// Another quirks mode leaves a tree.
 pub fn set_quirks_mode_keeps_tree<S: TreeSink>(sink: &mut S, mode: QuirksMode)
     requires { IsTree (S.forest sink.old) }
-    ensures { IsTree (S.forest sink.new) }
+    ensures mode { S.forest sink.new ≡ set_quirks (S.forest sink.old) mode }
+    ensures tree { IsTree (S.forest sink.new) }
 {
     sink.set_quirks_mode(mode);
 }
@@ -168,7 +202,10 @@ pub fn add_attrs_if_missing_keeps_tree<S: TreeSink>(
 ) -> Result<(), ParseFault>
     requires tree { IsTree (S.forest sink.old) }
     requires target { IsNode (S.forest sink.old) (S.node target.now) }
-    ensures { IsTree (S.forest sink.new) }
+    ensures ok { OnOk result (S.forest sink.new ≡ add_attributes (S.forest sink.old) (S.node target.now) attributes) }
+    ensures err { OnErr result (S.forest sink.new ≡ S.forest sink.old) }
+    ensures fault { IfErr result (λ fault. fault ≡ Memory) }
+    ensures tree { IsTree (S.forest sink.new) }
 {
     sink.add_attrs_if_missing(target, attributes)
 }
@@ -177,7 +214,8 @@ pub fn add_attrs_if_missing_keeps_tree<S: TreeSink>(
 pub fn remove_from_parent_keeps_tree<S: TreeSink>(sink: &mut S, target: &S::Handle)
     requires tree { IsTree (S.forest sink.old) }
     requires target { IsNode (S.forest sink.old) (S.node target.now) }
-    ensures { IsTree (S.forest sink.new) }
+    ensures removed { S.forest sink.new ≡ remove (S.forest sink.old) (S.node target.now) }
+    ensures tree { IsTree (S.forest sink.new) }
 {
     sink.remove_from_parent(target);
 }
@@ -192,7 +230,10 @@ pub fn reparent_children_keeps_tree<S: TreeSink>(
     requires from { IsNode (S.forest sink.old) (S.node from.now) }
     requires to { IsParent (S.forest sink.old) (S.node to.now) }
     requires apart { (child : ℕ) → is_among child (children_of (S.forest sink.old) (S.node from.now)) ≡ true → Above (S.forest sink.old) child (S.node to.now) → ⊥ }
-    ensures { IsTree (S.forest sink.new) }
+    ensures ok { OnOk result (S.forest sink.new ≡ reparent_children (S.forest sink.old) (S.node from.now) (S.node to.now)) }
+    ensures err { OnErr result (S.forest sink.new ≡ S.forest sink.old) }
+    ensures fault { IfErr result (λ fault. fault ≡ Memory) }
+    ensures tree { IsTree (S.forest sink.new) }
 {
     sink.reparent_children(from, to)
 }

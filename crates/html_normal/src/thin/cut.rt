@@ -1,13 +1,14 @@
 //! How a text is cut at its front.
-ghost use Rattle.std.specs.Prelude.{◌≡◌, ◌+◌, ◌++◌, ◌<◌, ◌≤◌, false, length, nat_eq, nat_lt, not, IfSome, IsTrue, MatchOption};
-ghost use Rattle.std.specs.List.{list_all, starts_with};
+ghost use Rattle.std.specs.Prelude.{◌≡◌, ◌+◌, ◌++◌, ◌<◌, ◌≤◌, false, length, nat_eq, not, IfSome, IsTrue, MatchOption};
+ghost use Rattle.std.specs.List.{starts_with};
 ghost use Rattle.std.specs.Str.{NonePass, chars};
+ghost use Rattle.markup.specs.Plain.{is_plain};
 ghost use Rattle.html_normal.specs.Cut.{IsBehindWhite, Stops};
 ghost use Rattle.html_normal.specs.Thin.{is_forbidden, is_white};
 
 // The text behind an ASCII front that it begins with.
 pub(super) fn after<'a>(text: &'a str, front: &str) -> Option<&'a str>
-    requires { IsTrue (list_all (λ b. nat_lt b 128) front.now) }
+    requires { IsTrue (is_plain front.now) }
     ensures stripped { MatchOption result (starts_with nat_eq (chars text.now) front.now ≡ false) (λ rest. chars text.now ≡ front.now ++ chars rest.now) }
     ensures shorter { IfSome result (λ rest. length rest.now + length front.now ≡ length text.now) }
 {

@@ -182,17 +182,3 @@ fn refused_memory_is_told(rt: HostRuntime) {
         Err(fault) => assert_eq!(rt; fault, TableFault::Memory),
     }
 }
-
-#[test]
-fn rows_are_copied(rt: HostRuntime) -> Result<(), Fail> {
-    let row = ReferenceRow::new(
-        String::from_str(rt.alloc(), "NotEqualTilde;")?,
-        0x2242,
-        Some(0x338),
-    );
-    let copied = row.copy(rt.alloc())?;
-    assert_eq!(rt; copied.name.as_str(), "NotEqualTilde;");
-    assert_eq!(rt; copied.first, 0x2242);
-    assert_eq!(rt; copied.second, Some(0x338));
-    Ok(())
-}

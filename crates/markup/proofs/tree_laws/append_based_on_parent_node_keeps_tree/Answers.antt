@@ -2,8 +2,8 @@ use Rattle.markup.specs.Forest.{parent_of, place_near}
 use Rattle.markup.proofs.Trees.{IsPlace-near, IsTree-either, IsTree-put_child}
 use Rattle.markup.proofs.tree_laws.append_based_on_parent_node_keeps_tree.Goals as goal
 
-pub returns : goal.returns
-returns g c =
+pub returns-clause-tree : goal.returns-clause-tree
+returns-clause-tree g c =
     let f = g.S.TreeSink.forest c.args.sink.now in
     let element = g.S.TreeSink.node c.args.element.now in
     let previous = g.S.TreeSink.node c.args.previous.now in
