@@ -1,3 +1,4 @@
+pub mod Input
 pub mod Quotes
 pub mod Rest
 pub mod Steps

@@ -6,6 +6,7 @@ mod cdata_states;
 mod characters;
 mod comment_states;
 mod doctype_states;
+mod input;
 mod letters;
 mod open_states;
 mod raw_states;
