@@ -149,9 +149,9 @@ module _ {K S H : Type 0} (step : Step S) (view : K → S) (cdata : S → Bool) 
     unfolding held_at
     before_name-white from e = stays state.BeforeDoctypeName from (λ b s t. behind-c _ _ b s t (skip-white (doctype_name_at (standing old InData)) c t e))
 
-    pub name-white : (front : List ℕ) (d : Doctype) → IsAt old state.DoctypeName → is_white_space c ≡ true → front ≡ [] → d ≡ record no_doctype { name = Some old.temporary } → Took step view cdata ends sound number old (record old { temporary = front; doctype = d; state = state.AfterDoctypeName }) c flow.Continue
+    pub name-white : (front word : List ℕ) (d : Doctype) → IsAt old state.DoctypeName → is_white_space c ≡ true → front ≡ [] → word ≡ [] → d ≡ record no_doctype { name = Some old.temporary } → Took step view cdata ends sound number old (record old { temporary = front; doctype = d; keyword = word; state = state.AfterDoctypeName }) c flow.Continue
     unfolding held_at
-    name-white front d from e is is' = rw (is, is') (moves state.DoctypeName state.AfterDoctypeName [] (record no_doctype { name = Some old.temporary }) from (λ b s t.
+    name-white front word d from e is is' is'' = rw (is, is', is'') (took step view cdata ends sound number old (record old { temporary = []; doctype = record no_doctype { name = Some old.temporary }; keyword = []; state = state.AfterDoctypeName }) c state.DoctypeName state.AfterDoctypeName from (record { state = refl; fresh = from.fresh }) refl refl ok (λ b s t.
         behind-c _ _ b s t (name-ends (standing old InData) old.temporary c t (word-white c e) ∙ skip-white (keyword_at (standing old InData) (record no_doctype { name = Some old.temporary })) c t e)))
 
     pub before_identifier-white : (kind : DoctypeIdKind) → IsAt old (state.BeforeDoctypeIdentifier kind) → is_white_space c ≡ true → Took step view cdata ends sound number old old c flow.Continue
