@@ -1,11 +1,10 @@
 -- What stands behind "<!", and what the machine makes of it.
-use Rattle.std.proofs.Common.{◌≡◌, ◌∙◌, ℕ, ◌+◌, length, Bool, true, false, ◌||◌, nat_eq, List, [], ◌∷◌, ◌++◌, drop, Result, Ok, Err, refl, sym, ap, append_assoc}
+use Rattle.std.proofs.Common.{◌≡◌, ◌∙◌, ℕ, ◌+◌, length, Bool, true, false, ◌||◌, nat_eq, List, [], ◌∷◌, ◌++◌, drop, Result, refl, sym, ap, append_assoc}
 use Rattle.std.specs.Prelude.{◌&&◌, codes}
 use Rattle.std.specs.List.{list_all}
 use Rattle.markup.specs.declared.fault.ParseFault.{ParseFault}
 use Rattle.html_tokens.specs.declared.replies.ProcessResult.{ProcessResult}
 use Rattle.html_tokens.specs.declared.replies.ProcessResult.TheVariants as flow
-use Rattle.html_tokens.specs.declared.states.State.{State}
 use Rattle.html_tokens.specs.declared.states.State.TheVariants as state
 use Rattle.html_tokens.specs.declared.token.Token.{Token}
 use Rattle.html_tokens.specs.Characters.{begins, begins_any_case}
@@ -19,7 +18,7 @@ use Rattle.html_tokens.specs.Sink.{Step, Reply, SinkLaws}
 use Rattle.html_machine.specs.declared.keyword.Word.{Word}
 use Rattle.html_machine.specs.declared.keyword.Word.TheVariants as word
 use Rattle.html_machine.specs.declared.tokenizer.Tokenizer.{Tokenizer}
-use Rattle.html_machine.specs.Keywords.{spelling, is_any_case, becomes, may_become, may_declare, IsPart, MakesNoWord, OpensNothing}
+use Rattle.html_machine.specs.Keywords.{becomes, may_become, may_declare, IsPart, MakesNoWord, OpensNothing}
 use Rattle.html_machine.specs.Rest.{rows_of, standing, held_at}
 use Rattle.html_machine.specs.Steps.{IsAt, Took, Keeps}
 use Rattle.html_machine.proofs.Ends.{behind-one}

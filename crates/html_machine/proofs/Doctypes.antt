@@ -93,7 +93,7 @@ module _ {K S H : Type 0} (step : Step S) (view : K → S) (cdata : S → Bool) 
       → Fails step view cdata ends sound number (step (view old.sink) (DoctypeToken d) (line_number old.stream.breaks)) fault → DoctypeSays st old cs d → Keeps step view cdata ends sound number old new c result
   doctype-failed old new c st cs d result fault e from ok is fails says = emitted-failed step view cdata ends sound number quiet laws old (emitted old cs) new c st (DoctypeToken d) result fault e from ok is fails says
 
-  at-mark : (old : Tokenizer K) (b : ℕ) (s : S × List Reply) → sound s.0 → (d : Doctype) (t : List ℕ) (i : Item) → i ≡ given (standing old InData) d 1
+  pub at-mark : (old : Tokenizer K) (b : ℕ) (s : S × List Reply) → sound s.0 → (d : Doctype) (t : List ℕ) (i : Item) → i ≡ given (standing old InData) d 1
       → play (noting step) (noting_cdata cdata) (noting_end ends) (rows_of old) i b s (62 ∷ t) ≡ (noting step s (DoctypeToken d) (line_number b) >>= λ p. reading (noting step) (noting_cdata cdata) (noting_end ends) (rows_of old) (standing old InData) (b + 0) p.0 t)
   at-mark old b s h d t i is = end-says step view cdata ends sound number quiet laws old b s h (DoctypeToken d) t (62 ∷ t) 1 i tt is refl refl
 

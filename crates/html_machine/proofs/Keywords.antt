@@ -1,18 +1,18 @@
 -- What the beginnings of words say of the characters that follow.
-use Rattle.std.proofs.Common.{◌≡◌, ◌∙◌, ℕ, zero, suc, ◌+◌, ◌≤◌, ◌<◌, length, Bool, true, false, ◌||◌, nat_eq, nat_lt, List, [], ◌∷◌, ◌++◌, slice_index_or, refl, sym, ap, arith, append_assoc, append-nil}
+use Rattle.std.proofs.Common.{◌≡◌, ◌∙◌, ℕ, suc, ◌+◌, ◌≤◌, ◌<◌, length, Bool, true, false, ◌||◌, nat_eq, nat_lt, List, [], ◌∷◌, ◌++◌, slice_index_or, refl, sym, ap, arith, append_assoc, append-nil}
 use Rattle.std.specs.Prelude.{◌&&◌, zip, codes, if◌then◌else◌}
 use Rattle.std.specs.Char.{to_ascii_lowercase, is_ascii_alphabetic}
 use Rattle.std.specs.List.{list_all}
 use Rattle.std.proofs.lemmas.Bool.{eqb-true}
 use Rattle.std.proofs.lemmas.Bool.Decides.{nat_tests}
 use Rattle.html_tokens.specs.Characters.{shown, begins, begins_any_case, begins_by, is_white_space}
-use Rattle.html_tokens.specs.Comments.{bogus_comment_after, bogus_by}
+use Rattle.html_tokens.specs.Comments.{bogus_comment_after}
 use Rattle.html_tokens.specs.declared.token.Doctype.{Doctype}
 use Rattle.html_tokens.specs.Doctypes.{junk_after}
-use Rattle.html_tokens.specs.Item.{Stand, Item, behind, behind_all}
+use Rattle.html_tokens.specs.Item.{Stand, behind, behind_all}
 use Rattle.html_machine.specs.declared.keyword.Word.{Word}
 use Rattle.html_machine.specs.declared.keyword.Word.TheVariants as word
-use Rattle.html_machine.specs.Keywords.{letter, spelling, is_any_case, has_front, leads, is_spelt, is_begun, becomes, may_become, IsPart}
+use Rattle.html_machine.specs.Keywords.{letter, spelling, is_any_case, has_front, is_spelt, is_begun, becomes, may_become, IsPart}
 
 and_parts : (a b : Bool) → (a && b) ≡ true → (a ≡ true) × (b ≡ true)
 and_parts true b h = (refl, h)

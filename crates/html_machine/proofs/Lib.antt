@@ -4,6 +4,7 @@ pub mod AttributeValues
 pub mod CdataStates
 pub mod Comments
 pub mod Declarations
+pub mod DoctypeKeywords
 pub mod Doctypes
 pub mod Ends
 pub mod Errors

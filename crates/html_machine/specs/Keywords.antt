@@ -73,3 +73,17 @@ pub record MakesNoWord (cs : List ℕ) (c : ℕ) : Type 0 where
   pub dashes : becomes Dashes (cs ++ c ∷ []) ≡ false
   pub doctype : becomes Doctype (cs ++ c ∷ []) ≡ false
   pub cdata : becomes Cdata (cs ++ c ∷ []) ≡ false
+
+-- whether the characters cs and then c are the beginning of a word behind a doctype's name
+abbrev pub may_identify : List ℕ → ℕ → Bool
+may_identify cs c = may_become Public (cs ++ c ∷ []) || may_become System (cs ++ c ∷ [])
+
+-- Behind the characters cs, c makes neither word behind a doctype's name whole.
+pub record MakesNoIdentifier (cs : List ℕ) (c : ℕ) : Type 0 where
+  pub public_word : becomes Public (cs ++ c ∷ []) ≡ false
+  pub system_word : becomes System (cs ++ c ∷ []) ≡ false
+
+-- the first of the characters cs and then c
+abbrev pub front_of : List ℕ → ℕ → ℕ
+front_of [] c = c
+front_of (x ∷ cs) c = x

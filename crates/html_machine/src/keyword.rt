@@ -2,8 +2,10 @@
 ghost use Rattle.std.specs.Prelude.{◌≡◌, ◌∷◌, [], ◌++◌, ◌==◌, ◌<◌, nat_eq, IfOk, IfErr, OnOk, length, zip};
 ghost use Rattle.std.specs.List.{list_all};
 ghost use Rattle.markup.specs.declared.fault.ParseFault.TheVariants.{Memory};
-ghost use Rattle.html_machine.specs.Keywords.{spelling, is_any_case, letter, leads, becomes, may_become, may_declare, IsPart};
+ghost use Rattle.html_tokens.specs.Characters.{ends_word};
+ghost use Rattle.html_machine.specs.Keywords.{spelling, is_any_case, letter, leads, becomes, may_become, may_declare, may_identify, front_of, IsPart};
 
+use crate::characters::ends_word;
 use crate::tell::empty;
 use markup::{ParseFault, Text};
 use std::alloc::Global;
@@ -143,6 +145,21 @@ impl Keyword {
         self.may_become(c, Word::Dashes)
             || self.may_become(c, Word::Doctype)
             || self.may_become(c, Word::Cdata)
+    }
+
+    /// Whether this, with c behind it, is the beginning of a word behind a doctype's name.
+    pub(crate) fn may_identify(&self, c: char) -> bool
+        ensures { result ≡ may_identify self.now c }
+    {
+        self.may_become(c, Word::Public) || self.may_become(c, Word::System)
+    }
+
+    /// Whether c ends the word before it begins.
+    pub(crate) fn is_ended(&self, c: char) -> bool
+        ensures is { result ≡ ends_word (front_of self.now c) }
+        ensures part { IsPart self.now }
+    {
+        self.is_empty() && ends_word(c)
     }
 
     /// The characters as a text.

@@ -6,6 +6,7 @@ mod cdata_states;
 mod characters;
 mod comment_states;
 mod declaration_states;
+mod doctype_keyword_states;
 mod doctype_states;
 mod keyword;
 mod letters;

@@ -1,4 +1,4 @@
-use Rattle.std.proofs.Common.{◌≡◌, ◌∙◌, [], ◌∷◌, ◌++◌, refl, sym, ap}
+use Rattle.std.proofs.Common.{◌∙◌, [], ◌∷◌, ◌++◌, sym}
 use Rattle.html_machine.specs.Keywords.{spelling, is_any_case}
 use Rattle.html_machine.proofs.Keywords.{spelt-at, spelt-not}
 use Rattle.html_machine.proofs.keyword.Keyword.becomes.Goals as goal

@@ -1,6 +1,6 @@
-use Rattle.std.proofs.Common.{◌≡◌, ◌∙◌, ◌≤◌, ◌<◌, length, [], ◌∷◌, refl, sym, ap}
+use Rattle.std.proofs.Common.{◌∙◌, ◌≤◌, ◌<◌, length, [], ◌∷◌, sym}
 use Rattle.html_machine.specs.Keywords.{spelling, is_any_case}
-use Rattle.html_machine.proofs.Keywords.{agree, front-long, front-not, leads-at}
+use Rattle.html_machine.proofs.Keywords.{front-long, front-not, leads-at}
 use Rattle.html_machine.proofs.keyword.Keyword.leads.Goals as goal
 
 pub returns-then-read-spelling-clause-is : goal.returns-then-read-spelling-clause-is
