@@ -197,7 +197,7 @@ module _ {K S H : Type 0} (step : Step S) (view : K → S) (cdata : S → Bool) 
       }
 
   -- The character goes on to where the machine makes of it, and of all that follows, what was to be made.
-  keeps-along : (old mid new : Tokenizer K) (c : ℕ) (result : Result (ProcessResult H) ParseFault) → mid.stream ≡ old.stream
+  pub keeps-along : (old mid new : Tokenizer K) (c : ℕ) (result : Result (ProcessResult H) ParseFault) → mid.stream ≡ old.stream
       → ((pauses : List Reply) (t : List ℕ) → now step view cdata ends sound number old old.stream.breaks (view old.sink, pauses) (c ∷ t) ≡ now step view cdata ends sound number mid old.stream.breaks (view mid.sink, pauses) (c ∷ t))
       → Keeps step view cdata ends sound number mid new c result → Keeps step view cdata ends sound number old new c result
   keeps-along old mid new c (Ok result) stream e h = record {

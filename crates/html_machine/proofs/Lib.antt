@@ -3,11 +3,14 @@ pub mod AttributeReadings
 pub mod AttributeValues
 pub mod CdataStates
 pub mod Comments
+pub mod Declarations
+pub mod DoctypeKeywords
 pub mod Doctypes
 pub mod Ends
 pub mod Errors
 pub mod Finished
 pub mod Glue
+pub mod Keywords
 pub mod Lawful
 pub mod Opens
 pub mod RawEndTags

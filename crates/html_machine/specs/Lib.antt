@@ -1,4 +1,5 @@
 pub mod Input
+pub mod Keywords
 pub mod Quotes
 pub mod Rest
 pub mod Steps
