@@ -200,3 +200,25 @@ module _ {K S H : Type 0} (step : Step S) (view : K → S) (cdata : S → Bool) 
         ∙ behind-one step view cdata ends sound number quiet laws old 45 refl (behind (behind left)) (behind left) b s (33 ∷ c ∷ t) refl
         ∙ behind-one step view cdata ends sound number quiet laws old 33 refl (behind left) left b s (c ∷ t) refl
         ∙ ap (λ x. play (noting step) (noting_cdata cdata) (noting_end ends) (rows_of old) (comment_after (standing old InData) x (c ∷ t)) b s (c ∷ t)) (sym is))
+
+  -- States within a comment that are never entered are read as those that they stand for.
+  module _ (old new : Tokenizer K) (c : ℕ) (result : Result (ProcessResult H) ParseFault) where
+    stands-for : (st st' : State) → IsAt old st → ((b : ℕ) (s : S × List Reply) (t : List ℕ) → at step view cdata ends sound number st old b s (c ∷ t) ≡ at step view cdata ends sound number st' (record old { state = st' }) b s (c ∷ t))
+        → Keeps step view cdata ends sound number (record old { state = st' }) new c result → Keeps step view cdata ends sound number old new c result
+    stands-for st st' from law keeps = keeps_silent step view cdata ends sound number old (record old { state = st' }) new c st st' result from (record { state = refl; fresh = from.fresh }) refl refl law keeps
+
+    pub less-than-kept : IsAt old state.CommentLessThanSign → Keeps step view cdata ends sound number (record old { state = state.Comment }) new c result → Keeps step view cdata ends sound number old new c result
+    unfolding held_at
+    less-than-kept from keeps = stands-for state.CommentLessThanSign state.Comment from (λ b s t. refl) keeps
+
+    pub less-than-bang_kept : IsAt old state.CommentLessThanSignBang → Keeps step view cdata ends sound number (record old { state = state.Comment }) new c result → Keeps step view cdata ends sound number old new c result
+    unfolding held_at
+    less-than-bang_kept from keeps = stands-for state.CommentLessThanSignBang state.Comment from (λ b s t. refl) keeps
+
+    pub less-than-dash_kept : IsAt old state.CommentLessThanSignBangDash → Keeps step view cdata ends sound number (record old { state = state.CommentEndDash }) new c result → Keeps step view cdata ends sound number old new c result
+    unfolding held_at
+    less-than-dash_kept from keeps = stands-for state.CommentLessThanSignBangDash state.CommentEndDash from (λ b s t. refl) keeps
+
+    pub less-than-dashes_kept : IsAt old state.CommentLessThanSignBangDashDash → Keeps step view cdata ends sound number (record old { state = state.CommentEnd }) new c result → Keeps step view cdata ends sound number old new c result
+    unfolding held_at
+    less-than-dashes_kept from keeps = stands-for state.CommentLessThanSignBangDashDash state.CommentEnd from (λ b s t. refl) keeps

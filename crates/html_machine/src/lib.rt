@@ -14,6 +14,7 @@ mod letters;
 mod open_states;
 mod raw_states;
 mod script_states;
+mod step;
 mod tag_states;
 mod tell;
 mod text_states;
