@@ -2,6 +2,7 @@ pub mod AttributeNames
 pub mod AttributeReadings
 pub mod AttributeValues
 pub mod CdataStates
+pub mod CharRefs
 pub mod Comments
 pub mod Doctypes
 pub mod Ends

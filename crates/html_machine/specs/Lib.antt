@@ -1,3 +1,4 @@
+pub mod CharRefs
 pub mod Quotes
 pub mod Rest
 pub mod Steps

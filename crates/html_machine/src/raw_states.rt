@@ -12,9 +12,9 @@ use crate::characters::is_white_space;
 use crate::letters::Letters;
 use crate::tell::empty;
 use crate::tokenizer::Tokenizer;
+use html_tokens::ProcessResult;
 use html_tokens::sink::TokenSink;
 use html_tokens::states::{RawKind, ScriptEscapeKind, State};
-use html_tokens::ProcessResult;
 use markup::ParseFault;
 
 /// Whether the fitting end tag ends text of this kind.
