@@ -1,8 +1,9 @@
 -- A character reference is decided once what is held of it can't go on.
-use Rattle.std.proofs.Common.{◌≡◌, ◌∙◌, ℕ, zero, suc, ◌≤◌, ◌-◌, Bool, true, false, List, [], ◌∷◌, ◌++◌, length, take, drop, Option, Some, None, refl, sym, ap, subst, arith, append-nil, append_assoc}
-use Rattle.std.specs.Prelude.{nat_eq, not, ◌&&◌, ◌||◌, ◌==◌, IsTrue, All}
+use Rattle.std.proofs.Common.{◌≡◌, ◌∙◌, ℕ, zero, suc, ◌≤◌, ◌+◌, ◌-◌, Bool, cond, true, false, List, [], ◌∷◌, ◌++◌, length, take, drop, Option, Some, None, refl, sym, ap, subst, arith, append-nil, append_assoc}
+use Rattle.std.specs.Prelude.{nat_eq, not, ◌&&◌, ◌||◌, ◌==◌, IsTrue, IfSome, All}
 use Rattle.std.specs.Char.{is_ascii_alphanumeric, is_ascii_digit, is_ascii_hexdigit}
 use Rattle.std.specs.List.{list_all, starts_with, ends_with}
+use Rattle.std.specs.Option.{option_map}
 use Rattle.std.proofs.lemmas.Bool.{and_parts, or_parts, cond-true, cond-false, eqb-true, false_from_ne_true, true≢false}
 use Rattle.std.proofs.lemmas.Bool.Decides.{Decides-eqb, nat_tests}
 use Rattle.std.proofs.lemmas.List.{take-append-le, drop-append-le}
@@ -15,7 +16,8 @@ use Rattle.html_tokens.specs.declared.table.ReferenceRow.{ReferenceRow}
 use Rattle.html_tokenizer.specs.References.{IsCheckedTable, is_reference_name, stem}
 use Rattle.html_tokenizer.proofs.Begins.{fitting-is}
 use Rattle.html_tokenizer.proofs.Longest.{Within, longest-cut, longest-within}
-use Rattle.html_machine.specs.CharRefs.{is_named_with, goes_on_by, may_go_on, is_text_before, named_before, decided, decided_by}
+use Rattle.html_machine.specs.CharRefs.{is_named_with, goes_on_by, may_go_on, is_text_before, named_before, decided, decided_by, reference_of}
+use Rattle.html_machine.specs.declared.numbers.Found.{Found}
 
 -- digits and how a run of them goes on
 
@@ -229,3 +231,47 @@ in_text-by false rows h hs b = in_text-named (longest rows (h ∷ hs)) (h ∷ hs
 pub decided-in_text : (rows : List ReferenceRow) (cs : List ℕ) (b : Bool) → decided false rows cs b ≡ decided false rows cs false
 decided-in_text rows [] b = refl
 decided-in_text rows (h ∷ hs) b = in_text-by (nat_eq h 35) rows h hs b
+
+-- how many characters a reference takes
+
+semicolon-within : (n : ℕ) (t : List ℕ) → n ≤ length t → n + semicolon (drop n t) ≤ length t
+semicolon-within zero [] l = omega arith
+semicolon-within zero (c ∷ t) l = elim (nat_eq c 59) as (λ b. 0 + cond b 1 0 ≤ suc (length t)) [ true ↦ omega arith | false ↦ omega arith ]
+semicolon-within (suc n) [] l = absurd (omega arith)
+semicolon-within (suc n) (c ∷ t) l = let h : n + semicolon (drop n t) ≤ length t = semicolon-within n t (omega arith) in omega arith
+
+digits-within : (k base n m : ℕ) (t : List ℕ) → n ≤ length t → k + length t ≤ m → IfSome (numbered_reference (digits_at k base n t)) (λ r. r.len ≤ m)
+digits-within k base zero m t l f = tt
+digits-within k base (suc n) m t l f = let h : suc n + semicolon (drop (suc n) t) ≤ length t = semicolon-within (suc n) t l in omega arith
+
+numeric-within : (b : Bool) (c : ℕ) (t : List ℕ) → IfSome (numbered_reference (numeric_by b c t)) (λ r. r.len ≤ suc (suc (length t)))
+numeric-within true c t = digits-within 2 16 (run (λ d. not (is_ascii_hexdigit d)) t) (suc (suc (length t))) t (run-within (λ d. not (is_ascii_hexdigit d)) t) (omega arith)
+numeric-within false c t = digits-within 1 10 (run (λ d. not (is_ascii_digit d)) (c ∷ t)) (suc (suc (length t))) (c ∷ t) (run-within (λ d. not (is_ascii_digit d)) (c ∷ t)) (omega arith)
+
+named_by-within : (b : Bool) (row : ReferenceRow) (n : ℕ) → length row.name ≤ n → IfSome (named_by b row) (λ r. r.len ≤ n)
+named_by-within true row n l = tt
+named_by-within false row n l = l
+
+named-within : (in_value : Bool) (o : Option ReferenceRow) (cs : List ℕ) (b : Bool) → Within (length cs) o → IfSome (named_before in_value o cs b) (λ r. r.len ≤ length cs)
+named-within in_value None cs b w = tt
+named-within in_value (Some row) cs b w = named_by-within (in_value && is_text_before row.name (drop (length row.name) cs) b) row (length cs) w
+
+hash-within : (hs : List ℕ) → IfSome (numbered_reference (numeric hs)) (λ r. r.len ≤ suc (length hs))
+hash-within [] = tt
+hash-within (c ∷ t) = numeric-within (nat_eq c 120 || nat_eq c 88) c t
+
+within-by : (x in_value : Bool) (rows : List ReferenceRow) (h : ℕ) (hs : List ℕ) (b : Bool) → IfSome (decided_by x in_value rows h hs b) (λ r. r.len ≤ suc (length hs))
+within-by true in_value rows h hs b = hash-within hs
+within-by false in_value rows h hs b = named-within in_value (longest rows (h ∷ hs)) (h ∷ hs) b (longest-within rows (h ∷ hs))
+
+-- a reference takes no more than what is held
+pub decided-within : (in_value : Bool) (rows : List ReferenceRow) (cs : List ℕ) (b : Bool) → IfSome (decided in_value rows cs b) (λ r. r.len ≤ length cs)
+decided-within in_value rows [] b = tt
+decided-within in_value rows (h ∷ hs) b = within-by (nat_eq h 35) in_value rows h hs b
+
+if-mapped : (o : Option Found) (n : ℕ) → IfSome (option_map reference_of o) (λ r. r.len ≤ n) → IfSome o (λ f. f.len ≤ n)
+if-mapped None n h = h
+if-mapped (Some f) n h = h
+
+pub found-within : (in_value : Bool) (rows : List ReferenceRow) (cs : List ℕ) (b : Bool) (o : Option Found) → option_map reference_of o ≡ decided in_value rows cs b → IfSome o (λ f. f.len ≤ length cs)
+found-within in_value rows cs b o e = if-mapped o (length cs) (rw e (decided-within in_value rows cs b))

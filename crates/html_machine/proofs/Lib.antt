@@ -4,11 +4,16 @@ pub mod AttributeValues
 pub mod CdataStates
 pub mod CharRefs
 pub mod Comments
+pub mod Digits
 pub mod Doctypes
 pub mod Ends
 pub mod Errors
 pub mod Finished
 pub mod Glue
+pub mod HeldGlue
+pub mod HeldReadings
+pub mod HeldTextStates
+pub mod HeldTexts
 pub mod Lawful
 pub mod Opens
 pub mod RawEndTags

@@ -1,9 +1,14 @@
 -- What a tokenizer holds of a character reference, and what it makes of it (HTML Standard, sections 13.2.5.72 to 13.2.5.80).
-use Rattle.std.specs.Prelude.{ℕ, Bool, true, false, ◌&&◌, ◌||◌, not, nat_eq, List, [], ◌∷◌, ◌++◌, length, drop, Option, Some, None}
-use Rattle.std.specs.Char.{is_ascii_alphanumeric}
-use Rattle.std.specs.List.{ends_with}
+use Rattle.std.specs.Prelude.{◌≡◌, ℕ, Bool, true, false, ◌&&◌, ◌||◌, not, nat_eq, List, [], ◌∷◌, ◌++◌, length, drop, Option, Some, None}
+use Rattle.std.specs.Char.{is_ascii_alphanumeric, is_ascii_digit, is_ascii_hexdigit}
+use Rattle.std.specs.List.{ends_with, list_all}
+use Rattle.html_tokens.specs.declared.states.RawKind.TheVariants.{Rcdata}
+use Rattle.html_tokens.specs.declared.states.State.{State}
+use Rattle.html_tokens.specs.declared.states.State.TheVariants as state
 use Rattle.html_tokens.specs.Reference.{Reference, goes_on_at, named_by, numbered_reference, numeric}
-use Rattle.html_tokens.specs.Table.{Row, goes_on, longest}
+use Rattle.html_tokens.specs.Table.{Row, goes_on, longest, values_of}
+use Rattle.html_tokenizer.specs.References.{IsCheckedTable}
+use Rattle.html_machine.specs.declared.numbers.Found.{Found}
 
 -- what names and digits are written with: letters, digits and ";"
 abbrev pub is_named_with : ℕ → Bool
@@ -50,3 +55,29 @@ resolved_by (Some r) cs = r.chars ++ drop r.len cs
 -- the text that "&" and what was held stand for: a reference's characters, or "&", and what is held behind it
 abbrev pub resolved : Bool → List Row → List ℕ → Bool → List ℕ
 resolved in_value rows cs follows = resolved_by (decided in_value rows cs follows) cs
+
+-- what a tokenizer found, as a reference
+abbrev pub reference_of : Found → Reference
+reference_of f = record { chars = values_of f.first f.second; len = f.len }
+
+-- where the digits of a number in base 16, or else 10, end
+abbrev pub stops : Bool → ℕ → Bool
+stops true d = not (is_ascii_hexdigit d)
+stops false d = not (is_ascii_digit d)
+
+abbrev pub base_of : Bool → ℕ
+base_of true = 16
+base_of false = 10
+
+-- a reference that is decided before c, whatever follows
+pub record IsDecided (rows : List Row) (cs : List ℕ) (c : ℕ) : Type 0 where
+  pub checked : IsCheckedTable rows
+  pub held : list_all is_held cs ≡ true
+  pub ends : may_go_on rows cs c ≡ false
+
+-- the states in which a reference may be held
+abbrev pub may_hold : State → Bool
+may_hold state.Data = true
+may_hold (state.RawData Rcdata) = true
+may_hold (state.AttributeValue kind) = true
+may_hold _ = false

@@ -9,8 +9,8 @@ ghost use Rattle.html_machine.specs.Steps.{IsAt, Keeps};
 ghost use Rattle.html_machine.specs.Words.{may_escape};
 
 use crate::characters::is_white_space;
+use crate::held_reference::HeldReference;
 use crate::letters::Letters;
-use crate::tell::empty;
 use crate::tokenizer::Tokenizer;
 use html_tokens::ProcessResult;
 use html_tokens::sink::TokenSink;
@@ -91,7 +91,7 @@ impl<Sink: TokenSink> Tokenizer<Sink> {
         ensures { Keeps Sink.step Sink.view Sink.asks_cdata Sink.ended Sink.is_sound Sink.number self.old self.new 38 result }
     {
         if has_references(kind) {
-            self.char_ref = Some(empty(self.stream.alloc));
+            self.char_ref = Some(HeldReference::new(self.stream.alloc));
             Ok(ProcessResult::Continue)
         } else {
             self.take_char('&')
