@@ -14,6 +14,8 @@ pub mod HeldGlue
 pub mod HeldReadings
 pub mod HeldTextStates
 pub mod HeldTexts
+pub mod HeldValueStates
+pub mod HeldValues
 pub mod Lawful
 pub mod Opens
 pub mod RawEndTags
