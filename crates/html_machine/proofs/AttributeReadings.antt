@@ -30,7 +30,7 @@ pub value-opens : (rows : List Row) (st : Stand) (tag : Tag) (name : List ℕ) (
 value-opens rows st tag name c t e = rw e refl
 
 -- one character more before the quote
-quote_at-more : (n : ℕ) (st : Stand) (t : List ℕ) → quote_at (suc n) st t ≡ behind (quote_at n st t)
+pub quote_at-more : (n : ℕ) (st : Stand) (t : List ℕ) → quote_at (suc n) st t ≡ behind (quote_at n st t)
 quote_at-more n st [] = refl
 quote_at-more n st (c ∷ t) = refl
 

@@ -153,12 +153,12 @@ module _ {K S H : Type 0} (step : Step S) (view : K → S) (cdata : S → Bool) 
       (λ h. bind-err (noting step (view old.sink, pauses) token (line_number old.stream.breaks)) _ (noted-err pauses (step (view old.sink) token (line_number old.stream.breaks)) h)) fails))
 
   -- what is to come where a token was told
-  told-next : (old mid : Tokenizer K) (token : Token) (pauses : List Reply) (next : S × List Reply → Result (S × List Reply) Refusal) → Told step view cdata ends sound number token old mid
+  pub told-next : (old mid : Tokenizer K) (token : Token) (pauses : List Reply) (next : S × List Reply → Result (S × List Reply) Refusal) → Told step view cdata ends sound number token old mid
       → (noting step (view old.sink, pauses) token (line_number old.stream.breaks) >>= λ p. next p.0) ≡ next (view mid.sink, pauses)
   told-next old mid token pauses next told = ap (λ r. noted pauses r >>= λ p. next p.0) (told.gives (line_number old.stream.breaks) refl)
 
   -- The machine with another sink is where it was.
-  now-target : (k : Tokenizer K) (sink : K) (st : State) (b : ℕ) (s : S × List Reply) (t : List ℕ) → IsAt k st → now step view cdata ends sound number (record k { sink = sink }) b s t ≡ at step view cdata ends sound number st k b s t
+  pub now-target : (k : Tokenizer K) (sink : K) (st : State) (b : ℕ) (s : S × List Reply) (t : List ℕ) → IsAt k st → now step view cdata ends sound number (record k { sink = sink }) b s t ≡ at step view cdata ends sound number st k b s t
   now-target k sink st b s t h = held-other (noting step) (noting_cdata cdata) (noting_end ends) k.state k sink k.stream b s (pending k.char_ref ++ t) refl ∙ now-at step view cdata ends sound number k st b s t h
 
   -- A token was told, and the machine stands in st'. The target is the machine as it was, with the fields that changed.

@@ -1,3 +1,4 @@
+pub mod CharRefs
 pub mod Input
 pub mod Keywords
 pub mod Quotes

@@ -9,6 +9,7 @@ ghost use Rattle.html_machine.specs.Quotes.{quote_of};
 ghost use Rattle.html_machine.specs.Steps.{IsAt, Keeps};
 
 use crate::characters::{ends_word, is_white_space, lowered, shown};
+use crate::held_reference::HeldReference;
 use crate::tell::empty;
 use crate::tokenizer::Tokenizer;
 use html_tokens::sink::TokenSink;
@@ -184,7 +185,7 @@ impl<Sink: TokenSink> Tokenizer<Sink> {
             return self.before_attribute_name_state(c);
         }
         if c == '&' {
-            self.char_ref = Some(empty(self.stream.alloc));
+            self.char_ref = Some(HeldReference::new(self.stream.alloc));
             return Ok(ProcessResult::Continue);
         }
         self.attribute_value.push(shown(c))?;
@@ -209,7 +210,7 @@ impl<Sink: TokenSink> Tokenizer<Sink> {
             return Ok(ProcessResult::Continue);
         }
         if c == '&' {
-            self.char_ref = Some(empty(self.stream.alloc));
+            self.char_ref = Some(HeldReference::new(self.stream.alloc));
             return Ok(ProcessResult::Continue);
         }
         self.attribute_value.push(shown(c))?;

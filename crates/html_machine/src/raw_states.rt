@@ -11,6 +11,7 @@ ghost use Rattle.html_machine.specs.Steps.{IsAt, Tells, Keeps};
 ghost use Rattle.html_machine.specs.Words.{ends_raw_text, may_escape};
 
 use crate::characters::ends_tag_name;
+use crate::held_reference::HeldReference;
 use crate::letters::Letters;
 use crate::tell::empty;
 use crate::tokenizer::Tokenizer;
@@ -83,7 +84,7 @@ impl<Sink: TokenSink> Tokenizer<Sink> {
         ensures { Keeps Sink.step Sink.view Sink.asks_cdata Sink.ended Sink.is_sound Sink.number self.old self.new 38 result }
     {
         if has_references(kind) {
-            self.char_ref = Some(empty(self.stream.alloc));
+            self.char_ref = Some(HeldReference::new(self.stream.alloc));
             Ok(ProcessResult::Continue)
         } else {
             self.take_char('&')

@@ -5,6 +5,7 @@ ghost use Rattle.html_tokens.specs.declared.token.Token.TheVariants.{CharacterTo
 ghost use Rattle.html_tokens.specs.Characters.{shown};
 ghost use Rattle.html_machine.specs.Steps.{IsAt, Tells, TakesAs, Keeps};
 
+use crate::held_reference::HeldReference;
 use crate::tell::empty;
 use crate::tokenizer::Tokenizer;
 use html_tokens::sink::TokenSink;
@@ -24,7 +25,7 @@ impl<Sink: TokenSink> Tokenizer<Sink> {
             return Ok(ProcessResult::Continue);
         }
         if c == '&' {
-            self.char_ref = Some(empty(self.stream.alloc));
+            self.char_ref = Some(HeldReference::new(self.stream.alloc));
             return Ok(ProcessResult::Continue);
         }
         if c == '\0' {

@@ -1,5 +1,6 @@
 //! What a tokenizer holds between two characters.
 
+use crate::held_reference::HeldReference;
 use crate::keyword::Keyword;
 use crate::letters::Letters;
 use html_tokenizer::References;
@@ -32,7 +33,7 @@ pub struct Tokenizer<Sink> {
     pub(crate) stream: Stream,
     pub(crate) state: State,
     /// What stands behind the `&` of a reference that may go on.
-    pub(crate) char_ref: Option<Text>,
+    pub(crate) char_ref: Option<HeldReference>,
     /// The name of the last start tag, if one was told.
     pub(crate) last_start_tag: Option<Text>,
     /// The tag that is read.

@@ -9,7 +9,7 @@ returns-then-c-eq60 g c =
 pub returns-then-c-eq38 : goal.returns-then-c-eq38
 returns-then-c-eq38 g c =
     let m = g.Sink.TokenSink in
-    data-reference m.step m.view m.asks_cdata m.ended m.is_sound m.number m.is_quiet g.met.Sink.TokenSink.laws _ _ _ c.requires.at c.requires.sound c.if-c-eq38.true c.empty.ensures
+    data-reference m.step m.view m.asks_cdata m.ended m.is_sound m.number m.is_quiet g.met.Sink.TokenSink.laws _ _ _ c.requires.at c.requires.sound c.if-c-eq38.true c.new.ensures
 
 pub returns-then-c-eq0 : goal.returns-then-c-eq0
 returns-then-c-eq0 g c =

@@ -12,7 +12,7 @@ returns-then-ends_word g c =
 pub returns-then-c-eq38 : goal.returns-then-c-eq38
 returns-then-c-eq38 g c =
     let m = g.Sink.TokenSink in
-    value-reference m.step m.view m.asks_cdata m.ended m.is_sound m.number c.args.self.now value.Unquoted _ _ c.requires.at c.requires.sound c.if-c-eq38.true c.empty.ensures
+    value-reference m.step m.view m.asks_cdata m.ended m.is_sound m.number c.args.self.now value.Unquoted _ _ c.requires.at c.requires.sound c.if-c-eq38.true c.new.ensures
 
 pub returns : goal.returns
 returns g c =

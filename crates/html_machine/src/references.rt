@@ -1,0 +1,164 @@
+//! What a reference that was held stands for (HTML Standard, sections 13.2.5.72 to 13.2.5.80).
+ghost use Rattle.std.specs.Prelude.{◌≡◌, ◌≤◌, ◌&&◌, ◌∷◌, [], ◌++◌, IfErr, IfSome, IsTrue, OnOk, length, true};
+ghost use Rattle.std.specs.Option.{option_map};
+ghost use Rattle.std.specs.List.{list_all};
+ghost use Rattle.std.specs.Str.{chars};
+ghost use Rattle.html_tokens.specs.Reference.{goes_on_at};
+ghost use Rattle.html_tokenizer.specs.References.{IsCheckedTable, has_values, is_reference_name, is_reference_value, longest};
+ghost use Rattle.markup.specs.declared.fault.ParseFault.TheVariants.{Memory};
+ghost use Rattle.html_machine.specs.CharRefs;
+ghost use Rattle.html_tokens.specs.Table.{values};
+
+use crate::held_reference::HeldReference;
+use crate::numbers::{self, Found};
+use crate::tell::empty;
+use html_tokenizer::References;
+use html_tokens::table::ReferenceRow;
+use markup::{ParseFault, Text};
+use std::alloc::Global;
+
+/// Whether names and digits are written with this character.
+fn is_named_with(c: char) -> bool
+    ensures { result ≡ CharRefs.is_named_with c }
+{
+    c.is_ascii_alphanumeric() || c == ';'
+}
+
+/// Whether a reference may go on by this character.
+pub(crate) fn may_go_on(table: &References, held: &HeldReference, c: char) -> bool
+    ensures is { result ≡ CharRefs.may_go_on table.now held.now c }
+    ensures table { IsCheckedTable table.now }
+    ensures held { list_all CharRefs.is_held held.now ≡ true }
+{
+    let _rows = table.rows();
+    let text = held.as_str();
+    match text.as_bytes().first() {
+        None => is_named_with(c) || c == '#',
+        Some(b'#') => is_named_with(c) && !text.as_bytes().ends_with(b";"),
+        Some(_) => is_named_with(c) && table.goes_on(text),
+    }
+}
+
+/// Whether a name goes on by a character: `=`, a letter or a digit.
+pub(crate) fn goes_on_at(c: char) -> bool
+    ensures { result ≡ goes_on_at (c ∷ []) }
+{
+    c == '=' || c.is_ascii_alphanumeric()
+}
+
+/// The same at the front of what is held behind a name, by whether it follows where nothing is held.
+fn goes_on_before(text: &[u8], follows: bool) -> bool
+    ensures { result ≡ CharRefs.goes_on_before text.now follows }
+{
+    match text.first() {
+        None => follows,
+        Some(byte) => *byte == b'=' || byte.is_ascii_alphanumeric(),
+    }
+}
+
+/// Whether a name in an attribute's value is text there, by what is held behind it.
+fn is_text(in_value: bool, name: &str, behind: &[u8], follows: bool) -> bool
+    ensures { result ≡ (in_value && CharRefs.is_text_before name.now behind.now follows) }
+{
+    in_value && !name.as_bytes().ends_with(b";") && goes_on_before(behind, follows)
+}
+
+/// A row's name, whose characters are its bytes.
+fn name_of(row: &ReferenceRow) -> &str
+    requires { IsTrue (is_reference_name row.now.name) }
+    ensures { result.now ≡ row.now.name }
+{
+    row.name.as_str()
+}
+
+/// The character of a table's value.
+fn character(value: u32) -> char
+    requires { IsTrue (is_reference_value value) }
+    ensures { result ≡ value }
+{
+    char::from_u32(value).unwrap_or('\u{FFFD}')
+}
+
+/// The reference that a row's name is.
+fn row_found(row: &ReferenceRow) -> Found
+    requires name { IsTrue (is_reference_name row.now.name) }
+    requires values { IsTrue (has_values row.now) }
+    ensures { CharRefs.reference_of result ≡ record { chars = values row.now; len = length row.now.name } }
+{
+    let second = match row.second {
+        None => None,
+        Some(value) => Some(character(value)),
+    };
+    Found {
+        first: character(row.first),
+        second,
+        len: name_of(row).len(),
+        faulty: false,
+    }
+}
+
+/// A named reference, by what was held and whether `=`, a letter or a digit follows.
+fn named(table: &References, in_value: bool, text: &str, follows: bool) -> Option<Found>
+    requires { chars text.now ≡ text.now }
+    ensures { option_map CharRefs.reference_of result ≡ CharRefs.named_before in_value (longest table.now text.now) text.now follows }
+{
+    let _rows = table.rows();
+    let row = table.longest(text)?;
+    let found = row_found(row);
+    if is_text(
+        in_value,
+        name_of(row),
+        &text.as_bytes()[found.len..],
+        follows,
+    ) {
+        None
+    } else {
+        Some(found)
+    }
+}
+
+/// The reference that was held, by whether `=`, a letter or a digit follows.
+fn find(table: &References, in_value: bool, held: &HeldReference, follows: bool) -> Option<Found>
+    ensures { option_map CharRefs.reference_of result ≡ CharRefs.decided in_value table.now held.now follows }
+{
+    let text = held.as_str();
+    match text.as_bytes().first() {
+        None => None,
+        Some(b'#') => numbers::numeric(&text.as_bytes()[1..]),
+        Some(_) => named(table, in_value, text, follows),
+    }
+}
+
+/// The same, which takes no more than what is held.
+pub(crate) fn decided(
+    table: &References,
+    in_value: bool,
+    held: &HeldReference,
+    follows: bool,
+) -> Option<Found>
+    ensures is { option_map CharRefs.reference_of result ≡ CharRefs.decided in_value table.now held.now follows }
+    ensures within { IfSome result (λ found. found.len ≤ length held.now) }
+{
+    find(table, in_value, held, follows)
+}
+
+/// Adds what `&` and the characters that were held stand for to a text.
+pub(crate) fn push_resolved(
+    text: &mut Text,
+    found: Option<Found>,
+    held: &HeldReference,
+) -> Result<(), ParseFault>
+    requires { IfSome found (λ f. f.len ≤ length held.now) }
+    ensures ok { OnOk result (text.new ≡ text.old ++ CharRefs.resolved_by (option_map CharRefs.reference_of found) held.now) }
+    ensures fault { IfErr result (λ fault. fault ≡ Memory) }
+{
+    let Some(found) = found else {
+        text.push('&')?;
+        return text.push_str(held.as_str());
+    };
+    text.push(found.first)?;
+    if let Some(second) = found.second {
+        text.push(second)?;
+    }
+    text.push_str(held.behind(found.len))
+}
