@@ -14,7 +14,9 @@ pub mod Keywords
 pub mod Lawful
 pub mod Opens
 pub mod RawEndTags
+pub mod RawEnds
 pub mod RawKinds
+pub mod RawNames
 pub mod RawStates
 pub mod Readings
 pub mod Refused

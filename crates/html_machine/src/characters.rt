@@ -29,3 +29,10 @@ pub(crate) fn ends_word(c: char) -> bool
 {
     is_white_space(c) || c == '>'
 }
+
+/// White space, `/` or `>`.
+pub(crate) fn ends_tag_name(c: char) -> bool
+    ensures { result ≡ Characters.ends_tag_name c }
+{
+    is_white_space(c) || c == '/' || c == '>'
+}
