@@ -1,3 +1,4 @@
+pub mod Input
 pub mod Keywords
 pub mod Quotes
 pub mod Rest

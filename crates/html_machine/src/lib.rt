@@ -8,6 +8,7 @@ mod comment_states;
 mod declaration_states;
 mod doctype_keyword_states;
 mod doctype_states;
+mod input;
 mod keyword;
 mod letters;
 mod open_states;
