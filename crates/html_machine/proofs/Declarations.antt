@@ -23,9 +23,10 @@ use Rattle.html_machine.specs.Rest.{rows_of, standing, held_at}
 use Rattle.html_machine.specs.Steps.{IsAt, Took, Keeps}
 use Rattle.html_machine.proofs.Ends.{behind-one}
 use Rattle.html_machine.proofs.Glue.{at, now-at, took, keeps-along, no-break}
-use Rattle.html_machine.proofs.Keywords.{is_plain, part-plain, word-plain, last-plain, plain-break, spelt-begins, spelt-length, word-apart, word-stops, bogus-behind}
+use Rattle.html_machine.proofs.Keywords.{and_both, or_parts, is_plain, part-plain, word-plain, last-plain, plain-break, spelt-begins, spelt-length, word-apart, word-stops, bogus-behind}
 use Rattle.html_machine.proofs.Opens.{opened}
 use Rattle.html_machine.proofs.Readings.{play-nothing}
+use Rattle.html_machine.proofs.Words.{and_parts}
 
 -- ITEMS
 
@@ -61,11 +62,8 @@ doctype-declared asks st w t h =
 
 cdata-declared : (asks : Bool) (st : Stand) (w t : List ℕ) → asks ≡ true → becomes word.Cdata w ≡ true → declaration_at asks st (w ++ t) ≡ behind_all 2 (behind_all (length w) (silent 0 (moved st InCdata)))
 cdata-declared asks st w t a h =
-    cdata-by _ _ _ st (w ++ t) (word-apart word.Cdata word.Dashes w t refl h) (word-apart word.Cdata word.Doctype w t refl h) (both asks _ a (spelt-begins false (codes "[CDATA[") w t h))
+    cdata-by _ _ _ st (w ++ t) (word-apart word.Cdata word.Dashes w t refl h) (word-apart word.Cdata word.Doctype w t refl h) (and_both asks _ a (spelt-begins false (codes "[CDATA[") w t h))
     ∙ ap (λ n. behind_all 2 (behind_all n (silent 0 (moved st InCdata)))) (sym (spelt-length false (codes "[CDATA[") w h))
-  where
-    both : (a b : Bool) → a ≡ true → b ≡ true → (a && b) ≡ true
-    both a b e f = rw (e, f) refl
 
 bogus-declared : (asks : Bool) (st : Stand) (cs : List ℕ) (c : ℕ) (t : List ℕ) → IsPart cs → OpensNothing asks cs c → declaration_at asks st (cs ++ c ∷ t) ≡ behind_all 2 (behind_all (length cs) (bogus_comment_after st cs (c ∷ t)))
 bogus-declared asks st cs c t part h =
@@ -76,15 +74,11 @@ and_none : (a b : Bool) → b ≡ false → (a && b) ≡ false
 and_none true b e = e
 and_none false b e = refl
 
-or_first : (a b : Bool) → (a || b) ≡ false → (a ≡ false) × (b ≡ false)
-or_first true b h = absurd cc
-or_first false b h = (refl, h)
-
 -- What c makes no word and no beginning of one is the front of a bogus comment.
 pub nothing-begun : (asks : Bool) (cs : List ℕ) (c : ℕ) → IsPart cs → MakesNoWord cs c → may_declare cs c ≡ false → OpensNothing asks cs c
 nothing-begun asks cs c part whole h =
-    let p = or_first (may_become word.Dashes (cs ++ c ∷ []) || may_become word.Doctype (cs ++ c ∷ [])) (may_become word.Cdata (cs ++ c ∷ [])) h in
-    let q = or_first (may_become word.Dashes (cs ++ c ∷ [])) (may_become word.Doctype (cs ++ c ∷ [])) p.0 in
+    let p = or_parts (may_become word.Dashes (cs ++ c ∷ []) || may_become word.Doctype (cs ++ c ∷ [])) (may_become word.Cdata (cs ++ c ∷ [])) h in
+    let q = or_parts (may_become word.Dashes (cs ++ c ∷ [])) (may_become word.Doctype (cs ++ c ∷ [])) p.0 in
     record {
       dashes = λ t. word-stops word.Dashes cs c t part whole.dashes q.0;
       doctype = λ t. word-stops word.Doctype cs c t part whole.doctype q.1;
@@ -116,16 +110,9 @@ module _ {K S H : Type 0} (step : Step S) (view : K → S) (cdata : S → Bool) 
       → play (noting step) (noting_cdata cdata) (noting_end ends) (rows_of old) (behind_all (length cs) j) b s (cs ++ t) ≡ play (noting step) (noting_cdata cdata) (noting_end ends) (rows_of old) j b s t
   play-plain old [] t j b s h = refl
   play-plain old (c ∷ cs) t j b s h =
-      let p = first-plain c cs h in
+      let p = and_parts (is_plain c) (list_all is_plain cs) h in
       behind-one step view cdata ends sound number quiet laws old c (plain-break c p.0) (behind_all (length (c ∷ cs)) j) (behind_all (length cs) j) b s (cs ++ t) refl
       ∙ play-plain old cs t j b s p.1
-    where
-      first-plain : (c : ℕ) (cs : List ℕ) → (is_plain c && list_all is_plain cs) ≡ true → (is_plain c ≡ true) × (list_all is_plain cs ≡ true)
-      first-plain c cs h = both (is_plain c) (list_all is_plain cs) h
-        where
-          both : (a b : Bool) → (a && b) ≡ true → (a ≡ true) × (b ≡ true)
-          both true b h = (refl, h)
-          both false b h = absurd cc
 
   -- a declaration, read from behind what was read of it
   read-declared : (old : Tokenizer K) (cs t : List ℕ) (j : Item) (b : ℕ) (s : S × List Reply) → list_all is_plain cs ≡ true → declaration_at (cdata s.0) (standing old InData) (cs ++ t) ≡ behind_all 2 (behind_all (length cs) j)

@@ -1,20 +1,18 @@
 -- What stands behind a doctype's name, and what the machine makes of it.
-use Rattle.std.proofs.Common.{◌≡◌, ◌∙◌, ℕ, ◌+◌, length, Bool, true, false, ◌||◌, nat_eq, List, [], ◌∷◌, ◌++◌, drop, Result, Ok, Err, refl, sym, ap, arith, append_assoc}
-use Rattle.std.specs.Prelude.{◌&&◌, ◌==◌, codes}
+use Rattle.std.proofs.Common.{◌≡◌, ◌∙◌, ℕ, ◌+◌, length, Bool, true, false, ◌||◌, nat_eq, List, [], ◌∷◌, ◌++◌, drop, Result, refl, sym, ap, arith, append_assoc}
+use Rattle.std.specs.Prelude.{◌==◌, codes}
 use Rattle.std.specs.List.{list_all}
-use Rattle.std.specs.Result.{IsErrAnd}
 use Rattle.std.proofs.lemmas.Bool.{eqb-true}
 use Rattle.markup.specs.declared.fault.ParseFault.{ParseFault}
 use Rattle.html_tokens.specs.declared.replies.ProcessResult.{ProcessResult}
 use Rattle.html_tokens.specs.declared.replies.ProcessResult.TheVariants as flow
 use Rattle.html_tokens.specs.declared.states.DoctypeIdKind.TheVariants as id
-use Rattle.html_tokens.specs.declared.states.State.{State}
 use Rattle.html_tokens.specs.declared.states.State.TheVariants as state
 use Rattle.html_tokens.specs.declared.token.Doctype.{Doctype}
 use Rattle.html_tokens.specs.declared.token.Token.{Token}
 use Rattle.html_tokens.specs.Characters.{is_white_space, ends_word, begins_any_case}
 use Rattle.html_tokens.specs.Doctypes.{forced, given, after_name, keyword_at, keyword_by, after_public_keyword, after_system_keyword, junk_after}
-use Rattle.html_tokens.specs.Item.{Stand, Item, InData, behind, behind_all}
+use Rattle.html_tokens.specs.Item.{Stand, Item, InData, behind_all}
 use Rattle.html_tokens.specs.Pauses.{noting, noting_cdata, noting_end}
 use Rattle.html_tokens.specs.Reading.{line_break, play}
 use Rattle.html_tokens.specs.Sink.{Step, Reply, SinkLaws}
@@ -25,24 +23,18 @@ use Rattle.html_machine.specs.Keywords.{becomes, may_become, may_identify, front
 use Rattle.html_machine.specs.Rest.{rows_of, standing, held_at}
 use Rattle.html_machine.specs.Steps.{IsAt, Took, Keeps}
 use Rattle.html_machine.proofs.Declarations.{behind-word, play-plain}
-use Rattle.html_machine.proofs.Doctypes.{DoctypeSays, at-mark, skip-white, stop-white}
+use Rattle.html_machine.proofs.Doctypes.{DoctypeSays, at-mark, skip-white, stop-white, word-other}
 use Rattle.html_machine.proofs.Ends.{behind-any}
-use Rattle.html_machine.proofs.Glue.{at, took, keeps_silent, no-break}
-use Rattle.html_machine.proofs.Keywords.{is_plain, part-plain, word-plain, last-plain, plain-break, plain-mark, plain-white, spelt-begins, spelt-length, word-apart, word-stops, junk-behind}
+use Rattle.html_machine.proofs.Glue.{took, keeps_silent, no-break}
+use Rattle.html_machine.proofs.Keywords.{never, or_parts, is_plain, part-plain, word-plain, last-plain, plain-break, plain-mark, plain-white, spelt-begins, spelt-length, word-apart, word-stops, junk-behind}
+use Rattle.html_machine.proofs.Words.{and_parts}
 
 -- WHERE A KEYWORD BEGINS
 
-word-goes_on : (c : ℕ) → is_white_space c ≡ false → nat_eq c 62 ≡ false → ends_word c ≡ false
-word-goes_on c e f = rw (e, f) refl
-
 begun-part : (x : ℕ) (cs : List ℕ) → list_all is_plain (x ∷ cs) ≡ true → ends_word x ≡ false
 begun-part x cs h =
-    let p : is_plain x ≡ true = first-plain (is_plain x) (list_all is_plain cs) h in
-    word-goes_on x (plain-white x p) (plain-mark x p)
-  where
-    first-plain : (a b : Bool) → (a && b) ≡ true → a ≡ true
-    first-plain true b h = refl
-    first-plain false b h = absurd cc
+    let p : is_plain x ≡ true = (and_parts (is_plain x) (list_all is_plain cs) h).0 in
+    word-other x (plain-white x p) (plain-mark x p)
 
 pub front-empty : (cs : List ℕ) (c : ℕ) → (length cs == 0) ≡ true → ends_word c ≡ ends_word (front_of cs c)
 front-empty [] c h = refl
@@ -55,10 +47,7 @@ front-part (x ∷ cs) c part h = begun-part x cs (part-plain (x ∷ cs) part)
 -- Only where nothing was read, a word ends at its front.
 ended-empty : (cs : List ℕ) (c : ℕ) → IsPart cs → ends_word (front_of cs c) ≡ true → cs ≡ []
 ended-empty [] c part h = refl
-ended-empty (x ∷ cs) c part h = absurd (not-both (ends_word x) h (begun-part x cs (part-plain (x ∷ cs) part)))
-  where
-    not-both : (a : Bool) → a ≡ true → a ≡ false → ⊥
-    not-both a e f = cc
+ended-empty (x ∷ cs) c part h = absurd (never (ends_word x) h (begun-part x cs (part-plain (x ∷ cs) part)))
 
 ended-here : (cs : List ℕ) (c : ℕ) → cs ≡ [] → ends_word (front_of cs c) ≡ true → ends_word c ≡ true
 ended-here cs c e h = rw e at h
@@ -72,22 +61,11 @@ ended-white c h e = by-white (is_white_space c) (rw e at h)
 
 -- ITEMS
 
-not-white : (c : ℕ) → ends_word c ≡ false → is_white_space c ≡ false
-not-white c h = by-parts (is_white_space c) (nat_eq c 62) h
-  where
-    by-parts : (a b : Bool) → (a || b) ≡ false → a ≡ false
-    by-parts true b h = absurd cc
-    by-parts false b h = refl
-
-not-mark : (c : ℕ) → ends_word c ≡ false → nat_eq c 62 ≡ false
-not-mark c h = by-parts (is_white_space c) (nat_eq c 62) h
-  where
-    by-parts : (a b : Bool) → (a || b) ≡ false → b ≡ false
-    by-parts true b h = absurd cc
-    by-parts false b h = h
-
 name-front : (st : Stand) (d : Doctype) (c : ℕ) (t : List ℕ) → ends_word c ≡ false → after_name st d (c ∷ t) ≡ keyword_by false (begins_any_case (codes "public") (c ∷ t)) (begins_any_case (codes "system") (c ∷ t)) st d (c ∷ t)
-name-front st d c t h = stop-white (keyword_at st d) c t (not-white c h) ∙ ap (λ m. keyword_by m (begins_any_case (codes "public") (c ∷ t)) (begins_any_case (codes "system") (c ∷ t)) st d (c ∷ t)) (not-mark c h)
+name-front st d c t h =
+    let p = or_parts (is_white_space c) (nat_eq c 62) h in
+    stop-white (keyword_at st d) c t p.0
+    ∙ ap (λ m. keyword_by m (begins_any_case (codes "public") (c ∷ t)) (begins_any_case (codes "system") (c ∷ t)) st d (c ∷ t)) p.1
 
 name-word : (st : Stand) (d : Doctype) (cs : List ℕ) (c : ℕ) (t : List ℕ) → ends_word (front_of cs c) ≡ false
     → after_name st d (cs ++ c ∷ t) ≡ keyword_by false (begins_any_case (codes "public") (cs ++ c ∷ t)) (begins_any_case (codes "system") (cs ++ c ∷ t)) st d (cs ++ c ∷ t)
@@ -111,14 +89,10 @@ system-read st d w t h =
     system-by _ _ st d (w ++ t) (word-apart word.System word.Public w t refl h) (spelt-begins true (codes "system") w t h)
     ∙ behind-word (after_system_keyword st d) w t 6 (spelt-length true (codes "system") w h)
 
-or_none : (a b : Bool) → (a || b) ≡ false → (a ≡ false) × (b ≡ false)
-or_none true b h = absurd cc
-or_none false b h = (refl, h)
-
 junk-read : (st : Stand) (d : Doctype) (cs : List ℕ) (c : ℕ) (t : List ℕ) → IsPart cs → MakesNoIdentifier cs c → may_identify cs c ≡ false
     → keyword_by false (begins_any_case (codes "public") (cs ++ c ∷ t)) (begins_any_case (codes "system") (cs ++ c ∷ t)) st d (cs ++ c ∷ t) ≡ behind_all (length cs) (junk_after st (forced d) (c ∷ t))
 junk-read st d cs c t part whole h =
-    let p = or_none (may_become word.Public (cs ++ c ∷ [])) (may_become word.System (cs ++ c ∷ [])) h in
+    let p = or_parts (may_become word.Public (cs ++ c ∷ [])) (may_become word.System (cs ++ c ∷ [])) h in
     junk-by _ _ st d (cs ++ c ∷ t) (word-stops word.Public cs c t part whole.public_word p.0) (word-stops word.System cs c t part whole.system_word p.1)
     ∙ junk-behind st (forced d) cs (c ∷ t) (part-plain cs part)
 

@@ -46,7 +46,7 @@ public-goes_on quote st d front c t e = rw e (rw append_assoc refl)
 system-goes_on : (quote : ℕ) (st : Stand) (d : Doctype) (front : List ℕ) (c : ℕ) (t : List ℕ) → (nat_eq c quote || nat_eq c 62) ≡ false → system_after quote st d front (c ∷ t) ≡ behind (system_after quote st d (front ++ shown c ∷ []) t)
 system-goes_on quote st d front c t e = rw e (rw append_assoc refl)
 
-word-other : (c : ℕ) → is_white_space c ≡ false → nat_eq c 62 ≡ false → ends_word c ≡ false
+pub word-other : (c : ℕ) → is_white_space c ≡ false → nat_eq c 62 ≡ false → ends_word c ≡ false
 word-other c e f = rw (e, f) refl
 
 word-white : (c : ℕ) → is_white_space c ≡ true → ends_word c ≡ true

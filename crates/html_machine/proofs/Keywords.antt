@@ -13,13 +13,17 @@ use Rattle.html_tokens.specs.Item.{Stand, behind, behind_all}
 use Rattle.html_machine.specs.declared.keyword.Word.{Word}
 use Rattle.html_machine.specs.declared.keyword.Word.TheVariants as word
 use Rattle.html_machine.specs.Keywords.{letter, spelling, is_any_case, has_front, is_spelt, is_begun, becomes, may_become, IsPart}
+use Rattle.html_machine.proofs.Words.{and_parts}
 
-and_parts : (a b : Bool) → (a && b) ≡ true → (a ≡ true) × (b ≡ true)
-and_parts true b h = (refl, h)
-and_parts false b h = absurd cc
-
-and_both : (a b : Bool) → a ≡ true → b ≡ true → (a && b) ≡ true
+pub and_both : (a b : Bool) → a ≡ true → b ≡ true → (a && b) ≡ true
 and_both a b e f = rw (e, f) refl
+
+pub or_parts : (a b : Bool) → (a || b) ≡ false → (a ≡ false) × (b ≡ false)
+or_parts true b h = absurd cc
+or_parts false b h = (refl, h)
+
+pub never : (a : Bool) → a ≡ true → a ≡ false → ⊥
+never a e f = cc
 
 and_false : (a : Bool) → (a && false) ≡ false
 and_false true = refl
@@ -116,17 +120,13 @@ abbrev pub begins_in : Bool → List ℕ → List ℕ → Bool
 begins_in true ws t = begins_any_case ws t
 begins_in false ws t = begins ws t
 
+begins_and : (a b : Bool) → begins_by a (λ _. b) ≡ (a && b)
+begins_and true b = refl
+begins_and false b = refl
+
 begins-more : (any : Bool) (w c : ℕ) (ws t : List ℕ) → begins_in any (w ∷ ws) (c ∷ t) ≡ (nat_eq w (letter any c) && begins_in any ws t)
-begins-more true w c ws t = by-both (nat_eq w (to_ascii_lowercase c)) (begins_any_case ws t)
-  where
-    by-both : (a b : Bool) → begins_by a (λ _. b) ≡ (a && b)
-    by-both true b = refl
-    by-both false b = refl
-begins-more false w c ws t = by-both (nat_eq w c) (begins ws t)
-  where
-    by-both : (a b : Bool) → begins_by a (λ _. b) ≡ (a && b)
-    by-both true b = refl
-    by-both false b = refl
+begins-more true w c ws t = begins_and (nat_eq w (to_ascii_lowercase c)) (begins_any_case ws t)
+begins-more false w c ws t = begins_and (nat_eq w c) (begins ws t)
 
 begins-nothing : (any : Bool) (w : ℕ) (ws : List ℕ) → begins_in any (w ∷ ws) [] ≡ false
 begins-nothing true w ws = refl
@@ -145,11 +145,8 @@ begun-open any (w ∷ ws) (c ∷ cs) h =
     begins-more any w c ws cs ∙ rw (begun-open any ws cs p.1) (and_false (nat_eq w (letter any c)))
 
 -- a text that goes on where neither the word nor its beginning does
-pub stops : (any : Bool) (ws cs : List ℕ) (c : ℕ) (t : List ℕ) → begins_in any ws cs ≡ false → is_spelt any ws (cs ++ c ∷ []) ≡ false → is_begun any ws (cs ++ c ∷ []) ≡ false → begins_in any ws (cs ++ c ∷ t) ≡ false
-stops any [] cs c t e f g = absurd (not-both _ (begins-any any cs) e)
-  where
-    not-both : (a : Bool) → a ≡ true → a ≡ false → ⊥
-    not-both a e f = cc
+stops : (any : Bool) (ws cs : List ℕ) (c : ℕ) (t : List ℕ) → begins_in any ws cs ≡ false → is_spelt any ws (cs ++ c ∷ []) ≡ false → is_begun any ws (cs ++ c ∷ []) ≡ false → begins_in any ws (cs ++ c ∷ t) ≡ false
+stops any [] cs c t e f g = absurd (never (begins_in any [] cs) (begins-any any cs) e)
 stops any (w ∷ []) [] c t e f g = begins-more any w c [] t ∙ and_fails (nat_eq w (letter any c)) true (begins_in any [] t) (λ h. absurd cc) f
 stops any (w ∷ v ∷ ws) [] c t e f g = begins-more any w c (v ∷ ws) t ∙ and_fails (nat_eq w (letter any c)) true (begins_in any (v ∷ ws) t) (λ h. absurd cc) g
 stops any (w ∷ ws) (x ∷ cs) c t e f g = begins-more any w x ws (cs ++ c ∷ t) ∙ and_all_fail (nat_eq w (letter any x)) (begins_in any ws cs) (is_spelt any ws (cs ++ c ∷ [])) (is_begun any ws (cs ++ c ∷ [])) (begins_in any ws (cs ++ c ∷ t)) (stops any ws cs c t) (sym (begins-more any w x ws cs) ∙ e) f g

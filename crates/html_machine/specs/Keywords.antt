@@ -44,6 +44,7 @@ has_front any ws [] = true
 has_front any [] (c ∷ cs) = false
 has_front any (w ∷ ws) (c ∷ cs) = nat_eq w (letter any c) && has_front any ws cs
 
+-- the same of the words: their beginning or the whole, the whole, or their beginning alone
 abbrev pub leads : Word → List ℕ → Bool
 leads word cs = has_front (is_any_case word) (spelling word) cs
 

@@ -1,4 +1,3 @@
-use Rattle.std.proofs.Common.{◌∙◌, sym}
 use Rattle.std.proofs.lemmas.Bool.{ne_eqb}
 use Rattle.html_tokens.specs.declared.states.State.TheVariants as state
 use Rattle.html_machine.proofs.DoctypeKeywords.{keyword-says, keyword-white}
