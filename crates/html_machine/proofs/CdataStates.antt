@@ -1,5 +1,5 @@
 -- CDATA sections.
-use Rattle.std.proofs.Common.{◌≡◌, ◌∙◌, ℕ, ◌+◌, Bool, false, nat_eq, List, [], ◌∷◌, Result, Ok, Err, refl, sym, ap}
+use Rattle.std.proofs.Common.{◌≡◌, ℕ, ◌+◌, Bool, false, nat_eq, [], ◌∷◌, Result, refl, sym, ap}
 use Rattle.std.proofs.lemmas.Bool.{ne_eqb}
 use Rattle.std.specs.Result.{IsErrAnd}
 use Rattle.markup.specs.declared.fault.ParseFault.{ParseFault}
@@ -9,7 +9,7 @@ use Rattle.html_tokens.specs.declared.states.State.TheVariants as state
 use Rattle.html_tokens.specs.declared.token.Token.{Token}
 use Rattle.html_tokens.specs.declared.token.Token.TheVariants.{CharacterTokens, NullCharacterToken}
 use Rattle.html_tokens.specs.Pauses.{noting, noting_cdata, noting_end}
-use Rattle.html_tokens.specs.Item.{InCdata, InData}
+use Rattle.html_tokens.specs.Item.{InCdata}
 use Rattle.html_tokens.specs.Reading.{line_number, line_break, reading}
 use Rattle.html_tokens.specs.Sink.{Step, SinkLaws}
 use Rattle.html_tokens.proofs.Readings.{reading-item}

@@ -93,7 +93,7 @@ module _ {K S H : Type 0} (step : Step S) (view : K → S) (cdata : S → Bool) 
       → Fails step view cdata ends sound number (step (view old.sink) (DoctypeToken d) (line_number old.stream.breaks)) fault → DoctypeSays st old cs d → Keeps step view cdata ends sound number old new c result
   doctype-failed old new c st cs d result fault e from ok is fails says = emitted-failed step view cdata ends sound number quiet laws old (emitted old cs) new c st (DoctypeToken d) result fault e from ok is fails says
 
-  at-mark : (old : Tokenizer K) (b : ℕ) (s : S × List Reply) → sound s.0 → (d : Doctype) (t : List ℕ) (i : Item) → i ≡ given (standing old InData) d 1
+  pub at-mark : (old : Tokenizer K) (b : ℕ) (s : S × List Reply) → sound s.0 → (d : Doctype) (t : List ℕ) (i : Item) → i ≡ given (standing old InData) d 1
       → play (noting step) (noting_cdata cdata) (noting_end ends) (rows_of old) i b s (62 ∷ t) ≡ (noting step s (DoctypeToken d) (line_number b) >>= λ p. reading (noting step) (noting_cdata cdata) (noting_end ends) (rows_of old) (standing old InData) (b + 0) p.0 t)
   at-mark old b s h d t i is = end-says step view cdata ends sound number quiet laws old b s h (DoctypeToken d) t (62 ∷ t) 1 i tt is refl refl
 
@@ -149,9 +149,9 @@ module _ {K S H : Type 0} (step : Step S) (view : K → S) (cdata : S → Bool) 
     unfolding held_at
     before_name-white from e = stays state.BeforeDoctypeName from (λ b s t. behind-c _ _ b s t (skip-white (doctype_name_at (standing old InData)) c t e))
 
-    pub name-white : (front : List ℕ) (d : Doctype) → IsAt old state.DoctypeName → is_white_space c ≡ true → front ≡ [] → d ≡ record no_doctype { name = Some old.temporary } → Took step view cdata ends sound number old (record old { temporary = front; doctype = d; state = state.AfterDoctypeName }) c flow.Continue
+    pub name-white : (front word : List ℕ) (d : Doctype) → IsAt old state.DoctypeName → is_white_space c ≡ true → front ≡ [] → word ≡ [] → d ≡ record no_doctype { name = Some old.temporary } → Took step view cdata ends sound number old (record old { temporary = front; doctype = d; keyword = word; state = state.AfterDoctypeName }) c flow.Continue
     unfolding held_at
-    name-white front d from e is is' = rw (is, is') (moves state.DoctypeName state.AfterDoctypeName [] (record no_doctype { name = Some old.temporary }) from (λ b s t.
+    name-white front word d from e is is' is'' = rw (is, is', is'') (took step view cdata ends sound number old (record old { temporary = []; doctype = record no_doctype { name = Some old.temporary }; keyword = []; state = state.AfterDoctypeName }) c state.DoctypeName state.AfterDoctypeName from (record { state = refl; fresh = from.fresh }) refl refl ok (λ b s t.
         behind-c _ _ b s t (name-ends (standing old InData) old.temporary c t (word-white c e) ∙ skip-white (keyword_at (standing old InData) (record no_doctype { name = Some old.temporary })) c t e)))
 
     pub before_identifier-white : (kind : DoctypeIdKind) → IsAt old (state.BeforeDoctypeIdentifier kind) → is_white_space c ≡ true → Took step view cdata ends sound number old old c flow.Continue

@@ -4,7 +4,9 @@ pub mod AttributeValues
 pub mod CdataStates
 pub mod CharRefs
 pub mod Comments
+pub mod Declarations
 pub mod Digits
+pub mod DoctypeKeywords
 pub mod Doctypes
 pub mod Ends
 pub mod Errors
@@ -16,10 +18,13 @@ pub mod HeldTextStates
 pub mod HeldTexts
 pub mod HeldValueStates
 pub mod HeldValues
+pub mod Keywords
 pub mod Lawful
 pub mod Opens
 pub mod RawEndTags
+pub mod RawEnds
 pub mod RawKinds
+pub mod RawNames
 pub mod RawStates
 pub mod Readings
 pub mod Refused

@@ -72,7 +72,7 @@ end-bogus c l e st t = end-opens c (opens-by c (nat_eq c 47) (nat_eq c 33) (nat_
 
 module _ {K S H : Type 0} (step : Step S) (view : K → S) (cdata : S → Bool) (ends : S → S) (sound : S → Type 0) (number : H → ℕ) (quiet : S → Token → Bool) (laws : SinkLaws sound step ends quiet) where
   -- a reading at "<", by the item that stands there
-  opened : (old : Tokenizer K) (b : ℕ) (s : S × List Reply) (t : List ℕ) (j : Item) → item (rows_of old) (cdata s.0) (standing old InData) 60 t ≡ behind j
+  pub opened : (old : Tokenizer K) (b : ℕ) (s : S × List Reply) (t : List ℕ) (j : Item) → item (rows_of old) (cdata s.0) (standing old InData) 60 t ≡ behind j
       → reading (noting step) (noting_cdata cdata) (noting_end ends) (rows_of old) (standing old InData) b s (60 ∷ t) ≡ play (noting step) (noting_cdata cdata) (noting_end ends) (rows_of old) j b s t
   opened old b s t j is = reading-is (noting step) (noting_cdata cdata) (noting_end ends) (rows_of old) (standing old InData) b s 60 t j is ∙ ap (λ x. play (noting step) (noting_cdata cdata) (noting_end ends) (rows_of old) j x s t) (sum-zero b)
 
@@ -84,9 +84,9 @@ module _ {K S H : Type 0} (step : Step S) (view : K → S) (cdata : S → Bool) 
   unfolding held_at
   open-slash old from ok = took step view cdata ends sound number old (record old { state = state.EndTagOpen }) 47 state.TagOpen state.EndTagOpen from (record { state = refl; fresh = from.fresh }) refl refl ok (λ b s t. same-reading old b s (60 ∷ 47 ∷ t))
 
-  pub open-mark : (old : Tokenizer K) (front : List ℕ) → IsAt old state.TagOpen → sound (view old.sink) → front ≡ [] → Took step view cdata ends sound number old (record old { temporary = front; state = state.MarkupDeclarationOpen }) 33 flow.Continue
+  pub open-mark : (old : Tokenizer K) (front : List ℕ) → IsAt old state.TagOpen → sound (view old.sink) → front ≡ [] → Took step view cdata ends sound number old (record old { keyword = front; state = state.MarkupDeclarationOpen }) 33 flow.Continue
   unfolding held_at
-  open-mark old front from ok is = rw is (took step view cdata ends sound number old (record old { temporary = []; state = state.MarkupDeclarationOpen }) 33 state.TagOpen state.MarkupDeclarationOpen from (record { state = refl; fresh = from.fresh }) refl refl ok (λ b s t. same-reading old b s (60 ∷ 33 ∷ t)))
+  open-mark old front from ok is = rw is (took step view cdata ends sound number old (record old { keyword = []; state = state.MarkupDeclarationOpen }) 33 state.TagOpen state.MarkupDeclarationOpen from (record { state = refl; fresh = from.fresh }) refl refl ok (λ b s t. same-reading old b s (60 ∷ 33 ∷ t)))
 
   -- a letter begins a tag's name
   pub open-letter : (old new : Tokenizer K) (c : ℕ) (tag : Tag) (result : Result (ProcessResult H) ParseFault) → IsAt old state.TagOpen → is_ascii_alphabetic c ≡ true → tag ≡ named StartTag []

@@ -1,8 +1,7 @@
 -- "<" and "</" in raw text, which may begin the fitting end tag.
-use Rattle.std.proofs.Common.{◌≡◌, ◌∙◌, ℕ, ◌+◌, Bool, true, false, nat_eq, List, [], ◌∷◌, ◌++◌, map, Option, Some, None, Result, Ok, Err, refl, sym, ap, append_assoc, append-nil, inl, inr}
-use Rattle.std.specs.Prelude.{◌&&◌, ◌⊎◌, if◌then◌else◌}
-use Rattle.std.specs.Char.{is_ascii_alphabetic, to_ascii_lowercase}
-use Rattle.std.specs.List.{list_all}
+use Rattle.std.proofs.Common.{◌≡◌, ◌∙◌, ℕ, ◌+◌, Bool, true, false, nat_eq, List, [], ◌∷◌, Result, refl, sym, ap}
+use Rattle.std.specs.Prelude.{◌&&◌}
+use Rattle.std.specs.Char.{is_ascii_alphabetic}
 use Rattle.std.proofs.lemmas.Bool.{ne_eqb}
 use Rattle.std.specs.Result.{IsErrAnd}
 use Rattle.markup.specs.declared.fault.ParseFault.{ParseFault}
@@ -10,41 +9,38 @@ use Rattle.html_tokens.specs.declared.replies.ProcessResult.{ProcessResult}
 use Rattle.html_tokens.specs.declared.replies.ProcessResult.TheVariants as flow
 use Rattle.html_tokens.specs.declared.states.RawKind.{RawKind}
 use Rattle.html_tokens.specs.declared.states.RawKind.TheVariants as raw
-use Rattle.html_tokens.specs.declared.states.ScriptEscapeKind.{ScriptEscapeKind}
 use Rattle.html_tokens.specs.declared.states.ScriptEscapeKind.TheVariants as script
 use Rattle.html_tokens.specs.declared.states.State.TheVariants as state
 use Rattle.html_tokens.specs.declared.token.Token.{Token}
 use Rattle.html_tokens.specs.declared.token.Token.TheVariants.{CharacterTokens}
-use Rattle.html_tokens.specs.Characters.{shown, ends_tag_name}
 use Rattle.html_tokens.specs.Pauses.{noting, noting_cdata, noting_end}
-use Rattle.html_tokens.specs.Item.{InData, InRaw, character}
-use Rattle.html_tokens.specs.Items.{item}
-use Rattle.html_tokens.specs.RawText.{is_fitting_end, ends_at_tag, has_references, kind_behind}
-use Rattle.html_tokens.specs.Reading.{◌>>=◌, line_number, line_break, reading}
-use Rattle.html_tokens.specs.Sink.{Step, Reply, Refusal, SinkLaws}
+use Rattle.html_tokens.specs.Item.{InRaw}
+use Rattle.html_tokens.specs.RawText.{is_fitting_end, ends_at_tag, kind_behind}
+use Rattle.html_tokens.specs.Reading.{◌>>=◌, line_number, line_break}
+use Rattle.html_tokens.specs.Sink.{Step, Reply, SinkLaws}
 use Rattle.html_machine.specs.declared.tokenizer.Tokenizer.{Tokenizer}
 use Rattle.html_machine.specs.Rest.{rows_of, standing, kind_after, held_at}
 use Rattle.html_machine.specs.Steps.{IsAt, Fails, Told, TakesAs, Took, Keeps}
-use Rattle.html_machine.specs.Words.{ends_raw_text, ends_script, may_escape}
+use Rattle.html_machine.specs.Words.{may_escape}
 use Rattle.html_machine.proofs.Lawful.{noting-lawful}
-use Rattle.html_machine.proofs.Readings.{reading-char, sum-zero}
-use Rattle.html_machine.proofs.Runs.{reading-text, reading-two, told-more}
+use Rattle.html_machine.proofs.Readings.{sum-zero}
+use Rattle.html_machine.proofs.Runs.{reading-text, reading-two}
 use Rattle.html_machine.proofs.Glue.{Says, took, keeps_silent, at, no-break}
-use Rattle.html_machine.proofs.Telling.{keeps_taken, keeps_then, not-told_from, took_reference}
-use Rattle.html_machine.proofs.RawKinds.{and-none, and_parts, unfit-empty, letter-no_open, letter-no_reference, letter-no_dash, letter-no_null, letter-no_break, letter-no_slash, letter-no_end, other-way, kind-same, kind_after-more, kind_after-letters, kind-open, kind-open_slash, kind-no_name, double_escaped, fitting-slash, fitting-word, kind-script, kind-end_script}
+use Rattle.html_machine.proofs.Telling.{keeps_taken, keeps_then, not-told_from}
+use Rattle.html_machine.proofs.RawKinds.{and-none, unfit-empty, letter-no_open, letter-no_reference, letter-no_null, letter-no_break, letter-no_slash, kind-same, kind-open, kind-no_name, fitting-slash, fitting-word}
 use Rattle.html_machine.proofs.RawStates.{raw_text, plain-item, open-item, held-open}
 use Rattle.html_machine.proofs.ScriptStates.{char-says, kind-says}
 
 module _ {K S H : Type 0} (step : Step S) (view : K → S) (cdata : S → Bool) (ends : S → S) (sound : S → Type 0) (number : H → ℕ) (quiet : S → Token → Bool) (laws : SinkLaws sound step ends quiet) where
   -- "<" and then another character are told, and the text has this kind behind them
-  two-says : (old : Tokenizer K) (kind : RawKind) (b : ℕ) (s : S × List Reply) → sound s.0 → (c : ℕ) (t : List ℕ) → nat_eq c 60 ≡ false → nat_eq c 38 ≡ false → nat_eq c 0 ≡ false → nat_eq c 10 ≡ false → (ends_at_tag kind && is_fitting_end old.last_start_tag (c ∷ t)) ≡ false
+  pub two-says : (old : Tokenizer K) (kind : RawKind) (b : ℕ) (s : S × List Reply) → sound s.0 → (c : ℕ) (t : List ℕ) → nat_eq c 60 ≡ false → nat_eq c 38 ≡ false → nat_eq c 0 ≡ false → nat_eq c 10 ≡ false → (ends_at_tag kind && is_fitting_end old.last_start_tag (c ∷ t)) ≡ false
       → raw_text step view cdata ends sound number old kind b s (60 ∷ c ∷ t) ≡ (noting step s (CharacterTokens (60 ∷ c ∷ [])) (line_number b) >>= λ p. raw_text step view cdata ends sound number old (kind_after kind (60 ∷ c ∷ []) t) b p.0 t)
   two-says old kind b s h c t e f z n fits =
       let mid = kind_behind kind 60 (c ∷ t) in
       reading-two (λ p. sound p.0) (noting step) (noting_cdata cdata) (noting_end ends) (rows_of old) (noting-lawful sound step ends quiet laws) (standing old (InRaw kind)) (standing old (InRaw mid)) (standing old (InRaw (kind_behind mid c t))) b s h 60 c t (line_number b) refl n
       (λ x. open-item old kind x (c ∷ t) fits) (λ x. plain-item old mid x c t e f z)
 
-  fits-none : (k : Tokenizer K) (kind : RawKind) (t : List ℕ) → is_fitting_end k.last_start_tag t ≡ false → (ends_at_tag kind && is_fitting_end k.last_start_tag t) ≡ false
+  pub fits-none : (k : Tokenizer K) (kind : RawKind) (t : List ℕ) → is_fitting_end k.last_start_tag t ≡ false → (ends_at_tag kind && is_fitting_end k.last_start_tag t) ≡ false
   fits-none k kind t e = rw e (and-none (ends_at_tag kind))
 
   -- "/" behind "<"

@@ -1,26 +1,22 @@
 -- How the kind of raw text goes on, and where its end tag stands.
-use Rattle.std.proofs.Common.{◌≡◌, ◌∙◌, ℕ, ◌+◌, Bool, true, false, nat_eq, List, [], ◌∷◌, ◌++◌, map, Option, Some, None, refl, sym, ap, arith, append_assoc}
+use Rattle.std.proofs.Common.{◌≡◌, ◌∙◌, ℕ, Bool, true, false, nat_eq, List, [], ◌∷◌, ◌++◌, map, Option, Some, None, refl, ap, arith, append_assoc}
 use Rattle.std.specs.Prelude.{◌&&◌, codes, if◌then◌else◌}
 use Rattle.std.specs.Char.{to_ascii_lowercase, is_ascii_alphabetic}
 use Rattle.std.specs.List.{list_all}
 use Rattle.std.proofs.lemmas.Bool.Decides.{nat_tests}
-use Rattle.std.proofs.lemmas.Bool.{eqb-true}
 use Rattle.html_tokens.specs.declared.states.RawKind.{RawKind}
 use Rattle.html_tokens.specs.declared.states.RawKind.TheVariants.{Rcdata, Rawtext, ScriptData, ScriptDataEscaped}
 use Rattle.html_tokens.specs.declared.states.ScriptEscapeKind.{ScriptEscapeKind}
 use Rattle.html_tokens.specs.declared.states.ScriptEscapeKind.TheVariants.{Escaped, DoubleEscaped}
-use Rattle.html_tokens.specs.Characters.{ends_tag_name, begins, begins_by, begins_name}
-use Rattle.html_tokens.specs.RawText.{is_letters, slash_name, is_fitting_end, ends_at_tag, has_references, kind_behind}
+use Rattle.html_tokens.specs.Characters.{ends_tag_name, begins_by, begins_name}
+use Rattle.html_tokens.specs.RawText.{is_letters, is_fitting_end, ends_at_tag, kind_behind}
 use Rattle.html_machine.specs.Rest.{kind_after}
-use Rattle.html_machine.specs.Words.{same_any_case, is_fitting, ends_raw_text, ends_script, may_escape}
+use Rattle.html_machine.proofs.Words.{and_parts}
+use Rattle.html_machine.specs.Words.{same_any_case, ends_raw_text, ends_script, may_escape}
 
 pub and-none : (a : Bool) → (a && false) ≡ false
 and-none true = refl
 and-none false = refl
-
-pub and_parts : (a b : Bool) → (a && b) ≡ true → (a ≡ true) × (b ≡ true)
-and_parts true b h = (refl, h)
-and_parts false b h = absurd cc
 
 -- a letter is none of the characters that matter to raw text
 pub letter-no_open : (c : ℕ) → is_ascii_alphabetic c ≡ true → nat_eq c 60 ≡ false
@@ -43,6 +39,9 @@ letter-no_slash c h = grind (arith, nat_tests)
 
 pub letter-no_end : (c : ℕ) → is_ascii_alphabetic c ≡ true → ends_tag_name c ≡ false
 letter-no_end c h = grind (arith, nat_tests)
+
+pub end-no_letter : (c : ℕ) → ends_tag_name c ≡ true → is_ascii_alphabetic c ≡ false
+end-no_letter c h = grind (arith, nat_tests)
 
 -- a letter's lower case is that of letters only
 apart : (n c : ℕ) → is_ascii_alphabetic n ≡ true → is_ascii_alphabetic c ≡ false → nat_eq (to_ascii_lowercase n) (to_ascii_lowercase c) ≡ false

@@ -1,10 +1,7 @@
 -- Characters of raw text.
-use Rattle.std.proofs.Common.{◌≡◌, ◌∙◌, ℕ, ◌+◌, Bool, true, false, nat_eq, List, [], ◌∷◌, ◌++◌, map, Option, Some, None, Result, Ok, Err, refl, sym, ap, append_assoc, append-nil, inl, inr}
-use Rattle.std.specs.Prelude.{◌&&◌, ◌⊎◌, if◌then◌else◌}
-use Rattle.std.specs.Char.{is_ascii_alphabetic, to_ascii_lowercase}
-use Rattle.std.specs.List.{list_all}
+use Rattle.std.proofs.Common.{◌≡◌, ◌∙◌, ℕ, ◌+◌, Bool, true, false, nat_eq, List, [], ◌∷◌, Some, Result, refl, sym, ap, inl, inr}
+use Rattle.std.specs.Prelude.{◌&&◌, ◌⊎◌}
 use Rattle.std.proofs.lemmas.Bool.{ne_eqb}
-use Rattle.std.specs.Result.{IsErrAnd}
 use Rattle.markup.specs.declared.fault.ParseFault.{ParseFault}
 use Rattle.html_tokens.specs.declared.replies.ProcessResult.{ProcessResult}
 use Rattle.html_tokens.specs.declared.replies.ProcessResult.TheVariants as flow
@@ -15,23 +12,21 @@ use Rattle.html_tokens.specs.declared.states.ScriptEscapeKind.TheVariants as scr
 use Rattle.html_tokens.specs.declared.states.State.TheVariants as state
 use Rattle.html_tokens.specs.declared.token.Token.{Token}
 use Rattle.html_tokens.specs.declared.token.Token.TheVariants.{CharacterTokens}
-use Rattle.html_tokens.specs.Characters.{shown, ends_tag_name}
+use Rattle.html_tokens.specs.Characters.{shown}
 use Rattle.html_tokens.specs.Pauses.{noting, noting_cdata, noting_end}
-use Rattle.html_tokens.specs.Item.{InData, InRaw, character}
+use Rattle.html_tokens.specs.Item.{InRaw, character}
 use Rattle.html_tokens.specs.Items.{item}
 use Rattle.html_tokens.specs.RawText.{is_fitting_end, ends_at_tag, has_references, kind_behind}
 use Rattle.html_tokens.specs.Reading.{◌>>=◌, line_number, line_break, reading}
 use Rattle.html_tokens.specs.Sink.{Step, Reply, Refusal, SinkLaws}
 use Rattle.html_machine.specs.declared.tokenizer.Tokenizer.{Tokenizer}
-use Rattle.html_machine.specs.Rest.{rows_of, standing, kind_after, held_at}
-use Rattle.html_machine.specs.Steps.{IsAt, Fails, Told, TakesAs, Took, Keeps}
-use Rattle.html_machine.specs.Words.{ends_raw_text, ends_script, may_escape}
+use Rattle.html_machine.specs.Rest.{rows_of, standing, held_at}
+use Rattle.html_machine.specs.Steps.{IsAt, TakesAs, Took, Keeps}
 use Rattle.html_machine.proofs.Lawful.{noting-lawful}
 use Rattle.html_machine.proofs.Readings.{reading-char, sum-zero}
-use Rattle.html_machine.proofs.Runs.{reading-text, reading-two, told-more}
-use Rattle.html_machine.proofs.Glue.{Says, took, keeps_silent, at, no-break}
-use Rattle.html_machine.proofs.Telling.{keeps_taken, keeps_then, not-told_from, took_reference}
-use Rattle.html_machine.proofs.RawKinds.{and_parts, letter-no_open, letter-no_reference, letter-no_dash, letter-no_null, letter-no_break, letter-no_slash, letter-no_end, other-way, kind-same, kind-dash, kind_after-more, kind_after-letters, kind-open, kind-open_slash, kind-no_name, double_escaped, fitting-slash, fitting-word, kind-script, kind-end_script}
+use Rattle.html_machine.proofs.Glue.{Says, took, at}
+use Rattle.html_machine.proofs.Telling.{keeps_taken, took_reference}
+use Rattle.html_machine.proofs.RawKinds.{kind-same, kind-dash, double_escaped}
 
 -- a character of raw text that begins no end tag and no reference
 pub raw-item : {K : Type 0} (k : Tokenizer K) (kind : RawKind) (x : Bool) (c : ℕ) (t : List ℕ) → (nat_eq c 60 && ends_at_tag kind && is_fitting_end k.last_start_tag t) ≡ false → (nat_eq c 38 && has_references kind) ≡ false

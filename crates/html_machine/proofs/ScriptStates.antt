@@ -1,13 +1,11 @@
 -- The escapes in the text of a script.
-use Rattle.std.proofs.Common.{◌≡◌, ◌∙◌, ℕ, ◌+◌, Bool, true, false, nat_eq, List, [], ◌∷◌, ◌++◌, map, Option, Some, None, Result, Ok, Err, refl, sym, ap, append_assoc, append-nil, inl, inr}
-use Rattle.std.specs.Prelude.{◌&&◌, ◌⊎◌, if◌then◌else◌}
-use Rattle.std.specs.Char.{is_ascii_alphabetic, to_ascii_lowercase}
+use Rattle.std.proofs.Common.{◌≡◌, ◌∙◌, ℕ, ◌+◌, Bool, true, false, nat_eq, List, [], ◌∷◌, ◌++◌, Result, refl, sym, ap}
+use Rattle.std.specs.Prelude.{if◌then◌else◌}
+use Rattle.std.specs.Char.{is_ascii_alphabetic}
 use Rattle.std.specs.List.{list_all}
 use Rattle.std.proofs.lemmas.Bool.{ne_eqb}
-use Rattle.std.specs.Result.{IsErrAnd}
 use Rattle.markup.specs.declared.fault.ParseFault.{ParseFault}
 use Rattle.html_tokens.specs.declared.replies.ProcessResult.{ProcessResult}
-use Rattle.html_tokens.specs.declared.replies.ProcessResult.TheVariants as flow
 use Rattle.html_tokens.specs.declared.states.RawKind.{RawKind}
 use Rattle.html_tokens.specs.declared.states.RawKind.TheVariants as raw
 use Rattle.html_tokens.specs.declared.states.ScriptEscapeKind.{ScriptEscapeKind}
@@ -15,24 +13,18 @@ use Rattle.html_tokens.specs.declared.states.ScriptEscapeKind.TheVariants as scr
 use Rattle.html_tokens.specs.declared.states.State.TheVariants as state
 use Rattle.html_tokens.specs.declared.token.Token.{Token}
 use Rattle.html_tokens.specs.declared.token.Token.TheVariants.{CharacterTokens}
-use Rattle.html_tokens.specs.Characters.{shown, ends_tag_name}
-use Rattle.html_tokens.specs.Pauses.{noting, noting_cdata, noting_end}
-use Rattle.html_tokens.specs.Item.{InData, InRaw, character}
-use Rattle.html_tokens.specs.Items.{item}
-use Rattle.html_tokens.specs.RawText.{is_fitting_end, ends_at_tag, has_references, kind_behind}
-use Rattle.html_tokens.specs.Reading.{◌>>=◌, line_number, line_break, reading}
-use Rattle.html_tokens.specs.Sink.{Step, Reply, Refusal, SinkLaws}
+use Rattle.html_tokens.specs.Pauses.{noting}
+use Rattle.html_tokens.specs.RawText.{kind_behind}
+use Rattle.html_tokens.specs.Reading.{◌>>=◌, line_number, line_break}
+use Rattle.html_tokens.specs.Sink.{Step, Reply, SinkLaws}
 use Rattle.html_machine.specs.declared.tokenizer.Tokenizer.{Tokenizer}
-use Rattle.html_machine.specs.Rest.{rows_of, standing, kind_after, held_at}
-use Rattle.html_machine.specs.Steps.{IsAt, Fails, Told, TakesAs, Took, Keeps}
-use Rattle.html_machine.specs.Words.{ends_raw_text, ends_script, may_escape}
-use Rattle.html_machine.proofs.Lawful.{noting-lawful}
-use Rattle.html_machine.proofs.Readings.{reading-char, sum-zero}
-use Rattle.html_machine.proofs.Runs.{reading-text, reading-two, told-more}
-use Rattle.html_machine.proofs.Glue.{Says, took, keeps_silent, at, no-break}
-use Rattle.html_machine.proofs.Telling.{keeps_taken, keeps_then, not-told_from, took_reference}
-use Rattle.html_machine.proofs.RawKinds.{and_parts, letter-no_open, letter-no_reference, letter-no_dash, letter-no_null, letter-no_break, letter-no_slash, letter-no_end, other-way, kind-same, kind_after-more, kind_after-letters, kind-open, kind-open_slash, kind-no_name, double_escaped, fitting-slash, fitting-word, kind-script, kind-end_script}
-use Rattle.html_machine.proofs.RawStates.{raw_text, raw-char, plain-item, open-item, held-open}
+use Rattle.html_machine.specs.Rest.{kind_after, held_at}
+use Rattle.html_machine.specs.Steps.{IsAt, TakesAs, Keeps}
+use Rattle.html_machine.specs.Words.{ends_script}
+use Rattle.html_machine.proofs.Glue.{Says, keeps_silent, at}
+use Rattle.html_machine.proofs.Telling.{keeps_taken}
+use Rattle.html_machine.proofs.RawKinds.{letter-no_open, letter-no_reference, letter-no_null, kind_after-more, kind-script, kind-end_script}
+use Rattle.html_machine.proofs.RawStates.{raw_text, raw-char}
 
 module _ {K S H : Type 0} (step : Step S) (view : K → S) (cdata : S → Bool) (ends : S → S) (sound : S → Type 0) (number : H → ℕ) (quiet : S → Token → Bool) (laws : SinkLaws sound step ends quiet) where
   -- a character is told, and the text has this kind behind it

@@ -1,4 +1,6 @@
 pub mod CharRefs
+pub mod Input
+pub mod Keywords
 pub mod Quotes
 pub mod Rest
 pub mod Steps

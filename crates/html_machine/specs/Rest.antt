@@ -88,7 +88,7 @@ module _ {K T : Type 0} (step : Step T) (cdata : T → Bool) (ends : T → T) wh
   held_at state.SelfClosingStartTag k b s t = read_at (InTag k.tag) k b s (47 ∷ t)
   -- comments
   held_at state.BogusComment k b s t = played (bogus_comment_after (standing k InData) k.comment t) k b s t
-  held_at state.MarkupDeclarationOpen k b s t = read_at InData k b s (60 ∷ 33 ∷ (k.temporary ++ t))
+  held_at state.MarkupDeclarationOpen k b s t = read_at InData k b s (60 ∷ 33 ∷ (k.keyword ++ t))
   held_at state.CommentStart k b s t = played (comment_at (standing k InData) t) k b s t
   held_at state.CommentStartDash k b s t = played (comment_at (standing k InData) (45 ∷ t)) k b s (45 ∷ t)
   held_at state.Comment k b s t = played (comment_after (standing k InData) k.comment t) k b s t
@@ -103,7 +103,7 @@ module _ {K T : Type 0} (step : Step T) (cdata : T → Bool) (ends : T → T) wh
   held_at state.Doctype k b s t = played (doctype_at (standing k InData) t) k b s t
   held_at state.BeforeDoctypeName k b s t = played (doctype_at (standing k InData) t) k b s t
   held_at state.DoctypeName k b s t = played (doctype_name_after (standing k InData) k.temporary t) k b s t
-  held_at state.AfterDoctypeName k b s t = played (after_name (standing k InData) k.doctype (k.temporary ++ t)) k b s (k.temporary ++ t)
+  held_at state.AfterDoctypeName k b s t = played (after_name (standing k InData) k.doctype (k.keyword ++ t)) k b s (k.keyword ++ t)
   held_at (state.AfterDoctypeKeyword id.Public) k b s t = played (after_public_keyword (standing k InData) k.doctype t) k b s t
   held_at (state.AfterDoctypeKeyword id.System) k b s t = played (after_system_keyword (standing k InData) k.doctype t) k b s t
   held_at (state.BeforeDoctypeIdentifier id.Public) k b s t = played (after_public_keyword (standing k InData) k.doctype t) k b s t

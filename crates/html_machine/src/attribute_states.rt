@@ -1,6 +1,6 @@
 //! The attributes of a tag (HTML Standard, sections 13.2.5.32 to 13.2.5.39).
 ghost use Rattle.std.specs.Prelude.{◌≡◌, [], Some, IfErr, OnOk};
-ghost use Rattle.html_tokens.specs.Characters.{ends_attribute_name, ends_word};
+ghost use Rattle.html_tokens.specs.Characters.{ends_attribute_name};
 ghost use Rattle.html_tokens.specs.Tags.{has_attribute, with_attribute};
 ghost use Rattle.html_tokens.specs.declared.states.AttrValueKind.TheVariants as value;
 ghost use Rattle.html_tokens.specs.declared.states.State.TheVariants as state;
@@ -8,7 +8,7 @@ ghost use Rattle.markup.specs.declared.fault.ParseFault.TheVariants.{Memory};
 ghost use Rattle.html_machine.specs.Quotes.{quote_of};
 ghost use Rattle.html_machine.specs.Steps.{IsAt, Keeps};
 
-use crate::characters::{is_white_space, lowered, shown};
+use crate::characters::{ends_word, is_white_space, lowered, shown};
 use crate::held_reference::HeldReference;
 use crate::tell::empty;
 use crate::tokenizer::Tokenizer;
@@ -23,13 +23,6 @@ fn ends_name(c: char) -> bool
     ensures { result ≡ ends_attribute_name c }
 {
     is_white_space(c) || c == '/' || c == '>' || c == '='
-}
-
-/// Whether a value without quotes ends before this character.
-fn ends_unquoted(c: char) -> bool
-    ensures { result ≡ ends_word c }
-{
-    is_white_space(c) || c == '>'
 }
 
 /// Whether a tag has an attribute of this name.
@@ -186,7 +179,7 @@ impl<Sink: TokenSink> Tokenizer<Sink> {
         requires sound { Sink.is_sound (Sink.view self.old.sink) }
         ensures { Keeps Sink.step Sink.view Sink.asks_cdata Sink.ended Sink.is_sound Sink.number self.old self.new c result }
     {
-        if ends_unquoted(c) {
+        if ends_word(c) {
             self.finish_attribute()?;
             self.state = State::BeforeAttributeName;
             return self.before_attribute_name_state(c);

@@ -22,3 +22,17 @@ pub(crate) fn is_white_space(c: char) -> bool
 {
     c == '\t' || c == '\n' || c == '\x0C' || c == ' '
 }
+
+/// White space, `/` or `>`.
+pub(crate) fn ends_tag_name(c: char) -> bool
+    ensures { result ≡ Characters.ends_tag_name c }
+{
+    is_white_space(c) || c == '/' || c == '>'
+}
+
+/// White space or `>`.
+pub(crate) fn ends_word(c: char) -> bool
+    ensures { result ≡ Characters.ends_word c }
+{
+    is_white_space(c) || c == '>'
+}

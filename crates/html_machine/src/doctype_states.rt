@@ -8,6 +8,7 @@ ghost use Rattle.html_machine.specs.Rest.{with_identifier};
 ghost use Rattle.html_machine.specs.Steps.{IsAt, Tells, Keeps};
 
 use crate::characters::{is_white_space, lowered, shown};
+use crate::keyword::Keyword;
 use crate::tell::empty;
 use crate::tokenizer::Tokenizer;
 use html_tokens::sink::TokenSink;
@@ -96,6 +97,7 @@ impl<Sink: TokenSink> Tokenizer<Sink> {
     {
         if is_white_space(c) {
             self.finish_name();
+            self.keyword = Keyword::new(self.stream.alloc);
             self.state = State::AfterDoctypeName;
             return Ok(ProcessResult::Continue);
         }

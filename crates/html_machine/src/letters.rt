@@ -92,6 +92,7 @@ impl Letters {
     /// The letters lowered.
     pub(crate) fn lowered(&self, alloc: Global) -> Result<String, ParseFault>
         ensures ok { IfOk result (λ name. chars (string_bytes name) ≡ map to_ascii_lowercase self.now) }
+        ensures letters { list_all is_ascii_alphabetic self.now ≡ true }
         ensures fault { IfErr result (λ fault. fault ≡ Memory) }
     {
         Ok(self.text.as_str().to_ascii_lowercase(alloc)?)

@@ -4,6 +4,7 @@ ghost use Rattle.std.specs.Char.{is_ascii_alphabetic};
 ghost use Rattle.html_tokens.specs.declared.states.State.TheVariants as state;
 ghost use Rattle.html_machine.specs.Steps.{IsAt, Keeps};
 
+use crate::keyword::Keyword;
 use crate::tag_states::nameless;
 use crate::tell::empty;
 use crate::tokenizer::Tokenizer;
@@ -27,7 +28,7 @@ impl<Sink: TokenSink> Tokenizer<Sink> {
             return Ok(ProcessResult::Continue);
         }
         if c == '!' {
-            self.temporary = empty(self.stream.alloc);
+            self.keyword = Keyword::new(self.stream.alloc);
             self.state = State::MarkupDeclarationOpen;
             return Ok(ProcessResult::Continue);
         }

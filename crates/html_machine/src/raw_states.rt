@@ -1,21 +1,24 @@
 //! Text that only its own end tag ends (HTML Standard, sections 13.2.5.2 to 13.2.5.4, 13.2.5.9 to 13.2.5.17 and 13.2.5.20 to 13.2.5.30).
-ghost use Rattle.std.specs.Prelude.{◌≡◌, true, false};
+ghost use Rattle.std.specs.Prelude.{◌≡◌, ◌∷◌, true, false};
+ghost use Rattle.std.specs.Char.{is_ascii_alphabetic};
+ghost use Rattle.std.specs.List.{list_all};
 ghost use Rattle.html_tokens.specs.declared.states.State.TheVariants as state;
 ghost use Rattle.html_tokens.specs.declared.states.RawKind.TheVariants as raw;
 ghost use Rattle.html_tokens.specs.declared.states.ScriptEscapeKind.TheVariants as script;
-ghost use Rattle.html_tokens.specs.Characters.{ends_tag_name};
+ghost use Rattle.html_tokens.specs.declared.token.Token.TheVariants.{CharacterTokens};
 ghost use Rattle.html_tokens.specs.RawText.{ends_at_tag, has_references};
-ghost use Rattle.html_machine.specs.Steps.{IsAt, Keeps};
-ghost use Rattle.html_machine.specs.Words.{may_escape};
+ghost use Rattle.html_machine.specs.Steps.{IsAt, Tells, Keeps};
+ghost use Rattle.html_machine.specs.Words.{ends_raw_text, may_escape};
 
-use crate::characters::is_white_space;
+use crate::characters::ends_tag_name;
 use crate::held_reference::HeldReference;
 use crate::letters::Letters;
+use crate::tell::empty;
 use crate::tokenizer::Tokenizer;
-use html_tokens::ProcessResult;
 use html_tokens::sink::TokenSink;
 use html_tokens::states::{RawKind, ScriptEscapeKind, State};
-use markup::ParseFault;
+use html_tokens::{ProcessResult, Tag, TagKind, Token};
+use markup::{Attributes, LocalName, ParseFault};
 
 /// Whether the fitting end tag ends text of this kind.
 fn ends_at_tag(kind: RawKind) -> bool
@@ -32,13 +35,6 @@ fn has_references(kind: RawKind) -> bool
     ensures { result ≡ has_references kind }
 {
     matches!(kind, RawKind::Rcdata)
-}
-
-/// White space, `/` or `>`.
-pub(crate) fn ends_tag_name(c: char) -> bool
-    ensures { result ≡ ends_tag_name c }
-{
-    is_white_space(c) || c == '/' || c == '>'
 }
 
 impl<Sink: TokenSink> Tokenizer<Sink> {
@@ -65,7 +61,7 @@ impl<Sink: TokenSink> Tokenizer<Sink> {
     }
 
     /// At `<`, which is held where it may begin the fitting end tag.
-    pub(crate) fn raw_less_than_sign(
+    fn raw_less_than_sign(
         &mut self,
         kind: RawKind,
     ) -> Result<ProcessResult<Sink::Handle>, ParseFault>
@@ -82,10 +78,7 @@ impl<Sink: TokenSink> Tokenizer<Sink> {
     }
 
     /// At `&`.
-    pub(crate) fn raw_ampersand(
-        &mut self,
-        kind: RawKind,
-    ) -> Result<ProcessResult<Sink::Handle>, ParseFault>
+    fn raw_ampersand(&mut self, kind: RawKind) -> Result<ProcessResult<Sink::Handle>, ParseFault>
         requires at { IsAt self.old (state.RawData kind) }
         requires sound { Sink.is_sound (Sink.view self.old.sink) }
         ensures { Keeps Sink.step Sink.view Sink.asks_cdata Sink.ended Sink.is_sound Sink.number self.old self.new 38 result }
@@ -99,10 +92,7 @@ impl<Sink: TokenSink> Tokenizer<Sink> {
     }
 
     /// At `-`.
-    pub(crate) fn raw_dash(
-        &mut self,
-        kind: RawKind,
-    ) -> Result<ProcessResult<Sink::Handle>, ParseFault>
+    fn raw_dash(&mut self, kind: RawKind) -> Result<ProcessResult<Sink::Handle>, ParseFault>
         requires at { IsAt self.old (state.RawData kind) }
         requires sound { Sink.is_sound (Sink.view self.old.sink) }
         ensures { Keeps Sink.step Sink.view Sink.asks_cdata Sink.ended Sink.is_sound Sink.number self.old self.new 45 result }
@@ -137,7 +127,7 @@ impl<Sink: TokenSink> Tokenizer<Sink> {
     }
 
     /// Behind `<`, where no escape may begin: `/`, or the `<` was text.
-    pub(crate) fn held_less_than_sign(
+    fn held_less_than_sign(
         &mut self,
         kind: RawKind,
         c: char,
@@ -158,10 +148,7 @@ impl<Sink: TokenSink> Tokenizer<Sink> {
     }
 
     /// Section 13.2.5.15.
-    pub(crate) fn script_less_than_sign(
-        &mut self,
-        c: char,
-    ) -> Result<ProcessResult<Sink::Handle>, ParseFault>
+    fn script_less_than_sign(&mut self, c: char) -> Result<ProcessResult<Sink::Handle>, ParseFault>
         requires at { IsAt self.old (state.RawLessThanSign raw.ScriptData) }
         requires sound { Sink.is_sound (Sink.view self.old.sink) }
         ensures { Keeps Sink.step Sink.view Sink.asks_cdata Sink.ended Sink.is_sound Sink.number self.old self.new c result }
@@ -174,10 +161,7 @@ impl<Sink: TokenSink> Tokenizer<Sink> {
     }
 
     /// Section 13.2.5.23.
-    pub(crate) fn escaped_less_than_sign(
-        &mut self,
-        c: char,
-    ) -> Result<ProcessResult<Sink::Handle>, ParseFault>
+    fn escaped_less_than_sign(&mut self, c: char) -> Result<ProcessResult<Sink::Handle>, ParseFault>
         requires at { IsAt self.old (state.RawLessThanSign (raw.ScriptDataEscaped script.Escaped)) }
         requires sound { Sink.is_sound (Sink.view self.old.sink) }
         ensures { Keeps Sink.step Sink.view Sink.asks_cdata Sink.ended Sink.is_sound Sink.number self.old self.new c result }
@@ -191,7 +175,7 @@ impl<Sink: TokenSink> Tokenizer<Sink> {
     }
 
     /// Section 13.2.5.30.
-    pub(crate) fn double_escaped_less_than_sign(
+    fn double_escaped_less_than_sign(
         &mut self,
         c: char,
     ) -> Result<ProcessResult<Sink::Handle>, ParseFault>
@@ -227,5 +211,96 @@ impl<Sink: TokenSink> Tokenizer<Sink> {
         self.state = State::RawData(kind);
         self.tell_two('<', '/')?;
         self.raw_data_state(kind, c)
+    }
+
+    /// Sections 13.2.5.11, 13.2.5.14, 13.2.5.17 and 13.2.5.25.
+    pub(crate) fn raw_end_tag_name_state(
+        &mut self,
+        kind: RawKind,
+        c: char,
+    ) -> Result<ProcessResult<Sink::Handle>, ParseFault>
+        requires at { IsAt self.old (state.RawEndTagName kind) }
+        requires sound { Sink.is_sound (Sink.view self.old.sink) }
+        ensures { Keeps Sink.step Sink.view Sink.asks_cdata Sink.ended Sink.is_sound Sink.number self.old self.new c result }
+    {
+        if c.is_ascii_alphabetic() {
+            self.word.push(c)?;
+            return Ok(ProcessResult::Continue);
+        }
+        if !ends_at_tag(kind) {
+            return self.double_escaped_end_tag(kind, c);
+        }
+        if self.ends_raw_text(c) {
+            return self.raw_end_tag(kind, c);
+        }
+        self.state = State::RawData(kind);
+        self.tell_end_tag()?;
+        self.raw_data_state(kind, c)
+    }
+
+    /// Behind the whole fitting name.
+    fn raw_end_tag(
+        &mut self,
+        kind: RawKind,
+        c: char,
+    ) -> Result<ProcessResult<Sink::Handle>, ParseFault>
+        requires at { IsAt self.old (state.RawEndTagName kind) }
+        requires held { ends_at_tag kind ≡ true }
+        requires ends { ends_raw_text self.old.last_start_tag self.old.word c ≡ true }
+        requires sound { Sink.is_sound (Sink.view self.old.sink) }
+        ensures { Keeps Sink.step Sink.view Sink.asks_cdata Sink.ended Sink.is_sound Sink.number self.old self.new c result }
+    {
+        let name = self.word.lowered(self.stream.alloc)?;
+        self.tag = Tag {
+            kind: TagKind::EndTag,
+            name: LocalName::new(name),
+            self_closing: false,
+            attrs: Attributes::new(self.stream.alloc),
+            had_duplicate_attributes: false,
+        };
+        self.state = State::TagName;
+        self.tag_name_state(c)
+    }
+
+    /// Text escaped twice, in which no end tag is held.
+    fn double_escaped_end_tag(
+        &mut self,
+        kind: RawKind,
+        c: char,
+    ) -> Result<ProcessResult<Sink::Handle>, ParseFault>
+        requires at { IsAt self.old (state.RawEndTagName kind) }
+        requires told { ends_at_tag kind ≡ false }
+        requires sound { Sink.is_sound (Sink.view self.old.sink) }
+        ensures { Keeps Sink.step Sink.view Sink.asks_cdata Sink.ended Sink.is_sound Sink.number self.old self.new c result }
+    {
+        self.state = State::ScriptDataDoubleEscapeEnd;
+        self.tell_end_tag()?;
+        self.script_data_double_escape_end_state(c)
+    }
+
+    /// Whether the word that is held, with this character behind it, is the fitting end tag's name.
+    fn ends_raw_text(&self, c: char) -> bool
+        ensures { result ≡ ends_raw_text self.now.last_start_tag self.now.word c }
+    {
+        match &self.last_start_tag {
+            Some(name) => {
+                !self.word.is_empty() && self.word.is_any_case(name.as_str()) && ends_tag_name(c)
+            }
+            None => false,
+        }
+    }
+
+    /// Hands out the end tag that is held, which was text.
+    fn tell_end_tag(&mut self) -> Result<(), ParseFault>
+        requires sound { Sink.is_sound (Sink.view self.old.sink) }
+        ensures is { Tells Sink.step Sink.view Sink.asks_cdata Sink.ended Sink.is_sound Sink.number (CharacterTokens (60 ∷ 47 ∷ self.old.word)) self.old self.new result }
+        ensures letters { list_all is_ascii_alphabetic self.old.word ≡ true }
+    {
+        let mut text = empty(self.stream.alloc);
+        let word = self.word.as_str();
+        text.push('<')?;
+        text.push('/')?;
+        text.push_str(word)?;
+        self.tell(Token::CharacterTokens(text))
     }
 }

@@ -8,7 +8,7 @@ ghost use Rattle.html_tokens.specs.declared.states.ScriptEscapeKind.TheVariants 
 ghost use Rattle.html_machine.specs.Steps.{IsAt, Keeps};
 ghost use Rattle.html_machine.specs.Words.{ends_script};
 
-use crate::raw_states::ends_tag_name;
+use crate::characters::ends_tag_name;
 use crate::tokenizer::Tokenizer;
 use html_tokens::ProcessResult;
 use html_tokens::sink::TokenSink;
@@ -33,10 +33,7 @@ impl<Sink: TokenSink> Tokenizer<Sink> {
     }
 
     /// Section 13.2.5.18.
-    pub(crate) fn escape_start(
-        &mut self,
-        c: char,
-    ) -> Result<ProcessResult<Sink::Handle>, ParseFault>
+    fn escape_start(&mut self, c: char) -> Result<ProcessResult<Sink::Handle>, ParseFault>
         requires at { IsAt self.old (state.ScriptDataEscapeStart script.Escaped) }
         requires sound { Sink.is_sound (Sink.view self.old.sink) }
         ensures { Keeps Sink.step Sink.view Sink.asks_cdata Sink.ended Sink.is_sound Sink.number self.old self.new c result }
@@ -50,10 +47,7 @@ impl<Sink: TokenSink> Tokenizer<Sink> {
     }
 
     /// Section 13.2.5.26.
-    pub(crate) fn double_escape_start(
-        &mut self,
-        c: char,
-    ) -> Result<ProcessResult<Sink::Handle>, ParseFault>
+    fn double_escape_start(&mut self, c: char) -> Result<ProcessResult<Sink::Handle>, ParseFault>
         requires at { IsAt self.old (state.ScriptDataEscapeStart script.DoubleEscaped) }
         requires sound { Sink.is_sound (Sink.view self.old.sink) }
         ensures { Keeps Sink.step Sink.view Sink.asks_cdata Sink.ended Sink.is_sound Sink.number self.old self.new c result }

@@ -1,6 +1,7 @@
 //! What a tokenizer holds between two characters.
 
 use crate::held_reference::HeldReference;
+use crate::keyword::Keyword;
 use crate::letters::Letters;
 use html_tokenizer::References;
 use html_tokens::states::State;
@@ -45,8 +46,10 @@ pub struct Tokenizer<Sink> {
     pub(crate) comment: Text,
     /// The doctype that is read.
     pub(crate) doctype: Doctype,
-    /// Characters that were read of a word, a name or an identifier.
+    /// Characters that were read of a name or an identifier.
     pub(crate) temporary: Text,
     /// The letters that were read of the name of an end tag, or of `script`.
     pub(crate) word: Letters,
+    /// What was read of a word behind `<!` or behind a doctype's name.
+    pub(crate) keyword: Keyword,
 }

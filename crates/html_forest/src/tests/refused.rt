@@ -43,6 +43,10 @@ fn refused_memory_changes_nothing(rt: HostRuntime) -> Result<(), Fail> {
         Step::BeforeText(3, "c"),
         Step::Element("template"),
         Step::Reparent(1, 4),
+        Step::Comment("d"),
+        Step::Instruction("e", "f"),
+        Step::Doctype("html"),
+        Step::Attribute(1, "g", "h"),
     ] {
         match refused(rt.alloc(), &mut forest, step) {
             Ok(None) => {}

@@ -10,7 +10,7 @@ use Rattle.html_machine.proofs.tokenizer.Tokenizer.doctype_name_state.Goals as g
 pub returns-then-is_white_space : goal.returns-then-is_white_space
 returns-then-is_white_space g c =
     let m = g.Sink.TokenSink in
-    rw c.finish_name.ensures (name-white m.step m.view m.asks_cdata m.ended m.is_sound m.number m.is_quiet g.met.Sink.TokenSink.laws c.args.self.now c.args.c c.requires.sound [] (record no_doctype { name = Some c.args.self.now.temporary }) c.requires.at (sym c.is_white_space.ensures ∙ c.if-is_white_space.true) refl refl)
+    rw c.finish_name.ensures (name-white m.step m.view m.asks_cdata m.ended m.is_sound m.number m.is_quiet g.met.Sink.TokenSink.laws c.args.self.now c.args.c c.requires.sound [] c.new.result (record no_doctype { name = Some c.args.self.now.temporary }) c.requires.at (sym c.is_white_space.ensures ∙ c.if-is_white_space.true) refl c.new.ensures refl)
 
 pub returns-in_err-emit_doctype : goal.returns-in_err-emit_doctype
 returns-in_err-emit_doctype g c =

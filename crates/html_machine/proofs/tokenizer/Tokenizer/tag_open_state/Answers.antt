@@ -13,7 +13,7 @@ returns-then-c-eq47 g c =
 pub returns-then-c-eq33 : goal.returns-then-c-eq33
 returns-then-c-eq33 g c =
     let m = g.Sink.TokenSink in
-    rw c.if-c-eq33.true (open-mark m.step m.view m.asks_cdata m.ended m.is_sound m.number m.is_quiet g.met.Sink.TokenSink.laws c.args.self.now c.empty.result c.requires.at c.requires.sound c.empty.ensures)
+    rw c.if-c-eq33.true (open-mark m.step m.view m.asks_cdata m.ended m.is_sound m.number m.is_quiet g.met.Sink.TokenSink.laws c.args.self.now c.new.result c.requires.at c.requires.sound c.new.ensures)
 
 pub returns-then-is_ascii_alphabetic : goal.returns-then-is_ascii_alphabetic
 returns-then-is_ascii_alphabetic g c =
@@ -23,7 +23,7 @@ returns-then-is_ascii_alphabetic g c =
 pub returns-then-c-eq63 : goal.returns-then-c-eq63
 returns-then-c-eq63 g c =
     let m = g.Sink.TokenSink in
-    open-bogus m.step m.view m.asks_cdata m.ended m.is_sound m.number m.is_quiet g.met.Sink.TokenSink.laws c.args.self.now _ c.args.c c.empty-then-c-eq63.result _ c.requires.at c.if-c-eq63.true c.empty-then-c-eq63.ensures c.bogus_comment_state.ensures
+    open-bogus m.step m.view m.asks_cdata m.ended m.is_sound m.number m.is_quiet g.met.Sink.TokenSink.laws c.args.self.now _ c.args.c c.empty.result _ c.requires.at c.if-c-eq63.true c.empty.ensures c.bogus_comment_state.ensures
 
 pub returns-in_err-tell_str : goal.returns-in_err-tell_str
 unfolding chars

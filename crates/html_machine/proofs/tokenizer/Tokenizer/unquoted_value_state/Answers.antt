@@ -3,10 +3,10 @@ use Rattle.html_tokens.specs.declared.states.AttrValueKind.TheVariants as value
 use Rattle.html_machine.proofs.AttributeValues.{value-reference, unquoted-more, unquoted-end}
 use Rattle.html_machine.proofs.tokenizer.Tokenizer.unquoted_value_state.Goals as goal
 
-pub returns-then-ends_unquoted : goal.returns-then-ends_unquoted
-returns-then-ends_unquoted g c =
+pub returns-then-ends_word : goal.returns-then-ends_word
+returns-then-ends_word g c =
     let m = g.Sink.TokenSink in
-    unquoted-end m.step m.view m.asks_cdata m.ended m.is_sound m.number c.args.self.now c.finish_attribute.new.self _ _ _ c.requires.at (sym c.ends_unquoted.ensures ∙ c.if-ends_unquoted.true)
+    unquoted-end m.step m.view m.asks_cdata m.ended m.is_sound m.number c.args.self.now c.finish_attribute.new.self _ _ _ c.requires.at (sym c.ends_word.ensures ∙ c.if-ends_word.true)
     c.in_ok-finish_attribute.ensures.ok c.before_attribute_name_state.ensures
 
 pub returns-then-c-eq38 : goal.returns-then-c-eq38
@@ -18,4 +18,4 @@ pub returns : goal.returns
 returns g c =
     let m = g.Sink.TokenSink in
     unquoted-more m.step m.view m.asks_cdata m.ended m.is_sound m.number c.args.self.now _ _ c.requires.at c.requires.sound
-    (sym c.ends_unquoted.ensures ∙ c.if-ends_unquoted.false) c.if-c-eq38.false (rw c.shown.ensures at c.in_ok-push.ensures.ok)
+    (sym c.ends_word.ensures ∙ c.if-ends_word.false) c.if-c-eq38.false (rw c.shown.ensures at c.in_ok-push.ensures.ok)
