@@ -94,7 +94,7 @@ module _ {K S H : Type 0} (step : Step S) (view : K → S) (cdata : S → Bool) 
   -- "&" in a value begins a reference
   pub value-reference : (old : Tokenizer K) (kind : AttrValueKind) (c : ℕ) (text : List ℕ) → IsAt old (state.AttributeValue kind) → sound (view old.sink) → c ≡ 38 → text ≡ []
       → Took step view cdata ends sound number old (record old { char_ref = Some text }) c flow.Continue
-  value-reference old kind c text from ok e is = rw (e, is) (took_reference step view cdata ends sound number old (state.AttributeValue kind) from ok (λ b s t. held-fresh kind old (Some []) b s t))
+  value-reference old kind c text from ok e is = rw (e, is) (took_reference step view cdata ends sound number old (state.AttributeValue kind) from refl ok (λ b s t. held-fresh kind old (Some []) b s t))
 
   pub unquoted-more : (old : Tokenizer K) (c : ℕ) (text : List ℕ) → IsAt old (state.AttributeValue value.Unquoted) → sound (view old.sink) → ends_word c ≡ false → c ≢ 38 → text ≡ old.attribute_value ++ shown c ∷ []
       → Took step view cdata ends sound number old (record old { attribute_value = text }) c flow.Continue

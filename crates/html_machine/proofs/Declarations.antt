@@ -22,7 +22,7 @@ use Rattle.html_machine.specs.Keywords.{becomes, may_become, may_declare, IsPart
 use Rattle.html_machine.specs.Rest.{rows_of, standing, held_at}
 use Rattle.html_machine.specs.Steps.{IsAt, Took, Keeps}
 use Rattle.html_machine.proofs.Ends.{behind-one}
-use Rattle.html_machine.proofs.Glue.{at, now-at, took, keeps-along, no-break}
+use Rattle.html_machine.proofs.Glue.{at, fits-at, keeps-along, no-break, now-at, took}
 use Rattle.html_machine.proofs.Keywords.{and_both, or_parts, is_plain, part-plain, word-plain, last-plain, plain-break, spelt-begins, spelt-length, word-apart, word-stops, bogus-behind}
 use Rattle.html_machine.proofs.Opens.{opened}
 use Rattle.html_machine.proofs.Readings.{play-nothing}
@@ -158,6 +158,7 @@ module _ {K S H : Type 0} (step : Step S) (view : K → S) (cdata : S → Bool) 
           ∙ sym (now-at step view cdata ends sound number (record old { state = state.CdataSection }) state.CdataSection (old.stream.breaks + line_break (nat_eq c 10)) (view old.sink, pauses) t (record { state = refl; fresh = from.fresh }));
       stream = refl;
       sound = ok;
+      fits = fits-at (record old { state = state.CdataSection }) state.CdataSection (record { state = refl; fresh = from.fresh });
     }
 
     -- a character more of a word

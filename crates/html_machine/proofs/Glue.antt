@@ -1,5 +1,5 @@
 -- How one state's function keeps what is to come.
-use Rattle.std.proofs.Common.{◌≡◌, ◌∙◌, ℕ, ◌+◌, Bool, false, nat_eq, List, [], ◌∷◌, ◌++◌, Option, Some, None, Result, Ok, Err, refl, sym, ap}
+use Rattle.std.proofs.Common.{◌≡◌, ◌∙◌, ℕ, ◌+◌, Bool, true, false, nat_eq, List, [], ◌∷◌, ◌++◌, Option, Some, None, Result, Ok, Err, refl, sym, ap}
 use Rattle.std.specs.Prelude.{IsErr}
 use Rattle.std.specs.Result.{IsErrAnd}
 use Rattle.std.proofs.lemmas.Result.{err_from_is_err_and}
@@ -21,6 +21,7 @@ use Rattle.html_tokens.specs.declared.states.ScriptEscapeKind.TheVariants as scr
 use Rattle.html_tokens.specs.declared.states.DoctypeIdKind.TheVariants as id
 use Rattle.html_tokens.specs.declared.states.AttrValueKind.TheVariants as value
 use Rattle.html_tokens.specs.declared.states.State.TheVariants as state
+use Rattle.html_machine.specs.CharRefs.{fits_in}
 use Rattle.html_machine.specs.declared.tokenizer.Stream.{Stream}
 use Rattle.html_machine.specs.declared.tokenizer.Tokenizer.{Tokenizer}
 use Rattle.html_machine.specs.Rest.{rows_of, standing, pending, held_at, held}
@@ -38,6 +39,10 @@ bind-err (Err e) f h = refl
 pub noted-err : {S : Type 0} (pauses : List Reply) (r : Result (S × Reply) Refusal) → IsErr r → IsErr (noted pauses r)
 noted-err pauses (Ok x) h = cc
 noted-err pauses (Err e) h = refl
+
+-- where no reference is held, none is held in a state that has none
+pub fits-at : {K : Type 0} (k : Tokenizer K) (st : State) → IsAt k st → fits_in k.char_ref k.state ≡ true
+fits-at k st h = ap (λ r. fits_in r k.state) h.fresh
 
 module _ {K S H : Type 0} (step : Step S) (view : K → S) (cdata : S → Bool) (ends : S → S) (sound : S → Type 0) (number : H → ℕ) where
   abbrev pub at : State → Tokenizer K → ℕ → S × List Reply → List ℕ → Result (S × List Reply) Refusal
@@ -58,6 +63,7 @@ module _ {K S H : Type 0} (step : Step S) (view : K → S) (cdata : S → Bool) 
         ∙ ap (λ k. now step view cdata ends sound number new (old.stream.breaks + line_break (nat_eq c 10)) (view k, pauses) t) (sym same);
     stream = stream;
     sound = rw same ok;
+    fits = fits-at new st' to;
   }
 
   -- What a failed call was to give comes first in this.
@@ -174,6 +180,7 @@ module _ {K S H : Type 0} (step : Step S) (view : K → S) (cdata : S → Bool) 
         ∙ sym (now-target target mid.sink st' (old.stream.breaks + line_break (nat_eq c 10)) (view mid.sink, pauses) t to);
     stream = stream;
     sound = told.sound;
+    fits = fits-at target st' to;
   })
 
   -- A token was told by the machine with other fields, where it stays.
@@ -194,6 +201,7 @@ module _ {K S H : Type 0} (step : Step S) (view : K → S) (cdata : S → Bool) 
             ∙ sym (ap (λ k. now step view cdata ends sound number k (old.stream.breaks + line_break (nat_eq c 10)) (view k.sink, pauses) t) told.changed);
         stream = ap (λ k. k.stream) told.changed ∙ stream;
         sound = told.sound;
+        fits = ap (λ k. fits_in k.char_ref k.state) told.changed ∙ fits-at source st' to;
       }
 
   -- The character goes on to where the machine makes of it, and of all that follows, what was to be made.
@@ -204,6 +212,7 @@ module _ {K S H : Type 0} (step : Step S) (view : K → S) (cdata : S → Bool) 
     same = λ pauses t. e pauses t ∙ rw (← stream) (h.same pauses t);
     stream = h.stream ∙ stream;
     sound = h.sound;
+    fits = h.fits;
   }
   keeps-along old mid new c (Err fault) stream e h = λ pauses t. fails-along _ _ fault (e pauses t) (rw (← stream) (h pauses t))
 
@@ -244,6 +253,7 @@ module _ {K S H : Type 0} (step : Step S) (view : K → S) (cdata : S → Bool) 
         ∙ ap (λ n. now step view cdata ends sound number new n (view new.sink, paused_by number pauses result) t) (sym (no-break old.stream.breaks c unbroken));
     stream = h.stream;
     sound = h.sound;
+    fits = h.fits;
   }
   took_tag old new c st (Err fault) from unbroken h law ok = λ pauses t.
       fails-along _ _ fault (now-at step view cdata ends sound number old st old.stream.breaks (view old.sink, pauses) (c ∷ t) from ∙ law old.stream.breaks (view old.sink, pauses) ok t)

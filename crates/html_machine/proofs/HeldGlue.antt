@@ -51,6 +51,7 @@ module _ {K S H : Type 0} (step : Step S) (view : K → S) (cdata : S → Bool) 
         ∙ ap (λ n. now step view cdata ends sound number (record old { char_ref = Some more }) n (view old.sink, pauses) t) (sym (no-break old.stream.breaks c (held-unbroken c held)));
     stream = refl;
     sound = ok;
+    fits = fits;
   }
 
   -- What was held is told as this token, and then the character comes.

@@ -13,7 +13,7 @@ use Rattle.html_tokens.specs.Reference.{Reference, reference_at}
 use Rattle.html_tokens.specs.Sink.{Step}
 use Rattle.html_tokens.specs.Table.{Row}
 use Rattle.html_machine.specs.CharRefs.{IsDecided, decided, is_held, resolved, resolved_by}
-use Rattle.html_machine.proofs.CharRefs.{decided-in_text, decided-within, reference-decided}
+use Rattle.html_machine.proofs.CharRefs.{decided-in_text, decided-within, reference-decided, reference-end}
 use Rattle.html_machine.proofs.HeldTexts.{held-drop}
 use Rattle.html_machine.proofs.Lawful.{Lawful}
 use Rattle.html_machine.proofs.Readings.{any_line, play-end, reading-is, sum-zero}
@@ -73,3 +73,9 @@ module _ {T : Type 0} (sound : T → Type 0) (step : Step T) (cdata : T → Bool
       → reading step cdata ends rows st b s (38 ∷ cs ++ c ∷ t) ≡ (step s (CharacterTokens (resolved false rows cs false)) (line_number b) >>= λ p. reading step cdata ends rows st b p.0 (c ∷ t))
   reading-held st b s h cs c t reads d =
       reading-by st b s h (decided false rows cs false) cs (c ∷ t) reads d.held (decided-within false rows cs false) (reference-decided false rows cs c t d.checked d.ends ∙ decided-in_text rows cs _)
+
+  -- the same where the input ends
+  pub reading-at_end : (st : Stand) (b : ℕ) (s : T) → sound s → (cs : List ℕ) → ReadsHeld rows st → list_all is_held cs ≡ true
+      → reading step cdata ends rows st b s (38 ∷ cs ++ []) ≡ (step s (CharacterTokens (resolved false rows cs false)) (line_number b) >>= λ p. reading step cdata ends rows st b p.0 [])
+  reading-at_end st b s h cs reads held =
+      reading-by st b s h (decided false rows cs false) cs [] reads held (decided-within false rows cs false) (ap (reference_at false rows) (append-nil cs) ∙ reference-end false rows cs)

@@ -1,6 +1,6 @@
 -- The end of a reference in text.
-use Rattle.std.proofs.Common.{◌≡◌, ℕ, Bool, true, false, List, Some, Result, refl}
-use Rattle.std.specs.Prelude.{◌&&◌}
+use Rattle.std.proofs.Common.{◌≡◌, ℕ, Bool, true, false, List, [], ◌∷◌, ◌++◌, Some, Result, refl}
+use Rattle.std.specs.List.{list_all}
 use Rattle.std.specs.Result.{IsErrAnd}
 use Rattle.markup.specs.declared.fault.ParseFault.{ParseFault}
 use Rattle.html_tokens.specs.declared.replies.ProcessResult.{ProcessResult}
@@ -11,14 +11,15 @@ use Rattle.html_tokens.specs.declared.token.Token.{Token}
 use Rattle.html_tokens.specs.declared.token.Token.TheVariants.{CharacterTokens}
 use Rattle.html_tokens.specs.Item.{InData, InRaw}
 use Rattle.html_tokens.specs.Pauses.{noting, noting_cdata, noting_end}
-use Rattle.html_tokens.specs.Reading.{line_number}
+use Rattle.html_tokens.specs.Reading.{◌>>=◌, line_number}
 use Rattle.html_tokens.specs.Sink.{Step, Reply, SinkLaws}
-use Rattle.html_machine.specs.CharRefs.{IsDecided, resolved}
+use Rattle.html_machine.specs.CharRefs.{IsDecided, is_held, resolved}
 use Rattle.html_machine.specs.declared.tokenizer.Tokenizer.{Tokenizer}
 use Rattle.html_machine.specs.Rest.{rows_of, standing, held_at}
 use Rattle.html_machine.specs.Steps.{IsAt, Fails, Told, Keeps}
+use Rattle.html_machine.proofs.Glue.{at}
 use Rattle.html_machine.proofs.HeldGlue.{Resolves, keeps-resolved, not-resolved}
-use Rattle.html_machine.proofs.HeldReadings.{ReadsHeld, held-no_null, held-no_open, held-no_reference, reading-held}
+use Rattle.html_machine.proofs.HeldReadings.{ReadsHeld, held-no_null, held-no_open, held-no_reference, reading-at_end, reading-held}
 use Rattle.html_machine.proofs.Lawful.{noting-lawful}
 
 module _ {K : Type 0} (k : Tokenizer K) where
@@ -42,6 +43,17 @@ module _ {K S H : Type 0} (step : Step S) (view : K → S) (cdata : S → Bool) 
   rcdata-resolves : (old : Tokenizer K) (cs : List ℕ) (c : ℕ) → IsDecided (rows_of old) cs c → Resolves step view cdata ends sound number (state.RawData raw.Rcdata) old cs c (CharacterTokens (resolved false (rows_of old) cs false))
   unfolding held_at
   rcdata-resolves old cs c d b s h t = reading-held (λ p. sound p.0) (noting step) (noting_cdata cdata) (noting_end ends) (rows_of old) (noting-lawful sound step ends quiet laws) (standing old (InRaw raw.Rcdata)) b s h cs c t (rcdata-reads old) d
+
+  -- the same where the input ends
+  pub data-at_end : (old : Tokenizer K) (cs : List ℕ) → list_all is_held cs ≡ true → (b : ℕ) (s : S × List Reply) → sound s.0
+      → at step view cdata ends sound number state.Data old b s (38 ∷ cs ++ []) ≡ (noting step s (CharacterTokens (resolved false (rows_of old) cs false)) (line_number b) >>= λ p. at step view cdata ends sound number state.Data old b p.0 [])
+  unfolding held_at
+  data-at_end old cs held b s h = reading-at_end (λ p. sound p.0) (noting step) (noting_cdata cdata) (noting_end ends) (rows_of old) (noting-lawful sound step ends quiet laws) (standing old InData) b s h cs (data-reads old) held
+
+  pub rcdata-at_end : (old : Tokenizer K) (cs : List ℕ) → list_all is_held cs ≡ true → (b : ℕ) (s : S × List Reply) → sound s.0
+      → at step view cdata ends sound number (state.RawData raw.Rcdata) old b s (38 ∷ cs ++ []) ≡ (noting step s (CharacterTokens (resolved false (rows_of old) cs false)) (line_number b) >>= λ p. at step view cdata ends sound number (state.RawData raw.Rcdata) old b p.0 [])
+  unfolding held_at
+  rcdata-at_end old cs held b s h = reading-at_end (λ p. sound p.0) (noting step) (noting_cdata cdata) (noting_end ends) (rows_of old) (noting-lawful sound step ends quiet laws) (standing old (InRaw raw.Rcdata)) b s h cs (rcdata-reads old) held
 
   pub data-ended : (old mid new : Tokenizer K) (cs : List ℕ) (c : ℕ) (result : Result (ProcessResult H) ParseFault) → IsAt old state.Data → sound (view old.sink) → IsDecided (rows_of old) cs c
       → Told step view cdata ends sound number (CharacterTokens (resolved false (rows_of old) cs false)) old mid

@@ -8,13 +8,13 @@ use Rattle.html_tokens.specs.declared.tags.Tag.{Tag}
 use Rattle.html_tokens.specs.Characters.{ends_word}
 use Rattle.html_tokens.specs.Item.{InTag, Item, Stand, behind, behind_all, moved, silent}
 use Rattle.html_tokens.specs.Reading.{line_break, play}
-use Rattle.html_tokens.specs.Reference.{Reference, goes_on_at, reference_at}
+use Rattle.html_tokens.specs.Reference.{Reference, reference_at}
 use Rattle.html_tokens.specs.Sink.{Step}
 use Rattle.html_tokens.specs.Table.{Row}
 use Rattle.html_tokens.specs.Tags.{Value, later, quote_at, quoted_after, reference_chars, reference_len, unquoted_after, value_from, value_by, with_attribute}
-use Rattle.html_machine.specs.CharRefs.{IsDecided, decided, is_held, resolved, resolved_by}
+use Rattle.html_machine.specs.CharRefs.{decided, is_held, resolved, resolved_by}
 use Rattle.html_machine.proofs.AttributeReadings.{quote_at-more}
-use Rattle.html_machine.proofs.CharRefs.{decided-within, reference-decided}
+use Rattle.html_machine.proofs.CharRefs.{decided-within}
 use Rattle.html_machine.proofs.Glue.{no-break}
 use Rattle.html_machine.proofs.HeldReadings.{held-no_null, held-no_reference, held-unbroken}
 use Rattle.html_machine.proofs.HeldTexts.{held-drop}
@@ -81,13 +81,12 @@ module _ (rows : List Row) (ends : ℕ → Bool) (goes : GoesOn ends) where
       ∙ ap (λ n. record { chars = r.chars ++ (drop r.len cs ++ v.chars); len = suc n }) (more-drop r.len v.len cs within)
       ∙ ap (λ chars. record { chars = chars; len = suc (more (length cs) v.len) }) (sym (append_assoc r.chars (drop r.len cs) v.chars))
 
-  -- a reference that is decided stands in a value for its characters
-  value-held : (cs : List ℕ) (c : ℕ) (t : List ℕ) → IsDecided rows cs c
-      → value_from rows ends 0 (38 ∷ cs ++ c ∷ t) ≡ later_all (suc (length cs)) (resolved true rows cs (goes_on_at (c ∷ []))) (value_from rows ends 0 (c ∷ t))
-  value-held cs c t d =
-      let o = decided true rows cs (goes_on_at (c ∷ [])) in
-      value-begun (cs ++ c ∷ t) o (reference-decided true rows cs c t d.checked d.ends)
-      ∙ value-by cs (c ∷ t) o d.held (decided-within true rows cs (goes_on_at (c ∷ [])))
+  -- what was held stands in a value for its characters, where what follows makes no other reference of it
+  value-held : (cs u : List ℕ) (follows : Bool) → list_all is_held cs ≡ true → reference_at true rows (cs ++ u) ≡ decided true rows cs follows
+      → value_from rows ends 0 (38 ∷ cs ++ u) ≡ later_all (suc (length cs)) (resolved true rows cs follows) (value_from rows ends 0 u)
+  value-held cs u follows held e =
+      let o = decided true rows cs follows in
+      value-begun (cs ++ u) o e ∙ value-by cs u o held (decided-within true rows cs follows)
 
 held-no_space : (c : ℕ) → is_held c ≡ true → ends_word c ≡ false
 held-no_space c h = grind (arith, nat_tests)
@@ -107,24 +106,24 @@ double-goes_on = record { held = held-no_double; reference = refl }
 single-goes_on : GoesOn (nat_eq 39)
 single-goes_on = record { held = held-no_single; reference = refl }
 
-module _ (rows : List Row) (st : Stand) (tag : Tag) (name front cs : List ℕ) (c : ℕ) (t : List ℕ) (d : IsDecided rows cs c) where
+module _ (rows : List Row) (st : Stand) (tag : Tag) (name front cs u : List ℕ) (follows : Bool) (held : list_all is_held cs ≡ true) (e : reference_at true rows (cs ++ u) ≡ decided true rows cs follows) where
   abbrev told_value : List ℕ
-  told_value = resolved true rows cs (goes_on_at (c ∷ []))
+  told_value = resolved true rows cs follows
 
-  unquoted-held : unquoted_after rows st tag name front (38 ∷ cs ++ c ∷ t) ≡ behind_all (suc (length cs)) (unquoted_after rows st tag name (front ++ told_value) (c ∷ t))
+  unquoted-held : unquoted_after rows st tag name front (38 ∷ cs ++ u) ≡ behind_all (suc (length cs)) (unquoted_after rows st tag name (front ++ told_value) u)
   unquoted-held =
-      let v = value_from rows ends_word 0 (c ∷ t) in
-      ap (λ v. silent v.len (moved st (InTag (with_attribute tag name (front ++ v.chars))))) (value-held rows ends_word word-goes_on cs c t d)
+      let v = value_from rows ends_word 0 u in
+      ap (λ v. silent v.len (moved st (InTag (with_attribute tag name (front ++ v.chars))))) (value-held rows ends_word word-goes_on cs u follows held e)
       ∙ ap (λ value. silent (more (suc (length cs)) v.len) (moved st (InTag (with_attribute tag name value)))) (sym (append_assoc front told_value v.chars))
       ∙ silent-more (suc (length cs)) v.len (moved st (InTag (with_attribute tag name ((front ++ told_value) ++ v.chars))))
 
-  quoted-held : (quote : ℕ) → GoesOn (nat_eq quote) → quoted_after rows quote st tag name front (38 ∷ cs ++ c ∷ t) ≡ behind_all (suc (length cs)) (quoted_after rows quote st tag name (front ++ told_value) (c ∷ t))
+  quoted-held : (quote : ℕ) → GoesOn (nat_eq quote) → quoted_after rows quote st tag name front (38 ∷ cs ++ u) ≡ behind_all (suc (length cs)) (quoted_after rows quote st tag name (front ++ told_value) u)
   quoted-held quote goes =
-      let v = value_from rows (nat_eq quote) 0 (c ∷ t) in
-      ap (λ v. quote_at v.len (moved st (InTag (with_attribute tag name (front ++ v.chars)))) (drop v.len (38 ∷ cs ++ c ∷ t))) (value-held rows (nat_eq quote) goes cs c t d)
-      ∙ ap (λ value. quote_at (more (suc (length cs)) v.len) (moved st (InTag (with_attribute tag name value))) (drop (more (suc (length cs)) v.len) (38 ∷ cs ++ c ∷ t))) (sym (append_assoc front told_value v.chars))
-      ∙ ap (λ u. quote_at (more (suc (length cs)) v.len) (moved st (InTag (with_attribute tag name ((front ++ told_value) ++ v.chars)))) u) (drop-more (38 ∷ cs) (c ∷ t) v.len)
-      ∙ quote-more (suc (length cs)) v.len (moved st (InTag (with_attribute tag name ((front ++ told_value) ++ v.chars)))) (drop v.len (c ∷ t))
+      let v = value_from rows (nat_eq quote) 0 u in
+      ap (λ v. quote_at v.len (moved st (InTag (with_attribute tag name (front ++ v.chars)))) (drop v.len (38 ∷ cs ++ u))) (value-held rows (nat_eq quote) goes cs u follows held e)
+      ∙ ap (λ value. quote_at (more (suc (length cs)) v.len) (moved st (InTag (with_attribute tag name value))) (drop (more (suc (length cs)) v.len) (38 ∷ cs ++ u))) (sym (append_assoc front told_value v.chars))
+      ∙ ap (λ u. quote_at (more (suc (length cs)) v.len) (moved st (InTag (with_attribute tag name ((front ++ told_value) ++ v.chars)))) u) (drop-more (38 ∷ cs) u v.len)
+      ∙ quote-more (suc (length cs)) v.len (moved st (InTag (with_attribute tag name ((front ++ told_value) ++ v.chars)))) (drop v.len u)
 
 module _ {T : Type 0} (step : Step T) (cdata : T → Bool) (ends : T → T) (rows : List Row) where
   -- an item behind characters that were held
@@ -142,14 +141,12 @@ module _ {T : Type 0} (step : Step T) (cdata : T → Bool) (ends : T → T) (row
       ∙ ap (λ n. play step cdata ends rows (behind_all (length cs) j) n s (cs ++ t)) (no-break b 38 refl)
       ∙ play-behind_all j b s cs t h
 
-  pub play-unquoted : (st : Stand) (tag : Tag) (name front cs : List ℕ) (c : ℕ) (b : ℕ) (s : T) (t : List ℕ) → IsDecided rows cs c
-      → play step cdata ends rows (unquoted_after rows st tag name front (38 ∷ cs ++ c ∷ t)) b s (38 ∷ cs ++ c ∷ t) ≡ play step cdata ends rows (unquoted_after rows st tag name (front ++ resolved true rows cs (goes_on_at (c ∷ []))) (c ∷ t)) b s (c ∷ t)
-  play-unquoted st tag name front cs c b s t d = play-held _ _ b s cs (c ∷ t) d.held (unquoted-held rows st tag name front cs c t d)
+  module _ (st : Stand) (tag : Tag) (name front cs u : List ℕ) (follows : Bool) (b : ℕ) (s : T) (held : list_all is_held cs ≡ true) (e : reference_at true rows (cs ++ u) ≡ decided true rows cs follows) where
+    pub play-unquoted : play step cdata ends rows (unquoted_after rows st tag name front (38 ∷ cs ++ u)) b s (38 ∷ cs ++ u) ≡ play step cdata ends rows (unquoted_after rows st tag name (front ++ resolved true rows cs follows) u) b s u
+    play-unquoted = play-held _ _ b s cs u held (unquoted-held rows st tag name front cs u follows held e)
 
-  pub play-double : (st : Stand) (tag : Tag) (name front cs : List ℕ) (c : ℕ) (b : ℕ) (s : T) (t : List ℕ) → IsDecided rows cs c
-      → play step cdata ends rows (quoted_after rows 34 st tag name front (38 ∷ cs ++ c ∷ t)) b s (38 ∷ cs ++ c ∷ t) ≡ play step cdata ends rows (quoted_after rows 34 st tag name (front ++ resolved true rows cs (goes_on_at (c ∷ []))) (c ∷ t)) b s (c ∷ t)
-  play-double st tag name front cs c b s t d = play-held _ _ b s cs (c ∷ t) d.held (quoted-held rows st tag name front cs c t d 34 double-goes_on)
+    pub play-double : play step cdata ends rows (quoted_after rows 34 st tag name front (38 ∷ cs ++ u)) b s (38 ∷ cs ++ u) ≡ play step cdata ends rows (quoted_after rows 34 st tag name (front ++ resolved true rows cs follows) u) b s u
+    play-double = play-held _ _ b s cs u held (quoted-held rows st tag name front cs u follows held e 34 double-goes_on)
 
-  pub play-single : (st : Stand) (tag : Tag) (name front cs : List ℕ) (c : ℕ) (b : ℕ) (s : T) (t : List ℕ) → IsDecided rows cs c
-      → play step cdata ends rows (quoted_after rows 39 st tag name front (38 ∷ cs ++ c ∷ t)) b s (38 ∷ cs ++ c ∷ t) ≡ play step cdata ends rows (quoted_after rows 39 st tag name (front ++ resolved true rows cs (goes_on_at (c ∷ []))) (c ∷ t)) b s (c ∷ t)
-  play-single st tag name front cs c b s t d = play-held _ _ b s cs (c ∷ t) d.held (quoted-held rows st tag name front cs c t d 39 single-goes_on)
+    pub play-single : play step cdata ends rows (quoted_after rows 39 st tag name front (38 ∷ cs ++ u)) b s (38 ∷ cs ++ u) ≡ play step cdata ends rows (quoted_after rows 39 st tag name (front ++ resolved true rows cs follows) u) b s u
+    play-single = play-held _ _ b s cs u held (quoted-held rows st tag name front cs u follows held e 39 single-goes_on)

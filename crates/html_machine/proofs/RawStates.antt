@@ -19,6 +19,7 @@ use Rattle.html_tokens.specs.Items.{item}
 use Rattle.html_tokens.specs.RawText.{is_fitting_end, ends_at_tag, has_references, kind_behind}
 use Rattle.html_tokens.specs.Reading.{◌>>=◌, line_number, line_break, reading}
 use Rattle.html_tokens.specs.Sink.{Step, Reply, Refusal, SinkLaws}
+use Rattle.html_machine.specs.CharRefs.{may_hold}
 use Rattle.html_machine.specs.declared.tokenizer.Tokenizer.{Tokenizer}
 use Rattle.html_machine.specs.Rest.{rows_of, standing, held_at}
 use Rattle.html_machine.specs.Steps.{IsAt, TakesAs, Took, Keeps}
@@ -46,6 +47,13 @@ unescaped kind (inr (inr e)) _ h = cc
 pub open-item : {K : Type 0} (k : Tokenizer K) (kind : RawKind) (x : Bool) (t : List ℕ) → (ends_at_tag kind && is_fitting_end k.last_start_tag t) ≡ false
     → item (rows_of k) x (standing k (InRaw kind)) 60 t ≡ character 60 (standing k (InRaw (kind_behind kind 60 t)))
 open-item k kind x t e = rw e refl
+
+-- text with references may hold one
+rcdata-holds : (kind : RawKind) → has_references kind ≡ true → may_hold (state.RawData kind) ≡ true
+rcdata-holds raw.Rcdata h = refl
+rcdata-holds raw.Rawtext h = absurd cc
+rcdata-holds raw.ScriptData h = absurd cc
+rcdata-holds (raw.ScriptDataEscaped _) h = absurd cc
 
 module _ {K S H : Type 0} (step : Step S) (view : K → S) (cdata : S → Bool) (ends : S → S) (sound : S → Type 0) (number : H → ℕ) where
   -- what raw text makes of the sink
@@ -97,9 +105,9 @@ module _ {K S H : Type 0} (step : Step S) (view : K → S) (cdata : S → Bool) 
       keeps_taken step view cdata ends sound number old (record old { state = state.RawLessThanSign deep }) new 60 (state.RawData deep) (state.RawLessThanSign deep) (CharacterTokens (60 ∷ [])) result (rw is at from) (record { state = refl; fresh = from.fresh }) refl refl ok (rw is at told) (open-says old)
 
   -- "&" was taken, which is held
-  pub raw-reference : (old : Tokenizer K) (kind : RawKind) (begun : List ℕ) → IsAt old (state.RawData kind) → sound (view old.sink) → begun ≡ [] → Took step view cdata ends sound number old (record old { char_ref = Some begun }) 38 flow.Continue
+  pub raw-reference : (old : Tokenizer K) (kind : RawKind) (begun : List ℕ) → IsAt old (state.RawData kind) → sound (view old.sink) → has_references kind ≡ true → begun ≡ [] → Took step view cdata ends sound number old (record old { char_ref = Some begun }) 38 flow.Continue
   unfolding held_at
-  raw-reference old kind begun from ok is = rw is (took_reference step view cdata ends sound number old (record old { char_ref = Some [] }) 38 (state.RawData kind) from refl from.state refl refl refl ok (λ b s t. refl))
+  raw-reference old kind begun from ok e is = rw is (took_reference step view cdata ends sound number old (record old { char_ref = Some [] }) 38 (state.RawData kind) from (rcdata-holds kind e) refl from.state refl refl refl ok (λ b s t. refl))
 
   amp-says : (old : Tokenizer K) (kind : RawKind) → has_references kind ≡ false → Says step view cdata ends sound number (state.RawData kind) old 38 (CharacterTokens (38 ∷ [])) (λ b s t. at step view cdata ends sound number (state.RawData kind) old (b + line_break (nat_eq 38 10)) s t)
   unfolding held_at

@@ -17,7 +17,7 @@ use Rattle.html_tokens.specs.Tags.{last_name, behind_tag}
 use Rattle.html_machine.specs.declared.tokenizer.Tokenizer.{Tokenizer}
 use Rattle.html_machine.specs.Rest.{rows_of, standing, held_at}
 use Rattle.html_machine.specs.Steps.{IsAt, paused_by, state_behind, answer_to, Fails, Erred, EndedTag, EndsTag}
-use Rattle.html_machine.proofs.Glue.{at, now-at}
+use Rattle.html_machine.proofs.Glue.{at, fits-at, now-at}
 
 module _ {K S H : Type 0} (step : Step S) (view : K → S) (cdata : S → Bool) (ends : S → S) (sound : S → Type 0) (number : H → ℕ) where
   -- the error that goes before a tag was refused, so the tag would be
@@ -53,6 +53,7 @@ module _ {K S H : Type 0} (step : Step S) (view : K → S) (cdata : S → Bool) 
         ∙ sym (now-at step view cdata ends sound number new (state_behind reply) old.stream.breaks (view new.sink, paused_by number pauses (answer_to reply)) t to);
     stream = stream;
     sound = ok;
+    fits = fits-at new (state_behind reply) to;
   }
 
   -- The tag was told behind its error, if it has one.

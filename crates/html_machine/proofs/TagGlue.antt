@@ -1,8 +1,9 @@
 -- How a state's function keeps what is to come: characters that end no line, and references in values.
-use Rattle.std.proofs.Common.{◌≡◌, ◌∙◌, ℕ, Bool, false, nat_eq, List, [], ◌∷◌, Some, refl, sym, ap}
+use Rattle.std.proofs.Common.{◌≡◌, ◌∙◌, ℕ, Bool, true, false, nat_eq, List, [], ◌∷◌, Some, refl, sym, ap}
 use Rattle.html_tokens.specs.declared.replies.ProcessResult.TheVariants as flow
 use Rattle.html_tokens.specs.declared.states.State.{State}
 use Rattle.html_tokens.specs.Sink.{Step, Reply}
+use Rattle.html_machine.specs.CharRefs.{may_hold}
 use Rattle.html_machine.specs.declared.tokenizer.Tokenizer.{Tokenizer}
 use Rattle.html_machine.specs.Steps.{IsAt, Took}
 use Rattle.html_machine.proofs.Glue.{no-break, at, now-at, took}
@@ -18,10 +19,10 @@ module _ {K S H : Type 0} (step : Step S) (view : K → S) (cdata : S → Bool) 
       (λ b s t. law b s t ∙ ap (λ n. at step view cdata ends sound number st' new n s t) (sym (no-break b c unbroken)))
 
   -- "&" is taken, and with it a reference may begin.
-  pub took_reference : (old : Tokenizer K) (st : State) → IsAt old st → sound (view old.sink)
+  pub took_reference : (old : Tokenizer K) (st : State) → IsAt old st → may_hold st ≡ true → sound (view old.sink)
       → ((b : ℕ) (s : S × List Reply) (t : List ℕ) → at step view cdata ends sound number st (record old { char_ref = Some [] }) b s t ≡ at step view cdata ends sound number st old b s t)
       → Took step view cdata ends sound number old (record old { char_ref = Some [] }) 38 flow.Continue
-  took_reference old st from ok same =
+  took_reference old st from fits ok same =
       let new = record old { char_ref = Some [] } in
       record {
         same = λ pauses t.
@@ -31,4 +32,5 @@ module _ {K S H : Type 0} (step : Step S) (view : K → S) (cdata : S → Bool) 
             ∙ ap (λ n. at step view cdata ends sound number old.state new n (view old.sink, pauses) (38 ∷ t)) (sym (sum-zero old.stream.breaks));
         stream = refl;
         sound = ok;
+        fits = ap may_hold from.state ∙ fits;
       }

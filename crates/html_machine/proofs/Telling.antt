@@ -1,5 +1,5 @@
 -- How a state's function keeps what is to come by one call that tells a token.
-use Rattle.std.proofs.Common.{◌≡◌, ◌∙◌, ℕ, ◌+◌, Bool, false, nat_eq, List, [], ◌∷◌, ◌++◌, Some, Result, Ok, Err, refl, sym, ap}
+use Rattle.std.proofs.Common.{◌≡◌, ◌∙◌, ℕ, ◌+◌, Bool, true, false, nat_eq, List, [], ◌∷◌, ◌++◌, Some, Result, Ok, Err, refl, sym, ap}
 use Rattle.std.specs.Result.{IsErrAnd}
 use Rattle.std.proofs.lemmas.Result.{err_from_is_err_and}
 use Rattle.markup.specs.declared.fault.ParseFault.{ParseFault}
@@ -10,6 +10,7 @@ use Rattle.html_tokens.specs.declared.token.Token.{Token}
 use Rattle.html_tokens.specs.Pauses.{noting, noting_cdata, noting_end}
 use Rattle.html_tokens.specs.Reading.{line_break, line_number}
 use Rattle.html_tokens.specs.Sink.{Step, Reply, Refusal}
+use Rattle.html_machine.specs.CharRefs.{fits_in, may_hold}
 use Rattle.html_machine.specs.declared.tokenizer.Tokenizer.{Tokenizer}
 use Rattle.html_machine.specs.Rest.{pending, held_at}
 use Rattle.html_machine.specs.Steps.{IsAt, Fails, Told, TakesAs, Took, Keeps, now}
@@ -73,10 +74,10 @@ module _ {K S H : Type 0} (step : Step S) (view : K → S) (cdata : S → Bool) 
   begun k st b s t e f = ap (λ r. held_at (noting step) (noting_cdata cdata) (noting_end ends) k.state k b s (pending r ++ t)) f ∙ ap (λ x. held_at (noting step) (noting_cdata cdata) (noting_end ends) x k b s (38 ∷ t)) e
 
   -- A reference begins.
-  pub took_reference : (old new : Tokenizer K) (c : ℕ) (st : State) → IsAt old st → nat_eq c 10 ≡ false → new.state ≡ st → new.char_ref ≡ Some [] → new.stream ≡ old.stream → new.sink ≡ old.sink → sound (view old.sink)
+  pub took_reference : (old new : Tokenizer K) (c : ℕ) (st : State) → IsAt old st → may_hold st ≡ true → nat_eq c 10 ≡ false → new.state ≡ st → new.char_ref ≡ Some [] → new.stream ≡ old.stream → new.sink ≡ old.sink → sound (view old.sink)
       → ((b : ℕ) (s : S × List Reply) (t : List ℕ) → at step view cdata ends sound number st old b s (c ∷ t) ≡ at step view cdata ends sound number st new b s (38 ∷ t))
       → Took step view cdata ends sound number old new c flow.Continue
-  took_reference old new c st from unbroken state held stream same ok law = record {
+  took_reference old new c st from fits unbroken state held stream same ok law = record {
     same = λ pauses t.
         now-at step view cdata ends sound number old st old.stream.breaks (view old.sink, pauses) (c ∷ t) from
         ∙ law old.stream.breaks (view old.sink, pauses) t
@@ -85,4 +86,5 @@ module _ {K S H : Type 0} (step : Step S) (view : K → S) (cdata : S → Bool) 
         ∙ ap (λ n. now step view cdata ends sound number new n (view new.sink, pauses) t) (sym (no-break old.stream.breaks c unbroken));
     stream = stream;
     sound = rw same ok;
+    fits = ap (λ r. fits_in r new.state) held ∙ (ap may_hold state ∙ fits);
   }

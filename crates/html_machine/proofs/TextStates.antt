@@ -59,4 +59,4 @@ module _ {K S H : Type 0} (step : Step S) (view : K → S) (cdata : S → Bool) 
   -- "&" was taken, which is held
   pub data-reference : (old : Tokenizer K) (c : ℕ) (begun : List ℕ) → IsAt old state.Data → sound (view old.sink) → c ≡ 38 → begun ≡ [] → Took step view cdata ends sound number old (record old { char_ref = Some begun }) c flow.Continue
   unfolding held_at
-  data-reference old c begun from ok e is = rw (e, is) (took_reference step view cdata ends sound number old (record old { char_ref = Some [] }) 38 state.Data from refl from.state refl refl refl ok (λ b s t. refl))
+  data-reference old c begun from ok e is = rw (e, is) (took_reference step view cdata ends sound number old (record old { char_ref = Some [] }) 38 state.Data from refl refl from.state refl refl refl ok (λ b s t. refl))

@@ -81,3 +81,8 @@ may_hold state.Data = true
 may_hold (state.RawData Rcdata) = true
 may_hold (state.AttributeValue kind) = true
 may_hold _ = false
+
+-- whether a reference is held in one of them, if one is held
+abbrev pub fits_in : Option (List ℕ) → State → Bool
+fits_in None st = true
+fits_in (Some cs) st = may_hold st

@@ -16,6 +16,7 @@ use Rattle.html_tokens.specs.Pauses.{noting, noting_cdata, noting_end}
 use Rattle.html_tokens.specs.Reading.{◌>>=◌, line_break, line_number, next_stand, reading}
 use Rattle.html_tokens.specs.Sink.{Step, Reply, Refusal, InText, AfterEnd, Unfit}
 use Rattle.html_tokens.specs.Tags.{behind_tag}
+use Rattle.html_machine.specs.CharRefs.{fits_in}
 use Rattle.html_machine.specs.declared.tokenizer.Tokenizer.{Tokenizer}
 use Rattle.html_machine.specs.Rest.{rows_of, standing, held_at, held}
 
@@ -102,6 +103,7 @@ module _ {K S H : Type 0} (step : Step S) (view : K → S) (cdata : S → Bool) 
     pub same : (pauses : List Reply) (t : List ℕ) → now old old.stream.breaks (view old.sink, pauses) (c ∷ t) ≡ now new (old.stream.breaks + line_break (nat_eq c 10)) (view new.sink, paused_by number pauses result) t
     pub stream : new.stream ≡ old.stream
     pub sound : is_sound (view new.sink)
+    pub fits : fits_in new.char_ref new.state ≡ true
 
   abbrev pub Keeps : Tokenizer K → Tokenizer K → ℕ → Result (ProcessResult H) ParseFault → Type 0
   Keeps old new c (Ok result) = Took old new c result
@@ -114,6 +116,7 @@ module _ {K S H : Type 0} (step : Step S) (view : K → S) (cdata : S → Bool) 
         ≡ now new old.stream.breaks (view new.sink, paused_by number pauses result) t
     pub stream : new.stream ≡ old.stream
     pub sound : is_sound (view new.sink)
+    pub fits : fits_in new.char_ref new.state ≡ true
 
   abbrev pub EndsTag : Tokenizer K → Tokenizer K → Result (ProcessResult H) ParseFault → Type 0
   EndsTag old new (Ok result) = EndedTag old new result
