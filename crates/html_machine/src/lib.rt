@@ -1,5 +1,6 @@
 //! The tokenizer: a machine that takes text in any pieces (HTML Standard, section 13.2.5).
 #![tactic(auto)]
+
 mod attribute_states;
 mod cdata_states;
 mod characters;
