@@ -1,6 +1,9 @@
 //! The program `html_normal`: reads an HTML document from standard input, and writes its normal text to standard output.
 #![tactic(auto)]
 
+ghost use Rattle.std.specs.Prelude.{◌≡◌, MatchResult};
+ghost use Rattle.html_normal.specs.Program.{program_status_of};
+
 use devices::{StdSource, StdTarget};
 use html_normal::{NormalFault, ProgramFault, Report, run};
 use std::env;
@@ -31,15 +34,26 @@ fn normalised(rt: &HostRuntime) -> Result<Report, ProgramFault> {
     Ok(report)
 }
 
+// The status with which the program ends.
+fn status(outcome: &Result<Report, ProgramFault>) -> u8
+    ensures { MatchResult outcome.now (λ report. result ≡ 0) (λ fault. result ≡ program_status_of fault) }
+{
+    match outcome {
+        Ok(_) => 0,
+        Err(fault) => fault.status(),
+    }
+}
+
 fn main(rt: HostRuntime) -> ExitCode {
-    match normalised(&rt) {
+    let outcome = normalised(&rt);
+    let status = status(&outcome);
+    match outcome {
         Ok(report) => {
             let _ = eprintln!(rt; "{report}");
-            ExitCode::SUCCESS
         }
         Err(fault) => {
             let _ = eprintln!(rt; "{fault}");
-            ExitCode::from(fault.status())
         }
     }
+    ExitCode::from(status)
 }

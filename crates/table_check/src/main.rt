@@ -1,6 +1,8 @@
 //! Reads the table of the HTML Standard's named character references, checks it, and looks names up.
 #![tactic(auto)]
 
+ghost use Rattle.std.specs.Prelude.{◌≡◌, IfOk};
+
 use anyhow::{Context, Result, anyhow};
 use html_tokenizer::{ReferenceRow, References, TableFault};
 use std::alloc::Global;
@@ -28,7 +30,10 @@ fn read(alloc: Global, text: &str) -> Result<Vec<ReferenceRow>> {
     Ok(rows)
 }
 
-fn checked(alloc: Global, rows: Vec<ReferenceRow>) -> Result<References> {
+// The table of these rows, if they are one.
+fn checked(alloc: Global, rows: Vec<ReferenceRow>) -> Result<References>
+    ensures { IfOk result (λ table. table ≡ rows.items) }
+{
     match References::new(alloc, rows) {
         Ok(table) => Ok(table),
         Err(TableFault::BadName(row)) => Err(anyhow!("name {row}")),
