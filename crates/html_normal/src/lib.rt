@@ -12,7 +12,7 @@ mod thin;
 mod whole;
 
 pub use fault::NormalFault;
-pub use html_tokenizer::{References, TableFault};
+pub use html_references::{References, TableFault};
 pub use program::{ProgramFault, run};
 pub use report::{Exact, Report};
 pub use whole::normalise;

@@ -8,7 +8,7 @@ use crate::fault::NormalFault;
 use crate::report::{Exact, Report};
 use crate::whole::normalise;
 use devices::{Source, Target};
-use html_tokenizer::References;
+use html_references::References;
 use std::alloc::Global;
 use std::error::Error;
 use std::fmt;

@@ -10,7 +10,7 @@ use crate::report::{Exact, Report};
 use crate::thin::parse::parse;
 use crate::thin::write::write;
 use devices::{Source, Target, write_whole};
-use html_tokenizer::References;
+use html_references::References;
 use markup::QuirksMode;
 use std::alloc::Global;
 

@@ -1,3 +1,14 @@
+pub mod Calls
+pub mod CharRefs
+pub mod EndStates
+pub mod EndText
+pub mod Forbidden
+pub mod Input
+pub mod Keywords
 pub mod Laws
-pub mod Order
-pub mod References
+pub mod Pieces
+pub mod Quotes
+pub mod Rest
+pub mod Steps
+pub mod Stops
+pub mod Words

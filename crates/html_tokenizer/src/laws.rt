@@ -1,29 +1,15 @@
-//! Laws over tables of references. Each function's contract is one law.
-ghost use Rattle.html_tokens.specs.Laws.{ReadsEscapes};
-ghost use Rattle.html_tokenizer.specs.Laws.{AreEscapesRead, AreValuesGiven, IsWholeNameLongest, IsWholeNameRead};
-ghost use Rattle.html_tokenizer.specs.References.{five_rows};
+//! Laws over the calls of a tokenizer. Each function's contract is one law.
+ghost use Rattle.html_tokenizer.specs.Laws.{IsAnyPieces, IsSameRoad};
 
-/// No row of a checked table stands for U+0000.
-pub fn values_are_no_nulls()
-    ensures { AreValuesGiven }
+use html_tokens::sink::TokenSink;
+
+/// In whatever pieces a text is fed to a tokenizer, put in at pauses too, and with control characters told or not: the
+/// sink is left in one state, and the pauses are the same.
+pub fn any_pieces<Sink: TokenSink>()
+    ensures { IsAnyPieces Sink.step Sink.view Sink.asks_cdata Sink.ended Sink.is_sound Sink.number Sink.has_failed }
 {}
 
-/// A name that ends in `;` is the longest of every text that begins with it.
-pub fn whole_names_are_longest()
-    ensures { IsWholeNameLongest }
-{}
-
-/// A name that ends in `;` is read as its row's characters, in text and in a value, whatever follows it.
-pub fn whole_names_are_read()
-    ensures { IsWholeNameRead }
-{}
-
-/// A checked table with the names that escaping writes reads what it writes.
-pub fn escapes_are_read()
-    ensures { AreEscapesRead }
-{}
-
-/// The table of five names does.
-pub fn five_names_read_escapes()
-    ensures { ReadsEscapes five_rows }
+/// Telling control characters or not changes nothing of what is to come.
+pub fn same_road<Sink: TokenSink>()
+    ensures { IsSameRoad Sink.step Sink.view Sink.asks_cdata Sink.ended Sink.is_sound Sink.number Sink.has_failed }
 {}

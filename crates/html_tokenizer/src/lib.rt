@@ -1,11 +1,41 @@
-//! The tokenizer of HTML, and the table of named character references that it reads with.
+//! The tokenizer: a machine that takes text in any pieces (HTML Standard, section 13.2.5).
 #![tactic(auto)]
 
+mod attribute_states;
+mod calls;
+mod cdata_states;
+mod characters;
+mod comment_states;
+mod declaration_states;
+mod doctype_keyword_states;
+mod doctype_states;
+mod end_markup_states;
+mod end_states;
+mod feed;
+mod held_reference;
+mod input;
+mod keyword;
 pub mod laws;
-pub mod references;
+mod letters;
+mod numbers;
+mod open_states;
+mod piece;
+mod raw_states;
+mod reference_states;
+mod references;
+mod script_states;
+mod step;
+mod tag_states;
+mod take;
+mod tell;
+mod text_runs;
+mod text_states;
+pub mod tokenizer;
 
+pub use html_queue::{BufferQueue, SetResult, SmallCharSet};
+pub use html_references::{ReferenceRow, References, TableFault};
 pub use html_tokens::{
     Counting, Doctype, Listed, ProcessResult, State, Tag, TagKind, Token, TokenSink,
     TokenSinkResult, TokenizerOpts, Told, states,
 };
-pub use references::{ReferenceRow, References, TableFault};
+pub use tokenizer::Tokenizer;

@@ -1,133 +1,211 @@
-//! Tables of named character references (HTML Standard, section 13.5).
-ghost use Rattle.std.specs.Prelude.{◌≡◌, ◌≢◌, None, Some, IfOk, IfErr, OnOk, IsTrue};
-ghost use Rattle.std.specs.Option.{option_copied};
+//! What a reference that was held stands for (HTML Standard, sections 13.2.5.72 to 13.2.5.80).
+ghost use Rattle.std.specs.Prelude.{◌≡◌, ◌≤◌, ◌&&◌, not, nat_eq, ◌∷◌, [], ◌++◌, IfErr, IfSome, IsTrue, OnOk, length, true};
+ghost use Rattle.std.specs.Option.{is_some, option_map};
+ghost use Rattle.std.specs.List.{list_all};
 ghost use Rattle.std.specs.Str.{chars};
-ghost use Rattle.markup.specs.Plain.{is_plain};
-ghost use Rattle.html_tokenizer.specs.References.{IsCheckedTable, IsFirstFault, MatchesLongest, fault_of, five_rows, goes_on, longest, row_of};
-ghost use Rattle.html_tokens.specs.declared.table.TableFault.TheVariants.{Memory};
+ghost use Rattle.html_tokens.specs.Reference.{goes_on_at};
+ghost use Rattle.html_references.specs.References.{IsCheckedTable, has_values, is_reference_name, is_reference_value, longest};
+ghost use Rattle.markup.specs.declared.fault.ParseFault.TheVariants.{Memory};
+ghost use Rattle.html_tokenizer.specs.CharRefs;
+ghost use Rattle.html_tokens.specs.Table.{values};
 
-pub use html_tokens::table::{ReferenceRow, TableFault};
-use std::alloc::{AllocError, Global};
-use std::marker::Model;
+use crate::held_reference::HeldReference;
+use crate::numbers::{self, Found};
+use crate::tell::empty;
+use html_references::References;
+use html_tokens::table::ReferenceRow;
+use markup::{ParseFault, Text};
+use std::alloc::Global;
 
-mod check;
-mod order;
-
-// The row of a name of ASCII alone, which stands for one character.
-fn make_row(alloc: Global, name: &str, value: u32) -> Result<ReferenceRow, AllocError>
-    requires { IsTrue (is_plain name.now) }
-    ensures { IfOk result (λ row. row ≡ row_of name.now value) }
+/// Whether names and digits are written with this character.
+fn is_named_with(c: char) -> bool
+    ensures { result ≡ CharRefs.is_named_with c }
 {
-    Ok(ReferenceRow::new(String::from_str(alloc, name)?, value, None))
+    c.is_ascii_alphanumeric() || c == ';'
 }
 
-// Rows of their own with the same names and values.
-fn copy_rows(alloc: Global, rows: &[ReferenceRow]) -> Result<Vec<ReferenceRow>, TableFault>
-    ensures ok { IfOk result (λ copied. copied.items ≡ rows.now) }
-    ensures err { IfErr result (λ fault. fault ≡ Memory) }
+/// Whether a reference may go on by this character.
+pub(crate) fn may_go_on(table: &References, held: &HeldReference, c: char) -> bool
+    ensures is { result ≡ CharRefs.may_go_on table.now held.now c }
+    ensures table { IsCheckedTable table.now }
+    ensures held { list_all CharRefs.is_held held.now ≡ true }
 {
-    let mut copied = Vec::with_capacity(alloc, rows.len())?;
-    for row in rows {
-        copied.push(row.copy(alloc)?)?;
-    }
-    Ok(copied)
-}
-
-/// A checked table of named character references. A contract sees the list of its rows, as they were handed in.
-///
-/// Names are letters and digits of ASCII, one at least, with `;` or nothing behind them, and all distinct; values are numbers of
-/// characters, and not 0. A table may have no row.
-#[derive(Debug, Drop)]
-pub struct References {
-    rows: Vec<ReferenceRow>,
-    // The places of the rows in the order of their names.
-    order: Vec<usize>,
-}
-
-impl Model for References {
-    ghost use Rattle.std.specs.Prelude.{List};
-    ghost use Rattle.html_tokens.specs.declared.table.ReferenceRow.{ReferenceRow};
-    ghost use Rattle.html_tokenizer.specs.Order.{IsTable};
-
-    ghost Value = { List ReferenceRow };
-
-    ghost view = { λ t. t.rows.items };
-
-    ghost invariant = { λ t. IsTable t.rows.items t.order.items };
-}
-
-impl References {
-    /// The table of the given rows, which keeps their memory; or else what is wrong with the first faulty one. In a row a bad
-    /// name is told before a bad value, and that before a name that an earlier row has. Memory may run out for any rows.
-    pub fn new(alloc: Global, rows: Vec<ReferenceRow>) -> Result<References, TableFault>
-        ensures ok { IfOk result (λ table. table ≡ rows.items) }
-        ensures checked { OnOk result (fault_of rows.items ≡ None) }
-        ensures fault { IfErr result (λ fault. fault ≢ Memory → fault_of rows.items ≡ Some fault) }
-
-        // The same in terms of the whole table: it is checked, or the fault is that of its first faulty row.
-        ensures table { OnOk result (IsCheckedTable rows.items) }
-        ensures first { IfErr result (λ fault. fault ≢ Memory → IsFirstFault rows.items fault) }
-    {
-        let mut order = Vec::with_capacity(alloc, rows.len())?;
-        for (place, row) in rows.iter().enumerate() {
-            let index = check::index_of(&rows[..place], &order, row)?;
-            order.insert(index, place)?;
-        }
-        Ok(References { rows, order })
-    }
-
-    /// The table of the five names that a written text needs: `amp;`, `lt;`, `gt;`, `quot;` and `nbsp;`.
-    pub fn five(alloc: Global) -> Result<References, TableFault>
-        ensures ok { IfOk result (λ table. table ≡ five_rows) }
-        ensures err { IfErr result (λ fault. fault ≡ Memory) }
-    {
-        let mut rows = Vec::with_capacity(alloc, 5)?;
-        rows.push(make_row(alloc, "amp;", 0x26)?)?;
-        rows.push(make_row(alloc, "lt;", 0x3C)?)?;
-        rows.push(make_row(alloc, "gt;", 0x3E)?)?;
-        rows.push(make_row(alloc, "quot;", 0x22)?)?;
-        rows.push(make_row(alloc, "nbsp;", 0xA0)?)?;
-        References::new(alloc, rows)
-    }
-
-    /// A table of its own with the same rows.
-    pub fn copy(&self, alloc: Global) -> Result<References, TableFault>
-        ensures ok { IfOk result (λ copied. copied ≡ self.now) }
-        ensures err { IfErr result (λ fault. fault ≡ Memory) }
-    {
-        let rows = copy_rows(alloc, &self.rows)?;
-        let order = Vec::from_slice(alloc, &self.order)?;
-        Ok(References { rows, order })
-    }
-
-    /// The rows, lent, as they were handed in.
-    #[tactic(auto, using(crate::proofs::TableLaws::checked_from_fault_of))]
-    pub fn rows(&self) -> &[ReferenceRow]
-        ensures rows { result.now ≡ self.now }
-        ensures checked { fault_of self.now ≡ None }
-        ensures table { IsCheckedTable self.now }
-    {
-        self.rows.as_slice()
-    }
-
-    /// Whether some name goes on behind what is held: it begins with the characters held, and has more (HTML Standard, section 13.2.5.73).
-    pub fn goes_on(&self, held: &str) -> bool
-        ensures { result ≡ goes_on self.now (chars held.now) }
-    {
-        order::goes_on(&self.rows, &self.order, held.as_bytes())
-    }
-
-    /// The row with the longest name that a text begins with (HTML Standard, section 13.2.5.73).
-    pub fn longest(&self, text: &str) -> Option<&ReferenceRow>
-        ensures row { option_copied result ≡ longest self.now (chars text.now) }
-        ensures longest { MatchesLongest self.now (chars text.now) (option_copied result) }
-    {
-        match order::longest(&self.rows, &self.order, text.as_bytes()) {
-            None => None,
-            Some(place) => Some(&self.rows[place]),
-        }
+    let _rows = table.rows();
+    let text = held.as_str();
+    match text.as_bytes().first() {
+        None => is_named_with(c) || c == '#',
+        Some(b'#') => is_named_with(c) && !text.as_bytes().ends_with(b";"),
+        Some(_) => is_named_with(c) && table.goes_on(text),
     }
 }
 
-#[cfg(test)]
-mod tests;
+/// Whether a name goes on by a character: `=`, a letter or a digit.
+pub(crate) fn goes_on_at(c: char) -> bool
+    ensures { result ≡ goes_on_at (c ∷ []) }
+{
+    c == '=' || c.is_ascii_alphanumeric()
+}
+
+/// The same at the front of what is held behind a name, by whether it follows where nothing is held.
+fn goes_on_before(text: &[u8], follows: bool) -> bool
+    ensures { result ≡ CharRefs.goes_on_before text.now follows }
+{
+    match text.first() {
+        None => follows,
+        Some(byte) => *byte == b'=' || byte.is_ascii_alphanumeric(),
+    }
+}
+
+/// Whether a name in an attribute's value is text there, by what is held behind it.
+fn is_text(in_value: bool, name: &str, behind: &[u8], follows: bool) -> bool
+    ensures { result ≡ (in_value && CharRefs.is_text_before name.now behind.now follows) }
+{
+    in_value && !name.as_bytes().ends_with(b";") && goes_on_before(behind, follows)
+}
+
+/// A row's name, whose characters are its bytes.
+fn name_of(row: &ReferenceRow) -> &str
+    requires { IsTrue (is_reference_name row.now.name) }
+    ensures { result.now ≡ row.now.name }
+{
+    row.name.as_str()
+}
+
+/// The character of a table's value.
+fn character(value: u32) -> char
+    requires { IsTrue (is_reference_value value) }
+    ensures { result ≡ value }
+{
+    char::from_u32(value).unwrap_or('\u{FFFD}')
+}
+
+/// The reference that a row's name is.
+fn row_found(row: &ReferenceRow) -> Found
+    requires name { IsTrue (is_reference_name row.now.name) }
+    requires values { IsTrue (has_values row.now) }
+    ensures { CharRefs.reference_of result ≡ record { chars = values row.now; len = length row.now.name } }
+{
+    let second = match row.second {
+        None => None,
+        Some(value) => Some(character(value)),
+    };
+    Found {
+        first: character(row.first),
+        second,
+        len: name_of(row).len(),
+    }
+}
+
+/// What was decided of a reference that was held.
+#[derive(Clone, Copy)]
+pub(crate) struct Decision {
+    /// The reference, or none where `&` is text.
+    pub(crate) found: Option<Found>,
+    /// The error that it has, if it has one.
+    pub(crate) fault: Option<&'static str>,
+}
+
+/// The error of a name that is in no table, if it has one: `;` ends it.
+fn unknown_fault(text: &str) -> Option<&'static str>
+    ensures { is_some result ≡ (not (nat_eq (length text.now) 1) && CharRefs.ends_in_semicolon text.now) }
+{
+    if text.len() != 1 && text.as_bytes().ends_with(b";") {
+        return Some("unknown named character reference");
+    }
+    None
+}
+
+/// The error of a name of the table, if it has one: it has no `;`.
+fn name_fault(name: &str) -> Option<&'static str>
+    ensures { is_some result ≡ not (CharRefs.ends_in_semicolon name.now) }
+{
+    if name.as_bytes().ends_with(b";") {
+        return None;
+    }
+    Some("missing semicolon after character reference")
+}
+
+/// A named reference, by what was held and whether `=`, a letter or a digit follows.
+fn named(table: &References, in_value: bool, text: &str, follows: bool) -> Decision
+    requires { chars text.now ≡ text.now }
+    ensures found { option_map CharRefs.reference_of result.found ≡ CharRefs.named_before in_value (longest table.now text.now) text.now follows }
+    ensures fault { is_some result.fault ≡ CharRefs.is_faulty_named in_value (longest table.now text.now) text.now follows }
+{
+    let _rows = table.rows();
+    let Some(row) = table.longest(text) else {
+        return Decision {
+            found: None,
+            fault: unknown_fault(text),
+        };
+    };
+    let found = row_found(row);
+    if is_text(
+        in_value,
+        name_of(row),
+        &text.as_bytes()[found.len..],
+        follows,
+    ) {
+        return Decision {
+            found: None,
+            fault: None,
+        };
+    }
+    Decision {
+        found: Some(found),
+        fault: name_fault(name_of(row)),
+    }
+}
+
+/// The reference that was held, by whether `=`, a letter or a digit follows.
+fn find(table: &References, in_value: bool, held: &HeldReference, follows: bool) -> Decision
+    ensures found { option_map CharRefs.reference_of result.found ≡ CharRefs.decided in_value table.now held.now follows }
+    ensures fault { is_some result.fault ≡ CharRefs.is_faulty in_value table.now held.now follows }
+{
+    let text = held.as_str();
+    match text.as_bytes().first() {
+        None => Decision {
+            found: None,
+            fault: None,
+        },
+        Some(b'#') => Decision {
+            found: numbers::numeric(&text.as_bytes()[1..]),
+            fault: numbers::numeric_fault(&text.as_bytes()[1..]),
+        },
+        Some(_) => named(table, in_value, text, follows),
+    }
+}
+
+/// The same, which takes no more than what is held.
+pub(crate) fn decided(
+    table: &References,
+    in_value: bool,
+    held: &HeldReference,
+    follows: bool,
+) -> Decision
+    ensures is { option_map CharRefs.reference_of result.found ≡ CharRefs.decided in_value table.now held.now follows }
+    ensures fault { is_some result.fault ≡ CharRefs.is_faulty in_value table.now held.now follows }
+    ensures within { IfSome result.found (λ found. found.len ≤ length held.now) }
+{
+    find(table, in_value, held, follows)
+}
+
+/// Adds what `&` and the characters that were held stand for to a text.
+pub(crate) fn push_resolved(
+    text: &mut Text,
+    found: Option<Found>,
+    held: &HeldReference,
+) -> Result<(), ParseFault>
+    requires { IfSome found (λ f. f.len ≤ length held.now) }
+    ensures ok { OnOk result (text.new ≡ text.old ++ CharRefs.resolved_by (option_map CharRefs.reference_of found) held.now) }
+    ensures fault { IfErr result (λ fault. fault ≡ Memory) }
+{
+    let Some(found) = found else {
+        text.push('&')?;
+        return text.push_str(held.as_str());
+    };
+    text.push(found.first)?;
+    if let Some(second) = found.second {
+        text.push(second)?;
+    }
+    text.push_str(held.behind(found.len))
+}

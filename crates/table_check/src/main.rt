@@ -4,7 +4,7 @@
 ghost use Rattle.std.specs.Prelude.{◌≡◌, IfOk};
 
 use anyhow::{Context, Result, anyhow};
-use html_tokenizer::{ReferenceRow, References, TableFault};
+use html_references::{ReferenceRow, References, TableFault};
 use std::alloc::Global;
 use std::fs;
 

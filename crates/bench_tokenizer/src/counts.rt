@@ -1,0 +1,132 @@
+//! A sink that counts what it is told.
+ghost use Rattle.std.specs.Prelude.{◌≡◌, true, false, length};
+ghost use Rattle.std.specs.Str.{chars};
+ghost use Rattle.html_tokens.specs.Sink.{numbered};
+ghost use Rattle.bench_tokenizer.specs.Counts.{Counted, IsWithin, counted_by, counted, error_counted, step, ended, asks_cdata, number, has_failed, counts_laws, reply_to};
+
+use html_tokenizer::states::RawKind;
+use html_tokenizer::{TagKind, Token, TokenSink, TokenSinkResult};
+use markup::ParseFault;
+
+/// What a sink was told, in numbers. At u64::MAX a number stays.
+#[derive(Drop)]
+pub(crate) struct Counts {
+    /// How many characters of text were told, in however many tokens.
+    pub(crate) characters: u64,
+    /// How many tags.
+    pub(crate) tags: u64,
+    /// How many attributes these tags have.
+    pub(crate) attributes: u64,
+    /// How many comments.
+    pub(crate) comments: u64,
+    /// Whether the end was told.
+    pub(crate) has_ended: bool,
+    /// How many tokens came, with those of text.
+    pub(crate) tokens: u64,
+    /// How many errors.
+    pub(crate) errors: u64,
+}
+
+// How many characters a text has.
+fn characters(text: &str) -> usize
+    ensures { result ≡ length (chars text.now) }
+{
+    text.chars().count()
+}
+
+impl Counts {
+    /// Nothing was told yet.
+    pub(crate) fn new() -> Counts
+        ensures { counted_by result ≡ record { characters = 0; tags = 0; attributes = 0; comments = 0; has_ended = false } }
+    {
+        Counts {
+            characters: 0,
+            tags: 0,
+            attributes: 0,
+            comments: 0,
+            has_ended: false,
+            tokens: 0,
+            errors: 0,
+        }
+    }
+
+    /// Counts a token.
+    fn count(&mut self, token: &Token)
+        ensures counted { counted_by self.new ≡ counted (counted_by self.old) token.now }
+        ensures errors { self.new.errors ≡ error_counted token.now self.old.errors }
+    {
+        self.tokens = self.tokens.saturating_add(1);
+        match token {
+            Token::CharacterTokens(text) => {
+                let more = characters(text.as_str());
+                self.characters = self.characters.saturating_add(more as u64);
+            }
+            Token::TagToken(tag) => {
+                self.tags = self.tags.saturating_add(1);
+                self.attributes = self.attributes.saturating_add(tag.attrs.len() as u64);
+            }
+            Token::CommentToken(_) => self.comments = self.comments.saturating_add(1),
+            Token::ParseError(_) => self.errors = self.errors.saturating_add(1),
+            _ => {}
+        }
+    }
+}
+
+// Behind a start tag of a script stands its text.
+fn reply_to(token: &Token) -> TokenSinkResult<()>
+    ensures { numbered number result ≡ reply_to token.now }
+{
+    match token {
+        Token::TagToken(tag) => match tag.kind {
+            TagKind::StartTag if tag.name.is("script") => {
+                TokenSinkResult::RawData(RawKind::ScriptData)
+            }
+            _ => TokenSinkResult::Continue,
+        },
+        _ => TokenSinkResult::Continue,
+    }
+}
+
+impl TokenSink for Counts {
+    /// No reply names a node.
+    type Handle = ();
+
+    ghost State = { Counted };
+
+    ghost view = { counted_by };
+
+    ghost is_sound = { IsWithin };
+
+    ghost step = { step };
+
+    ghost ended = { ended };
+
+    ghost asks_cdata = { asks_cdata };
+
+    ghost errors = { λ c. c.errors };
+
+    ghost is_quiet = { λ _ _. true };
+
+    ghost has_failed = { has_failed };
+
+    ghost number = { number };
+
+    ghost laws = { counts_laws };
+
+    fn process_token(
+        &mut self,
+        token: Token,
+        _line_number: u64,
+    ) -> Result<TokenSinkResult<()>, ParseFault> {
+        self.count(&token);
+        Ok(reply_to(&token))
+    }
+
+    fn end(&mut self) {
+        self.has_ended = true;
+    }
+
+    fn adjusted_current_node_present_but_not_in_html_namespace(&self) -> bool {
+        false
+    }
+}

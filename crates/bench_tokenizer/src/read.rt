@@ -1,0 +1,74 @@
+//! Reading a page in pieces.
+ghost use Rattle.std.specs.Prelude.{◌≡◌, ◌++◌, ◌<◌, [], length, Ok, IfOk, OnOk};
+ghost use Rattle.std.specs.Str.{chars};
+ghost use Rattle.std.specs.String.{string_bytes};
+ghost use Rattle.bench_tokenizer.specs.Counts.{counted_by};
+ghost use Rattle.bench_tokenizer.specs.Readings.{Reads, Takes, Begins, page_reading};
+
+use crate::counts::Counts;
+use html_tokenizer::{BufferQueue, References, Tokenizer, TokenizerOpts};
+use markup::{ParseFault, TokenizerResult};
+use std::alloc::Global;
+
+/// How many bytes a piece has at most.
+const PIECE: usize = 4_096;
+
+/// A front of a text, of so many bytes at most where a character ends within them, and what follows it.
+fn split_piece(text: &str) -> (&str, &str)
+    ensures whole { chars text.now ≡ chars result.0.now ++ chars result.1.now }
+    ensures shorter { 0 < length text.now → length result.1.now < length text.now }
+{
+    let end = text.floor_char_boundary(PIECE);
+    if end == 0 {
+        return (text, "");
+    }
+    text.split_at(end)
+}
+
+/// A tokenizer at the front of its input, with the five names of references that a written text needs.
+fn tokenizer_of(alloc: Global, exact_errors: bool) -> Result<Tokenizer<Counts>, ParseFault>
+    ensures { IfOk result Begins }
+{
+    let Ok(table) = References::five(alloc) else {
+        return Err(ParseFault::Memory);
+    };
+    let opts = TokenizerOpts {
+        exact_errors,
+        ..TokenizerOpts::default()
+    };
+    Ok(Tokenizer::new(alloc, Counts::new(), opts, table))
+}
+
+/// Has a tokenizer read a text. Its sink asks for no pause.
+fn feed_text(
+    tokenizer: &mut Tokenizer<Counts>,
+    input: &mut BufferQueue,
+    text: String,
+) -> Result<(), ParseFault>
+    requires takes { Takes tokenizer.old }
+    requires empty { input.old.characters ≡ [] }
+    ensures reads { OnOk result (Reads tokenizer.old tokenizer.new (chars (string_bytes text))) }
+    ensures empty { OnOk result (input.new.characters ≡ []) }
+{
+    input.push_back(text)?;
+    match tokenizer.feed(input)? {
+        TokenizerResult::Done => Ok(()),
+        _ => Err(ParseFault::Shape),
+    }
+}
+
+/// Reads a page in pieces to its end, and counts what it says.
+pub(crate) fn read(alloc: Global, page: &str, exact_errors: bool) -> Result<Counts, ParseFault>
+    ensures { IfOk result (λ counts. page_reading (chars page.now) ≡ Ok (counted_by counts, [])) }
+{
+    let mut tokenizer = tokenizer_of(alloc, exact_errors)?;
+    let mut input = BufferQueue::new();
+    let mut rest = page;
+    while !rest.is_empty() {
+        let (piece, behind) = split_piece(rest);
+        feed_text(&mut tokenizer, &mut input, String::from_str(alloc, piece)?)?;
+        rest = behind;
+    }
+    tokenizer.end()?;
+    Ok(tokenizer.sink)
+}

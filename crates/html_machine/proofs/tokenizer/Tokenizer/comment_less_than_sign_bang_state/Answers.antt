@@ -1,7 +1,0 @@
-use Rattle.html_machine.proofs.Comments.{less-than-bang_kept}
-use Rattle.html_machine.proofs.tokenizer.Tokenizer.comment_less_than_sign_bang_state.Goals as goal
-
-pub returns : goal.returns
-returns g c =
-    let m = g.Sink.TokenSink in
-    less-than-bang_kept m.step m.view m.asks_cdata m.ended m.is_sound m.number m.is_quiet g.met.Sink.TokenSink.laws c.args.self.now _ c.args.c _ c.requires.at c.comment_state.ensures

@@ -1,7 +1,0 @@
-use Rattle.html_machine.proofs.Declarations.{bogus-opened}
-use Rattle.html_machine.proofs.tokenizer.Tokenizer.declare_nothing.Goals as goal
-
-pub returns : goal.returns
-returns g c =
-    let m = g.Sink.TokenSink in
-    bogus-opened m.step m.view m.asks_cdata m.ended m.is_sound m.number m.is_quiet g.met.Sink.TokenSink.laws c.args.self.now _ c.args.c c.in_ok-self.field-0 _ c.requires.at c.text.ensures.part c.requires.nothing c.in_ok-self.ensures.ok c.bogus_comment_state.ensures

@@ -1,7 +1,0 @@
-use Rattle.html_machine.proofs.TextStates.{plaintext-kept}
-use Rattle.html_machine.proofs.tokenizer.Tokenizer.plaintext_state.Goals as goal
-
-pub returns : goal.returns
-returns g c =
-    let m = g.Sink.TokenSink in
-    plaintext-kept m.step m.view m.asks_cdata m.ended m.is_sound m.number m.is_quiet g.met.Sink.TokenSink.laws _ _ _ _ c.requires.at c.requires.sound c.take_shown.ensures

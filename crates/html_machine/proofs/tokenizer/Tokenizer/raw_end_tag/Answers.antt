@@ -1,8 +1,0 @@
-use Rattle.std.proofs.Common.{◌∙◌}
-use Rattle.html_machine.proofs.RawEnds.{end_tag-kept}
-use Rattle.html_machine.proofs.tokenizer.Tokenizer.raw_end_tag.Goals as goal
-
-pub returns : goal.returns
-returns g c =
-    let m = g.Sink.TokenSink in
-    end_tag-kept m.step m.view m.asks_cdata m.ended m.is_sound m.number _ _ _ _ _ _ _ c.requires.at c.lowered.ensures.letters c.requires.held c.requires.ends (c.new.ensures ∙ c.in_ok-name.ensures.ok) c.new-2.ensures c.tag_name_state.ensures

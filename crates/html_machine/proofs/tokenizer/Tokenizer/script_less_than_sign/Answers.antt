@@ -1,7 +1,0 @@
-use Rattle.html_machine.proofs.RawEndTags.{bang-told}
-use Rattle.html_machine.proofs.tokenizer.Tokenizer.script_less_than_sign.Goals as goal
-
-pub returns-then-c-eq33 : goal.returns-then-c-eq33
-returns-then-c-eq33 g c =
-    let m = g.Sink.TokenSink in
-    bang-told m.step m.view m.asks_cdata m.ended m.is_sound m.number m.is_quiet g.met.Sink.TokenSink.laws _ _ _ _ c.requires.at c.requires.sound c.if-c-eq33.true c.take_two.ensures

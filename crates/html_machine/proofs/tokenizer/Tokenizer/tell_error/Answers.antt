@@ -1,8 +1,0 @@
-use Rattle.html_machine.proofs.Errors.{errs-failed}
-use Rattle.html_machine.proofs.tokenizer.Tokenizer.tell_error.Goals as goal
-
-pub returns-in_err-_reply : goal.returns-in_err-_reply
-returns-in_err-_reply g c =
-    let inner = g.Sink.TokenSink in
-    errs-failed inner.step inner.view inner.asks_cdata inner.ended inner.is_sound inner.number inner.is_quiet g.met.Sink.TokenSink.laws
-    _ _ _ c.requires.sound _ tt _ c.in_err-_reply.field-0.0 _ c.in_err-_reply.ensures.gives c.from_residual.ensures.1

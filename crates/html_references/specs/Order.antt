@@ -1,0 +1,43 @@
+-- The rows of a table in the order of their names.
+use Rattle.std.specs.Prelude.{◌≡◌, ◌<◌, ◌≤◌, ℕ, zero, suc, IsTrue, List, [], ◌∷◌, None, length, slice_index}
+use Rattle.std.specs.Ordering.{nat_cmp}
+use Rattle.std.specs.Cmp.Lexicographic.{slice_cmp}
+use Rattle.std.specs.declared.cmp.Ordering.TheVariants.{Less}
+use Rattle.html_references.specs.References.{fault_of, is_reference_name}
+use Rattle.html_tokens.specs.declared.table.ReferenceRow.{ReferenceRow}
+
+-- the name of the row at a place
+abbrev pub name_at : List ReferenceRow → ℕ → List ℕ
+name_at [] place = []
+name_at (row ∷ rows) zero = row.name
+name_at (row ∷ rows) (suc place) = name_at rows place
+
+-- the name of the row whose place is the one at an index of the order
+abbrev pub ordered_name : List ReferenceRow → List ℕ → ℕ → List ℕ
+ordered_name rows order index = name_at rows (slice_index order index)
+
+-- one text stands before another
+abbrev pub IsBefore : List ℕ → List ℕ → Type 0
+IsBefore a b = slice_cmp nat_cmp a b ≡ Less
+
+-- the order holds places of rows with good names, and their names rise
+pub record IsOrdered (rows : List ReferenceRow) (order : List ℕ) : Type 0 where
+  pub within : (index : ℕ) → index < length order → slice_index order index < length rows
+  pub named : (index : ℕ) → index < length order → IsTrue (is_reference_name (ordered_name rows order index))
+  pub rising : (low high : ℕ) → low < high → high < length order → IsBefore (ordered_name rows order low) (ordered_name rows order high)
+
+-- the order holds the place of each row
+pub record IsOrder (rows : List ReferenceRow) (order : List ℕ) : Type 0 where
+  pub ordered : IsOrdered rows order
+  pub whole : (place : ℕ) → place < length rows → (index : ℕ) × (index < length order) × (slice_index order index ≡ place)
+
+-- where a text stands among the ordered names, or would
+abbrev pub IsPlaceOf : List ReferenceRow → List ℕ → List ℕ → ℕ → Type 0
+IsPlaceOf rows order text index =
+    (index ≤ length order) × ((low : ℕ) → low < index → IsBefore (ordered_name rows order low) text)
+    × ((high : ℕ) → index ≤ high → high < length order → IsBefore text (ordered_name rows order high))
+
+-- a checked table: no row is faulty, and the order holds the place of each
+pub record IsTable (rows : List ReferenceRow) (order : List ℕ) : Type 0 where
+  pub checked : fault_of rows ≡ None
+  pub order_of : IsOrder rows order

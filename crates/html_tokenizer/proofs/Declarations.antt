@@ -1,0 +1,190 @@
+-- What stands behind "<!", and what the machine makes of it.
+use Rattle.std.proofs.Common.{◌≡◌, ◌∙◌, ℕ, ◌+◌, length, Bool, true, false, ◌||◌, nat_eq, List, [], ◌∷◌, ◌++◌, drop, Result, refl, sym, ap, append_assoc}
+use Rattle.std.specs.Prelude.{◌&&◌, codes}
+use Rattle.std.specs.List.{list_all}
+use Rattle.markup.specs.declared.fault.ParseFault.{ParseFault}
+use Rattle.html_tokens.specs.declared.replies.ProcessResult.{ProcessResult}
+use Rattle.html_tokens.specs.declared.replies.ProcessResult.TheVariants as flow
+use Rattle.html_tokens.specs.declared.states.State.TheVariants as state
+use Rattle.html_tokens.specs.declared.token.Token.{Token}
+use Rattle.html_tokens.specs.Characters.{begins, begins_any_case}
+use Rattle.html_tokens.specs.Comments.{comment_at, bogus_comment_after}
+use Rattle.html_tokens.specs.Doctypes.{doctype_at}
+use Rattle.html_tokens.specs.Item.{Stand, Item, InData, InCdata, moved, behind, behind_all, silent}
+use Rattle.html_tokens.specs.Items.{declaration_at, declaration_by}
+use Rattle.html_tokens.specs.Pauses.{noting, noting_cdata, noting_end}
+use Rattle.html_tokens.specs.Reading.{line_break, reading, play}
+use Rattle.html_tokens.specs.Sink.{Step, Reply, SinkLaws}
+use Rattle.html_tokenizer.specs.declared.keyword.Word.{Word}
+use Rattle.html_tokenizer.specs.declared.keyword.Word.TheVariants as word
+use Rattle.html_tokenizer.specs.declared.tokenizer.Tokenizer.{Tokenizer}
+use Rattle.html_tokenizer.specs.Keywords.{becomes, may_become, may_declare, IsPart, MakesNoWord, OpensNothing}
+use Rattle.html_tokenizer.specs.Rest.{rows_of, standing, held_at}
+use Rattle.html_tokenizer.specs.Steps.{IsAt, Took, Keeps}
+use Rattle.html_tokenizer.proofs.Ends.{behind-one}
+use Rattle.html_tokenizer.proofs.Glue.{at, fits-at, keeps-along, no-break, now-at, took}
+use Rattle.html_tokenizer.proofs.Keywords.{and_both, or_parts, is_plain, part-plain, word-plain, last-plain, plain-break, spelt-begins, spelt-length, word-apart, word-stops, bogus-behind}
+use Rattle.html_tokenizer.proofs.Opens.{opened}
+use Rattle.html_tokenizer.proofs.Readings.{play-nothing}
+use Rattle.html_tokenizer.proofs.Words.{and_parts}
+
+-- ITEMS
+
+pub drop-front : (w t : List ℕ) → drop (length w) (w ++ t) ≡ t
+drop-front [] t = refl
+drop-front (c ∷ w) t = drop-front w t
+
+-- an item behind a word of n characters
+pub behind-word : (next : List ℕ → Item) (w t : List ℕ) (n : ℕ) → length w ≡ n → behind_all n (next (drop n (w ++ t))) ≡ behind_all (length w) (next t)
+behind-word next w t n e = rw (← e, drop-front w t) refl
+
+comment-by : (d s : Bool) (b : Bool) (st : Stand) (t : List ℕ) → b ≡ true → declaration_by b d s st t ≡ behind_all 4 (comment_at st (drop 2 t))
+comment-by d s b st t e = rw e refl
+
+doctype-by : (a b s : Bool) (st : Stand) (t : List ℕ) → a ≡ false → b ≡ true → declaration_by a b s st t ≡ behind_all 9 (doctype_at st (drop 7 t))
+doctype-by a b s st t e f = rw (e, f) refl
+
+cdata-by : (a b s : Bool) (st : Stand) (t : List ℕ) → a ≡ false → b ≡ false → s ≡ true → declaration_by a b s st t ≡ silent 9 (moved st InCdata)
+cdata-by a b s st t e f g = rw (e, f, g) refl
+
+bogus-by : (a b s : Bool) (st : Stand) (t : List ℕ) → a ≡ false → b ≡ false → s ≡ false → declaration_by a b s st t ≡ behind_all 2 (bogus_comment_after st [] t)
+bogus-by a b s st t e f g = rw (e, f, g) refl
+
+comment-declared : (asks : Bool) (st : Stand) (w t : List ℕ) → becomes word.Dashes w ≡ true → declaration_at asks st (w ++ t) ≡ behind_all 2 (behind_all (length w) (comment_at st t))
+comment-declared asks st w t h =
+    comment-by _ _ _ st (w ++ t) (spelt-begins false (codes "--") w t h)
+    ∙ ap (behind_all 2) (behind-word (comment_at st) w t 2 (spelt-length false (codes "--") w h))
+
+doctype-declared : (asks : Bool) (st : Stand) (w t : List ℕ) → becomes word.Doctype w ≡ true → declaration_at asks st (w ++ t) ≡ behind_all 2 (behind_all (length w) (doctype_at st t))
+doctype-declared asks st w t h =
+    doctype-by _ _ _ st (w ++ t) (word-apart word.Doctype word.Dashes w t refl h) (spelt-begins true (codes "doctype") w t h)
+    ∙ ap (behind_all 2) (behind-word (doctype_at st) w t 7 (spelt-length true (codes "doctype") w h))
+
+cdata-declared : (asks : Bool) (st : Stand) (w t : List ℕ) → asks ≡ true → becomes word.Cdata w ≡ true → declaration_at asks st (w ++ t) ≡ behind_all 2 (behind_all (length w) (silent 0 (moved st InCdata)))
+cdata-declared asks st w t a h =
+    cdata-by _ _ _ st (w ++ t) (word-apart word.Cdata word.Dashes w t refl h) (word-apart word.Cdata word.Doctype w t refl h) (and_both asks _ a (spelt-begins false (codes "[CDATA[") w t h))
+    ∙ ap (λ n. behind_all 2 (behind_all n (silent 0 (moved st InCdata)))) (sym (spelt-length false (codes "[CDATA[") w h))
+
+bogus-declared : (asks : Bool) (st : Stand) (cs : List ℕ) (c : ℕ) (t : List ℕ) → IsPart cs → OpensNothing asks cs c → declaration_at asks st (cs ++ c ∷ t) ≡ behind_all 2 (behind_all (length cs) (bogus_comment_after st cs (c ∷ t)))
+bogus-declared asks st cs c t part h =
+    bogus-by _ _ _ st (cs ++ c ∷ t) (h.dashes t) (h.doctype t) (h.cdata t)
+    ∙ ap (behind_all 2) (bogus-behind st [] cs (c ∷ t) (part-plain cs part))
+
+and_none : (a b : Bool) → b ≡ false → (a && b) ≡ false
+and_none true b e = e
+and_none false b e = refl
+
+-- What c makes no word and no beginning of one is the front of a bogus comment.
+pub nothing-begun : (asks : Bool) (cs : List ℕ) (c : ℕ) → IsPart cs → MakesNoWord cs c → may_declare cs c ≡ false → OpensNothing asks cs c
+nothing-begun asks cs c part whole h =
+    let p = or_parts (may_become word.Dashes (cs ++ c ∷ []) || may_become word.Doctype (cs ++ c ∷ [])) (may_become word.Cdata (cs ++ c ∷ [])) h in
+    let q = or_parts (may_become word.Dashes (cs ++ c ∷ [])) (may_become word.Doctype (cs ++ c ∷ [])) p.0 in
+    record {
+      dashes = λ t. word-stops word.Dashes cs c t part whole.dashes q.0;
+      doctype = λ t. word-stops word.Doctype cs c t part whole.doctype q.1;
+      cdata = λ t. and_none asks _ (word-stops word.Cdata cs c t part whole.cdata p.1);
+    }
+
+-- "[CDATA[" where it opens no section
+pub nothing-asked : (asks : Bool) (cs : List ℕ) (c : ℕ) → becomes word.Cdata (cs ++ c ∷ []) ≡ true → asks ≡ false → OpensNothing asks cs c
+nothing-asked asks cs c h e = record {
+  dashes = λ t. ap (begins (codes "--")) (sym (append_assoc cs (c ∷ []) t)) ∙ word-apart word.Cdata word.Dashes (cs ++ c ∷ []) t refl h;
+  doctype = λ t. ap (begins_any_case (codes "doctype")) (sym (append_assoc cs (c ∷ []) t)) ∙ word-apart word.Cdata word.Doctype (cs ++ c ∷ []) t refl h;
+  cdata = λ t. ap (λ a. a && begins (codes "[CDATA[") (cs ++ c ∷ t)) e;
+}
+
+-- c goes on in a word
+pub part-more : (cs : List ℕ) (c : ℕ) → may_declare cs c ≡ true → IsPart (cs ++ c ∷ [])
+part-more cs c h = by-word (may_become word.Dashes (cs ++ c ∷ [])) (may_become word.Doctype (cs ++ c ∷ [])) (may_become word.Cdata (cs ++ c ∷ [])) refl refl refl h
+  where
+    by-word : (x y z : Bool) → may_become word.Dashes (cs ++ c ∷ []) ≡ x → may_become word.Doctype (cs ++ c ∷ []) ≡ y → may_become word.Cdata (cs ++ c ∷ []) ≡ z → (x || y || z) ≡ true → IsPart (cs ++ c ∷ [])
+    by-word true y z e f g h = record { word = word.Dashes; begun = e }
+    by-word false true z e f g h = record { word = word.Doctype; begun = f }
+    by-word false false z e f g h = record { word = word.Cdata; begun = g ∙ h }
+
+-- STATES
+
+module _ {K S H : Type 0} (step : Step S) (view : K → S) (cdata : S → Bool) (ends : S → S) (sound : S → Type 0) (number : H → ℕ) (broken : K → Bool) (quiet : S → Token → Bool) (laws : SinkLaws sound step ends quiet) where
+  -- an item behind characters of words
+  pub play-plain : (old : Tokenizer K) (cs t : List ℕ) (j : Item) (b : ℕ) (s : S × List Reply) → list_all is_plain cs ≡ true
+      → play (noting step) (noting_cdata cdata) (noting_end ends) (rows_of old) (behind_all (length cs) j) b s (cs ++ t) ≡ play (noting step) (noting_cdata cdata) (noting_end ends) (rows_of old) j b s t
+  play-plain old [] t j b s h = refl
+  play-plain old (c ∷ cs) t j b s h =
+      let p = and_parts (is_plain c) (list_all is_plain cs) h in
+      behind-one step view cdata ends sound number broken quiet laws old c (plain-break c p.0) (behind_all (length (c ∷ cs)) j) (behind_all (length cs) j) b s (cs ++ t) refl
+      ∙ play-plain old cs t j b s p.1
+
+  -- a declaration, read from behind what was read of it
+  read-declared : (old : Tokenizer K) (cs t : List ℕ) (j : Item) (b : ℕ) (s : S × List Reply) → list_all is_plain cs ≡ true → declaration_at (cdata s.0) (standing old InData) (cs ++ t) ≡ behind_all 2 (behind_all (length cs) j)
+      → reading (noting step) (noting_cdata cdata) (noting_end ends) (rows_of old) (standing old InData) b s (60 ∷ 33 ∷ (cs ++ t)) ≡ play (noting step) (noting_cdata cdata) (noting_end ends) (rows_of old) j b s t
+  read-declared old cs t j b s h is =
+      opened step view cdata ends sound number broken quiet laws old b s (33 ∷ (cs ++ t)) (behind (behind_all (length cs) j)) is
+      ∙ behind-one step view cdata ends sound number broken quiet laws old 33 refl (behind (behind_all (length cs) j)) (behind_all (length cs) j) b s (cs ++ t) refl
+      ∙ play-plain old cs t j b s h
+
+  -- the same where c makes the word whole
+  read-word : (old : Tokenizer K) (cs : List ℕ) (c : ℕ) (t : List ℕ) (w : Word) (j : Item) (b : ℕ) (s : S × List Reply) → becomes w (cs ++ c ∷ []) ≡ true → declaration_at (cdata s.0) (standing old InData) ((cs ++ c ∷ []) ++ t) ≡ behind_all 2 (behind_all (length (cs ++ c ∷ [])) j)
+      → reading (noting step) (noting_cdata cdata) (noting_end ends) (rows_of old) (standing old InData) b s (60 ∷ 33 ∷ (cs ++ c ∷ t)) ≡ play (noting step) (noting_cdata cdata) (noting_end ends) (rows_of old) j (b + line_break (nat_eq c 10)) s t
+  read-word old cs c t w j b s h is =
+      let plain : list_all is_plain (cs ++ c ∷ []) ≡ true = word-plain w (cs ++ c ∷ []) h in
+      ap (λ u. reading (noting step) (noting_cdata cdata) (noting_end ends) (rows_of old) (standing old InData) b s (60 ∷ 33 ∷ u)) (sym (append_assoc cs (c ∷ []) t))
+      ∙ read-declared old (cs ++ c ∷ []) t j b s plain is
+      ∙ ap (λ x. play (noting step) (noting_cdata cdata) (noting_end ends) (rows_of old) j x s t) (sym (no-break b c (plain-break c (last-plain cs c plain))))
+
+  module _ (old : Tokenizer K) (c : ℕ) (from : IsAt old state.MarkupDeclarationOpen) (ok : sound (view old.sink)) where
+    pub comment-opened : becomes word.Dashes (old.keyword ++ c ∷ []) ≡ true → Took step view cdata ends sound number broken old (record old { state = state.CommentStart }) c flow.Continue
+    unfolding held_at
+    comment-opened h = took step view cdata ends sound number broken old (record old { state = state.CommentStart }) c state.MarkupDeclarationOpen state.CommentStart from (record { state = refl; fresh = from.fresh }) refl refl ok
+        (λ b s t. read-word old old.keyword c t word.Dashes (comment_at (standing old InData) t) b s h (comment-declared (cdata s.0) (standing old InData) (old.keyword ++ c ∷ []) t h))
+
+    pub doctype-opened : becomes word.Doctype (old.keyword ++ c ∷ []) ≡ true → Took step view cdata ends sound number broken old (record old { state = state.Doctype }) c flow.Continue
+    unfolding held_at
+    doctype-opened h = took step view cdata ends sound number broken old (record old { state = state.Doctype }) c state.MarkupDeclarationOpen state.Doctype from (record { state = refl; fresh = from.fresh }) refl refl ok
+        (λ b s t. read-word old old.keyword c t word.Doctype (doctype_at (standing old InData) t) b s h (doctype-declared (cdata s.0) (standing old InData) (old.keyword ++ c ∷ []) t h))
+
+    -- a section, where the sink says so
+    cdata-read : (b : ℕ) (s : S × List Reply) (t : List ℕ) → cdata s.0 ≡ true → becomes word.Cdata (old.keyword ++ c ∷ []) ≡ true
+        → at step view cdata ends sound number broken state.MarkupDeclarationOpen old b s (c ∷ t) ≡ at step view cdata ends sound number broken state.CdataSection (record old { state = state.CdataSection }) (b + line_break (nat_eq c 10)) s t
+    unfolding held_at
+    cdata-read b s t asks h =
+        read-word old old.keyword c t word.Cdata (silent 0 (standing old InCdata)) b s h (cdata-declared (cdata s.0) (standing old InData) (old.keyword ++ c ∷ []) t asks h)
+        ∙ play-nothing (noting step) (noting_cdata cdata) (noting_end ends) (rows_of old) (standing old InCdata) (b + line_break (nat_eq c 10)) s t
+
+    pub cdata-opened : cdata (view old.sink) ≡ true → becomes word.Cdata (old.keyword ++ c ∷ []) ≡ true → Took step view cdata ends sound number broken old (record old { state = state.CdataSection }) c flow.Continue
+    cdata-opened asks h = record {
+      same = λ pauses t.
+          now-at step view cdata ends sound number broken old state.MarkupDeclarationOpen old.stream.breaks (view old.sink, pauses) (c ∷ t) from
+          ∙ cdata-read old.stream.breaks (view old.sink, pauses) t asks h
+          ∙ sym (now-at step view cdata ends sound number broken (record old { state = state.CdataSection }) state.CdataSection (old.stream.breaks + line_break (nat_eq c 10)) (view old.sink, pauses) t (record { state = refl; fresh = from.fresh }));
+      stream = refl;
+      sound = ok;
+      fits = fits-at (record old { state = state.CdataSection }) state.CdataSection (record { state = refl; fresh = from.fresh });
+      works = λ h. h;
+      paused = tt;
+    }
+
+    -- a character more of a word
+    pub declaration-push : (front : List ℕ) → may_declare old.keyword c ≡ true → front ≡ old.keyword ++ c ∷ [] → Took step view cdata ends sound number broken old (record old { keyword = front }) c flow.Continue
+    unfolding held_at
+    declaration-push front h is = rw is (
+        let plain : is_plain c ≡ true = last-plain old.keyword c (part-plain (old.keyword ++ c ∷ []) (part-more old.keyword c h)) in
+        took step view cdata ends sound number broken old (record old { keyword = old.keyword ++ c ∷ [] }) c state.MarkupDeclarationOpen state.MarkupDeclarationOpen from (record { state = from.state; fresh = from.fresh }) refl refl ok
+        (λ b s t.
+        ap (λ u. reading (noting step) (noting_cdata cdata) (noting_end ends) (rows_of old) (standing old InData) b s (60 ∷ 33 ∷ u)) (sym (append_assoc old.keyword (c ∷ []) t))
+        ∙ ap (λ x. reading (noting step) (noting_cdata cdata) (noting_end ends) (rows_of old) (standing old InData) x s (60 ∷ 33 ∷ ((old.keyword ++ c ∷ []) ++ t))) (sym (no-break b c (plain-break c plain)))))
+
+  -- what was read is the front of a bogus comment
+  bogus-read : (old : Tokenizer K) (c : ℕ) (b : ℕ) (s : S × List Reply) (t : List ℕ) → IsPart old.keyword → OpensNothing (cdata s.0) old.keyword c
+      → at step view cdata ends sound number broken state.MarkupDeclarationOpen old b s (c ∷ t) ≡ at step view cdata ends sound number broken state.BogusComment (record old { comment = old.keyword; state = state.BogusComment }) b s (c ∷ t)
+  unfolding held_at
+  bogus-read old c b s t part h = read-declared old old.keyword (c ∷ t) (bogus_comment_after (standing old InData) old.keyword (c ∷ t)) b s (part-plain old.keyword part) (bogus-declared (cdata s.0) (standing old InData) old.keyword c t part h)
+
+  pub bogus-opened : (old new : Tokenizer K) (c : ℕ) (front : List ℕ) (result : Result (ProcessResult H) ParseFault) → IsAt old state.MarkupDeclarationOpen → IsPart old.keyword → OpensNothing (cdata (view old.sink)) old.keyword c → front ≡ old.keyword
+      → Keeps step view cdata ends sound number broken (record old { comment = front; state = state.BogusComment }) new c result → Keeps step view cdata ends sound number broken old new c result
+  bogus-opened old new c front result from part h is keeps =
+      let mid : Tokenizer K = record old { comment = old.keyword; state = state.BogusComment } in
+      let keeps' : Keeps step view cdata ends sound number broken mid new c result = rw is at keeps in
+      keeps-along step view cdata ends sound number broken old mid new c result refl (λ x. x) (λ pauses t.
+      now-at step view cdata ends sound number broken old state.MarkupDeclarationOpen old.stream.breaks (view old.sink, pauses) (c ∷ t) from
+      ∙ bogus-read old c old.stream.breaks (view old.sink, pauses) t part h
+      ∙ sym (now-at step view cdata ends sound number broken mid state.BogusComment old.stream.breaks (view old.sink, pauses) (c ∷ t) (record { state = refl; fresh = from.fresh }))) keeps'

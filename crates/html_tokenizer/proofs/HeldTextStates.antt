@@ -1,0 +1,75 @@
+-- The end of a reference in text.
+use Rattle.std.proofs.Common.{◌≡◌, ℕ, Bool, true, false, List, [], ◌∷◌, ◌++◌, Some, Result, refl}
+use Rattle.std.specs.List.{list_all}
+use Rattle.std.specs.Result.{IsErrAnd}
+use Rattle.markup.specs.declared.fault.ParseFault.{ParseFault}
+use Rattle.html_tokens.specs.declared.replies.ProcessResult.{ProcessResult}
+use Rattle.html_tokens.specs.declared.states.RawKind.TheVariants as raw
+use Rattle.html_tokens.specs.declared.states.State.TheVariants as state
+use Rattle.html_tokens.specs.declared.token.Token.{Token}
+use Rattle.html_tokens.specs.declared.token.Token.TheVariants.{CharacterTokens}
+use Rattle.html_tokens.specs.Item.{InData, InRaw}
+use Rattle.html_tokens.specs.Pauses.{noting, noting_cdata, noting_end}
+use Rattle.html_tokens.specs.Reading.{◌>>=◌, line_number}
+use Rattle.html_tokens.specs.Sink.{Step, Reply, SinkLaws}
+use Rattle.html_tokenizer.specs.CharRefs.{IsDecided, is_held, resolved}
+use Rattle.html_tokenizer.specs.declared.tokenizer.Tokenizer.{Tokenizer}
+use Rattle.html_tokenizer.specs.Rest.{rows_of, standing, held_at}
+use Rattle.html_tokenizer.specs.Steps.{IsAt, Fails, Told, Keeps}
+use Rattle.html_tokenizer.proofs.Glue.{at}
+use Rattle.html_tokenizer.proofs.HeldGlue.{Resolves, keeps-resolved, not-resolved}
+use Rattle.html_tokenizer.proofs.HeldReadings.{ReadsHeld, held-no_null, held-no_open, held-no_reference, reading-at_end, reading-held}
+use Rattle.html_tokenizer.proofs.Lawful.{noting-lawful}
+
+module _ {K : Type 0} (k : Tokenizer K) where
+  data-reads : ReadsHeld (rows_of k) (standing k InData)
+  data-reads = record {
+    reference = λ x t. refl;
+    plain = λ x c t h. rw (held-no_open c h, held-no_reference c h, held-no_null c h) refl;
+  }
+
+  rcdata-reads : ReadsHeld (rows_of k) (standing k (InRaw raw.Rcdata))
+  rcdata-reads = record {
+    reference = λ x t. refl;
+    plain = λ x c t h. rw (held-no_open c h, held-no_reference c h, held-no_null c h) refl;
+  }
+
+module _ {K S H : Type 0} (step : Step S) (view : K → S) (cdata : S → Bool) (ends : S → S) (sound : S → Type 0) (number : H → ℕ) (broken : K → Bool) (quiet : S → Token → Bool) (laws : SinkLaws sound step ends quiet) where
+  data-resolves : (old : Tokenizer K) (cs : List ℕ) (c : ℕ) → IsDecided (rows_of old) cs c → Resolves step view cdata ends sound number broken state.Data old cs c (CharacterTokens (resolved false (rows_of old) cs false))
+  unfolding held_at
+  data-resolves old cs c d b s h t = reading-held (λ p. sound p.0) (noting step) (noting_cdata cdata) (noting_end ends) (rows_of old) (noting-lawful sound step ends quiet laws) (standing old InData) b s h cs c t (data-reads old) d
+
+  rcdata-resolves : (old : Tokenizer K) (cs : List ℕ) (c : ℕ) → IsDecided (rows_of old) cs c → Resolves step view cdata ends sound number broken (state.RawData raw.Rcdata) old cs c (CharacterTokens (resolved false (rows_of old) cs false))
+  unfolding held_at
+  rcdata-resolves old cs c d b s h t = reading-held (λ p. sound p.0) (noting step) (noting_cdata cdata) (noting_end ends) (rows_of old) (noting-lawful sound step ends quiet laws) (standing old (InRaw raw.Rcdata)) b s h cs c t (rcdata-reads old) d
+
+  -- the same where the input ends
+  pub data-at_end : (old : Tokenizer K) (cs : List ℕ) → list_all is_held cs ≡ true → (b : ℕ) (s : S × List Reply) → sound s.0
+      → at step view cdata ends sound number broken state.Data old b s (38 ∷ cs ++ []) ≡ (noting step s (CharacterTokens (resolved false (rows_of old) cs false)) (line_number b) >>= λ p. at step view cdata ends sound number broken state.Data old b p.0 [])
+  unfolding held_at
+  data-at_end old cs held b s h = reading-at_end (λ p. sound p.0) (noting step) (noting_cdata cdata) (noting_end ends) (rows_of old) (noting-lawful sound step ends quiet laws) (standing old InData) b s h cs (data-reads old) held
+
+  pub rcdata-at_end : (old : Tokenizer K) (cs : List ℕ) → list_all is_held cs ≡ true → (b : ℕ) (s : S × List Reply) → sound s.0
+      → at step view cdata ends sound number broken (state.RawData raw.Rcdata) old b s (38 ∷ cs ++ []) ≡ (noting step s (CharacterTokens (resolved false (rows_of old) cs false)) (line_number b) >>= λ p. at step view cdata ends sound number broken (state.RawData raw.Rcdata) old b p.0 [])
+  unfolding held_at
+  rcdata-at_end old cs held b s h = reading-at_end (λ p. sound p.0) (noting step) (noting_cdata cdata) (noting_end ends) (rows_of old) (noting-lawful sound step ends quiet laws) (standing old (InRaw raw.Rcdata)) b s h cs (rcdata-reads old) held
+
+  pub data-ended : (old mid new : Tokenizer K) (cs : List ℕ) (c : ℕ) (result : Result (ProcessResult H) ParseFault) → IsAt old state.Data → sound (view old.sink) → IsDecided (rows_of old) cs c
+      → Told step view cdata ends sound number broken (CharacterTokens (resolved false (rows_of old) cs false)) old mid
+      → Keeps step view cdata ends sound number broken mid new c result → Keeps step view cdata ends sound number broken (record old { char_ref = Some cs }) new c result
+  data-ended old mid new cs c result from ok d told h = keeps-resolved step view cdata ends sound number broken old mid new cs c state.Data (CharacterTokens (resolved false (rows_of old) cs false)) result from refl ok told (data-resolves old cs c d) h
+
+  pub data-failed : (old new : Tokenizer K) (cs : List ℕ) (c : ℕ) (result : Result (ProcessResult H) ParseFault) (fault : ParseFault) → IsAt old state.Data → sound (view old.sink) → IsDecided (rows_of old) cs c
+      → IsErrAnd result (λ y. y ≡ fault) → Fails step view cdata ends sound number broken old.sink (step (view old.sink) (CharacterTokens (resolved false (rows_of old) cs false)) (line_number old.stream.breaks)) fault
+      → Keeps step view cdata ends sound number broken (record old { char_ref = Some cs }) new c result
+  data-failed old new cs c result fault from ok d is fails = not-resolved step view cdata ends sound number broken old new cs c state.Data (CharacterTokens (resolved false (rows_of old) cs false)) result fault from refl ok is fails (data-resolves old cs c d)
+
+  pub rcdata-ended : (old mid new : Tokenizer K) (cs : List ℕ) (c : ℕ) (result : Result (ProcessResult H) ParseFault) → IsAt old (state.RawData raw.Rcdata) → sound (view old.sink) → IsDecided (rows_of old) cs c
+      → Told step view cdata ends sound number broken (CharacterTokens (resolved false (rows_of old) cs false)) old mid
+      → Keeps step view cdata ends sound number broken mid new c result → Keeps step view cdata ends sound number broken (record old { char_ref = Some cs }) new c result
+  rcdata-ended old mid new cs c result from ok d told h = keeps-resolved step view cdata ends sound number broken old mid new cs c (state.RawData raw.Rcdata) (CharacterTokens (resolved false (rows_of old) cs false)) result from refl ok told (rcdata-resolves old cs c d) h
+
+  pub rcdata-failed : (old new : Tokenizer K) (cs : List ℕ) (c : ℕ) (result : Result (ProcessResult H) ParseFault) (fault : ParseFault) → IsAt old (state.RawData raw.Rcdata) → sound (view old.sink) → IsDecided (rows_of old) cs c
+      → IsErrAnd result (λ y. y ≡ fault) → Fails step view cdata ends sound number broken old.sink (step (view old.sink) (CharacterTokens (resolved false (rows_of old) cs false)) (line_number old.stream.breaks)) fault
+      → Keeps step view cdata ends sound number broken (record old { char_ref = Some cs }) new c result
+  rcdata-failed old new cs c result fault from ok d is fails = not-resolved step view cdata ends sound number broken old new cs c (state.RawData raw.Rcdata) (CharacterTokens (resolved false (rows_of old) cs false)) result fault from refl ok is fails (rcdata-resolves old cs c d)

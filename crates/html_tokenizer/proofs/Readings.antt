@@ -1,0 +1,74 @@
+-- How a reading goes on by one character.
+use Rattle.std.proofs.Common.{◌≡◌, ◌∙◌, ℕ, ◌+◌, Bool, nat_eq, List, [], ◌∷◌, ◌++◌, take, drop, Result, Ok, Err, refl, sym, ap, arith, append-nil}
+use Rattle.std.specs.Prelude.{IfOk}
+use Rattle.html_tokens.specs.declared.replies.TokenSinkResult.TheVariants.{Continue}
+use Rattle.html_tokens.specs.declared.token.Token.{Token}
+use Rattle.html_tokens.specs.declared.token.Token.TheVariants.{CharacterTokens}
+use Rattle.html_tokens.specs.Item.{Stand, Item, behind, character, told, silent}
+use Rattle.html_tokens.specs.Items.{item}
+use Rattle.html_tokens.specs.Reading.{◌>>=◌, next_stand, said, line_number, line_break, line_breaks, reading, play}
+use Rattle.html_tokens.specs.Sink.{Step, Reply, Refusal}
+use Rattle.html_tokens.specs.Table.{Row}
+use Rattle.html_tokens.proofs.Readings.{reading-item}
+use Rattle.html_tokenizer.specs.Steps.{IsNoTag}
+use Rattle.html_tokenizer.proofs.Lawful.{Lawful}
+
+sum-first : (b x y : ℕ) → b + (x + y) ≡ (b + x) + y
+sum-first b x y = omega arith
+
+sum-one : (b x : ℕ) → b + (x + 0) ≡ b + x
+sum-one b x = omega arith
+
+pub sum-zero : (b : ℕ) → b + 0 ≡ b
+sum-zero b = omega arith
+
+module _ {T : Type 0} (step : Step T) (cdata : T → Bool) (ends : T → T) (rows : List Row) where
+  -- an item behind one character more, read from that character on
+  play-behind : (j : Item) (b : ℕ) (s : T) (c : ℕ) (t : List ℕ) → play step cdata ends rows (behind j) b s (c ∷ t) ≡ play step cdata ends rows j (b + line_break (nat_eq c 10)) s t
+  play-behind j b s c t = ap (λ read. said step j.token read s >>= λ p. reading step cdata ends rows (next_stand j.next p.1) read p.0 (drop j.len t)) (sum-first b (line_break (nat_eq c 10)) (line_breaks (take j.len t)))
+
+  pub play-is : (i j : Item) (b : ℕ) (s : T) (c : ℕ) (t : List ℕ) → i ≡ behind j → play step cdata ends rows i b s (c ∷ t) ≡ play step cdata ends rows j (b + line_break (nat_eq c 10)) s t
+  play-is i j b s c t e = ap (λ i. play step cdata ends rows i b s (c ∷ t)) e ∙ play-behind j b s c t
+
+  -- a reading begins with the item at its front
+  pub reading-is : (st : Stand) (b : ℕ) (s : T) (c : ℕ) (t : List ℕ) (j : Item) → item rows (cdata s) st c t ≡ behind j → reading step cdata ends rows st b s (c ∷ t) ≡ play step cdata ends rows j (b + line_break (nat_eq c 10)) s t
+  reading-is st b s c t j e = reading-item step cdata ends rows st b s c t ∙ play-is (item rows (cdata s) st c t) j b s c t e
+
+  -- an item of no characters and no token
+  pub play-nothing : (st : Stand) (b : ℕ) (s : T) (t : List ℕ) → play step cdata ends rows (silent 0 st) b s t ≡ reading step cdata ends rows st b s t
+  play-nothing st b s t = ap (λ n. reading step cdata ends rows st n s t) (sum-zero b)
+
+module _ {T : Type 0} (sound : T → Type 0) (step : Step T) (cdata : T → Bool) (ends : T → T) (rows : List Row) (laws : Lawful sound step) where
+  stays : (st : Stand) (b : ℕ) (r : Result (T × Reply) Refusal) (t : List ℕ) → IfOk r (λ p. p.1 ≡ Continue)
+      → (r >>= λ p. reading step cdata ends rows (next_stand st p.1) b p.0 t) ≡ (r >>= λ p. reading step cdata ends rows st b p.0 t)
+  stays st b (Ok p) t h = ap (λ reply. reading step cdata ends rows (next_stand st reply) b p.0 t) h
+  stays st b (Err e) t h = refl
+
+  -- on whatever line a text is told
+  pub any_line : (s : T) → sound s → (a : List ℕ) (k m : ℕ) → step s (CharacterTokens a) k ≡ step s (CharacterTokens a) m
+  any_line s h a k m =
+      let e : step s (CharacterTokens (a ++ [])) k ≡ step s (CharacterTokens (a ++ [])) m = sym (laws.pieces s h a [] 0 0 k) ∙ laws.pieces s h a [] 0 0 m in
+      rw append-nil at e
+
+  -- an item that is a token but no tag, of n characters
+  pub play-told : (token : Token) (n : ℕ) (st : Stand) (b : ℕ) (s : T) → sound s → (t : List ℕ) → IsNoTag token
+      → play step cdata ends rows (told token n st) b s t ≡ (step s token (line_number (b + line_breaks (take n t))) >>= λ p. reading step cdata ends rows st (b + line_breaks (take n t)) p.0 (drop n t))
+  play-told token n st b s h t none = stays st (b + line_breaks (take n t)) (step s token (line_number (b + line_breaks (take n t)))) (drop n t) (laws.goes_on s h token none (line_number (b + line_breaks (take n t))))
+
+  -- a character that is read as one of text
+  pub reading-char : (st next : Stand) (b : ℕ) (s : T) → sound s → (c d : ℕ) (t : List ℕ) (l : ℕ) → item rows (cdata s) st c t ≡ character d next
+      → reading step cdata ends rows st b s (c ∷ t) ≡ (step s (CharacterTokens (d ∷ [])) l >>= λ p. reading step cdata ends rows next (b + line_break (nat_eq c 10)) p.0 t)
+  reading-char st next b s h c d t l e =
+      let read = b + line_break (nat_eq c 10) in
+      reading-is step cdata ends rows st b s c t (told (CharacterTokens (d ∷ [])) 0 next) e
+      ∙ play-told (CharacterTokens (d ∷ [])) 0 next read s h t tt
+      ∙ ap (λ n. step s (CharacterTokens (d ∷ [])) (line_number n) >>= λ p. reading step cdata ends rows next n p.0 t) (sum-zero read)
+      ∙ ap (λ r. r >>= λ p. reading step cdata ends rows next read p.0 t) (any_line s h (d ∷ []) (line_number read) l)
+
+  -- an item that is a token but no tag, and breaks no line
+  pub play-end : (i : Item) (token : Token) (n : ℕ) (st : Stand) (b : ℕ) (s : T) → sound s → (t : List ℕ) → IsNoTag token → i ≡ told token n st → line_breaks (take n t) ≡ 0
+      → play step cdata ends rows i b s t ≡ (step s token (line_number b) >>= λ p. reading step cdata ends rows st b p.0 (drop n t))
+  play-end i token n st b s h t none is unbroken =
+      ap (λ i. play step cdata ends rows i b s t) is
+      ∙ play-told token n st b s h t none
+      ∙ ap (λ read. step s token (line_number read) >>= λ p. reading step cdata ends rows st read p.0 (drop n t)) (ap (λ x. b + x) unbroken ∙ sum-zero b)

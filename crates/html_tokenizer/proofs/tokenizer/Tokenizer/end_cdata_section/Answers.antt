@@ -1,0 +1,7 @@
+use Rattle.html_tokenizer.proofs.EndTextStates.{cdata-closes}
+use Rattle.html_tokenizer.proofs.tokenizer.Tokenizer.end_cdata_section.Goals as goal
+
+pub returns : goal.returns
+returns g c =
+    let m = g.Sink.TokenSink in
+    cdata-closes m.step m.view m.asks_cdata m.ended m.is_sound m.number m.has_failed _ _ _ c.requires.at c.requires.sound c.tell_error.ensures

@@ -1,0 +1,9 @@
+use Rattle.std.proofs.Common.{refl}
+use Rattle.std.proofs.lemmas.Bool.{and_parts}
+use Rattle.html_tokenizer.proofs.Texts.{reads-text}
+use Rattle.html_tokenizer.proofs.tokenizer.Tokenizer.set_plaintext_state.Goals as goal
+
+pub returns-clause-reads : goal.returns-clause-reads
+returns-clause-reads g c =
+    let m = g.Sink.TokenSink in
+    reads-text m.step m.view m.asks_cdata m.ended m.is_sound m.number m.has_failed _ (and_parts _ _ (and_parts _ _ c.requires.nothing_pending).0).1 refl

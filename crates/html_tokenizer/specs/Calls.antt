@@ -1,0 +1,230 @@
+-- What the calls of a tokenizer leave: what is still to come of its sink, for each further text.
+use Rattle.std.specs.Prelude.{◌≡◌, ℕ, ◌+◌, ◌<◌, min, Bool, true, false, if◌then◌else◌, nat_eq, ◌&&◌, not, is_none, List, [], ◌∷◌, ◌++◌, length, Option, Some, None, Result, Ok, Err, IsOk}
+use Rattle.markup.specs.declared.fault.ParseFault.{ParseFault}
+use Rattle.markup.specs.declared.fault.ParseFault.TheVariants as fault
+use Rattle.markup.specs.declared.tokenizer_result.TokenizerResult.{TokenizerResult}
+use Rattle.markup.specs.declared.tokenizer_result.TokenizerResult.TheVariants.{Done, Script, EncodingIndicator}
+use Rattle.html_queue.specs.Queue.{Queue, Takes}
+use Rattle.html_tokens.specs.declared.replies.ProcessResult.{ProcessResult}
+use Rattle.html_tokens.specs.declared.replies.ProcessResult.TheVariants as flow
+use Rattle.html_tokens.specs.declared.replies.TokenSinkResult.TheVariants as reply
+use Rattle.html_tokens.specs.declared.states.State.TheVariants as state
+use Rattle.html_tokens.specs.declared.token.Token.TheVariants.{EOFToken}
+use Rattle.html_tokens.specs.declared.options.TokenizerOpts.{TokenizerOpts}
+use Rattle.html_tokens.specs.Item.{Place}
+use Rattle.html_tokens.specs.NormalText.{normal_text}
+use Rattle.html_tokens.specs.Table.{Row}
+use Rattle.html_tokens.specs.TextState.{is_text_state}
+use Rattle.html_tokens.specs.Pauses.{noting, noting_cdata, noting_end}
+use Rattle.html_tokens.specs.Reading.{◌>>=◌, line_number, first_place, first_stand, reading}
+use Rattle.html_tokens.specs.Sink.{Step, Reply, Refusal}
+use Rattle.html_tokenizer.specs.CharRefs.{fits_in}
+use Rattle.html_tokenizer.specs.declared.tokenizer.Stream.{Stream}
+use Rattle.html_tokenizer.specs.declared.tokenizer.Tokenizer.{Tokenizer}
+use Rattle.html_tokenizer.specs.declared.piece.Piece.{Piece}
+use Rattle.html_tokenizer.specs.declared.piece.Piece.TheVariants.{Nothing, Char, Run}
+use Rattle.html_tokenizer.specs.Input.{last_of, ComesAs, Vanishes}
+use Rattle.html_tokenizer.specs.Pieces.{ComesAsRun}
+use Rattle.html_tokenizer.specs.Stops.{stops_of}
+use Rattle.html_queue.specs.declared.set.SmallCharSet.{SmallCharSet}
+use Rattle.html_tokenizer.specs.Rest.{rest, rows_of, standing, coming}
+use Rattle.html_tokenizer.specs.Steps.{IsAt, PausesAt, paused_by, now, Fails}
+
+-- the pauses so far, and the one with which a call of `feed` hands back control
+abbrev pub paused_with : {H : Type 0} → (H → ℕ) → List Reply → TokenizerResult H → List Reply
+paused_with number pauses Done = pauses
+paused_with number pauses (Script handle) = pauses ++ reply.Script (number handle) ∷ []
+paused_with number pauses (EncodingIndicator label) = pauses ++ reply.EncodingIndicator label ∷ []
+
+-- a number of line breaks behind one character more: at u64::MAX it stays
+abbrev pub counted : ℕ → ℕ → ℕ
+counted breaks c = if nat_eq c 10 then min (breaks + 1) 0xffff_ffff_ffff_ffff else breaks
+
+abbrev pub refused_by : Bool → Bool → Option ParseFault
+refused_by true has_ended = Some fault.Failed
+refused_by false true = Some fault.Ended
+refused_by false false = None
+
+-- what every call that answers a fault is refused by: a fault that stands before, or else the end
+abbrev pub refusal : Stream → Option ParseFault
+refusal stream = refused_by stream.has_failed stream.has_ended
+
+-- The next of the characters that come are this run, of which none is a stop where the machine stands.
+pub record ComesAsRunAt {K : Type 0} (k : Tokenizer K) (new : Stream) (from to : Queue) (run : List ℕ) : Type 0 where
+  pub stops : SmallCharSet
+  pub are : stops_of k.stream.exact_errors k.char_ref k.state ≡ Some stops
+  pub comes : ComesAsRun stops.bits k.stream new from to run
+
+-- what comes next where the machine stands
+abbrev pub NextsAt : {K : Type 0} → Tokenizer K → Stream → Queue → Queue → Piece → Type 0
+NextsAt k new from to Nothing = Vanishes k.stream new from to
+NextsAt k new from to (Char d) = ComesAs k.stream new from to d
+NextsAt k new from to (Run run) = ComesAsRunAt k new from to run
+
+-- the same of a tokenizer
+abbrev pub refusal_of : {K : Type 0} → Tokenizer K → Option ParseFault
+refusal_of k = refusal k.stream
+
+-- whether the end of the input was told
+abbrev pub has_ended : {K : Type 0} → Tokenizer K → Bool
+has_ended k = k.stream.has_ended
+
+-- the text state in which a tokenizer with nothing pending stands
+abbrev pub text_place : {K : Type 0} → Tokenizer K → Place
+text_place k = first_place (Some k.state)
+
+-- the answer of a call that is refused so, or is not
+abbrev pub Refuses : Option ParseFault → Result (Unit {0}) ParseFault → Type 0
+Refuses None result = IsOk result
+Refuses (Some fault) result = result ≡ Err fault
+
+-- whether a tokenizer stands in text, holds no part of an item, and neither ended nor failed
+abbrev pub is_nothing_pending : {K : Type 0} → Tokenizer K → Bool
+is_nothing_pending k = not k.stream.has_ended && not k.stream.has_failed && is_none k.char_ref && is_text_state k.state
+
+module _ {K S H : Type 0} (step : Step S) (view : K → S) (cdata : S → Bool) (ends : S → S) (is_sound : S → Type 0) (number : H → ℕ) (broken : K → Bool) where
+  -- what a further text makes of the sink and of the pauses so far
+  abbrev pub to_come : Tokenizer K → List Reply → List ℕ → Result (S × List Reply) Refusal
+  to_come k pauses t = rest (noting step) (noting_cdata cdata) (noting_end ends) k (view k.sink, pauses) t
+
+  -- what the end of the input makes of the sink
+  abbrev pub at_end : ℕ → S × List Reply → Result (S × List Reply) Refusal
+  at_end b s = noting step s EOFToken (line_number b) >>= λ p. Ok (noting_end ends p.0)
+
+  -- A character was taken, its line counted: whatever follows, the tokenizer makes of it what it would have made of it behind c.
+  pub record Passed (old new : Tokenizer K) (c : ℕ) (result : ProcessResult H) : Type 0 where
+    pub same : (pauses : List Reply) (t : List ℕ) → now step view cdata ends is_sound number broken old old.stream.breaks (view old.sink, pauses) (c ∷ t) ≡ now step view cdata ends is_sound number broken new new.stream.breaks (view new.sink, paused_by number pauses result) t
+    pub stream : new.stream ≡ record old.stream { breaks = new.stream.breaks }
+    pub sound : is_sound (view new.sink)
+    pub fits : fits_in new.char_ref new.state ≡ true
+    pub works : broken new.sink ≡ true → broken old.sink ≡ true
+    pub paused : PausesAt result c new
+
+  abbrev pub Passes : Tokenizer K → Tokenizer K → ℕ → Result (ProcessResult H) ParseFault → Type 0
+  Passes old new c (Ok result) = Passed old new c result
+  Passes old new c (Err fault) = (pauses : List Reply) (t : List ℕ) → Fails step view cdata ends is_sound number broken old.sink (now step view cdata ends is_sound number broken old old.stream.breaks (view old.sink, pauses) (c ∷ t)) fault
+
+  -- A run of text was taken, of which no character ends a line: whatever follows, the tokenizer makes of it what it would have made of it behind the run.
+  pub record TookRun (old new : Tokenizer K) (run : List ℕ) : Type 0 where
+    pub same : (pauses : List Reply) (t : List ℕ) → now step view cdata ends is_sound number broken old old.stream.breaks (view old.sink, pauses) (run ++ t) ≡ now step view cdata ends is_sound number broken new old.stream.breaks (view new.sink, pauses) t
+    pub stream : new.stream ≡ old.stream
+    pub sound : is_sound (view new.sink)
+    pub fits : fits_in new.char_ref new.state ≡ true
+    pub works : broken new.sink ≡ true → broken old.sink ≡ true
+
+  abbrev pub KeepsRun : Tokenizer K → Tokenizer K → List ℕ → Result (Unit {0}) ParseFault → Type 0
+  KeepsRun old new run (Ok x) = TookRun old new run
+  KeepsRun old new run (Err fault) = (pauses : List Reply) (t : List ℕ) → Fails step view cdata ends is_sound number broken old.sink (now step view cdata ends is_sound number broken old old.stream.breaks (view old.sink, pauses) (run ++ t)) fault
+
+  -- The same of a call that then goes on.
+  abbrev pub KeepsText : Tokenizer K → Tokenizer K → List ℕ → Result (ProcessResult H) ParseFault → Type 0
+  KeepsText old new run (Ok flow.Continue) = TookRun old new run
+  KeepsText old new run (Ok _) = ⊥
+  KeepsText old new run (Err fault) = KeepsRun old new run (Err fault)
+
+  -- All that was held is told: what the end of the input makes of the sink is the end alone.
+  pub record Closed (old new : Tokenizer K) : Type 0 where
+    pub same : (pauses : List Reply) → now step view cdata ends is_sound number broken old old.stream.breaks (view old.sink, pauses) [] ≡ at_end old.stream.breaks (view new.sink, pauses)
+    pub stream : new.stream ≡ old.stream
+    pub sound : is_sound (view new.sink)
+    pub works : broken new.sink ≡ true → broken old.sink ≡ true
+
+  abbrev pub Closes : Tokenizer K → Tokenizer K → Result (Unit {0}) ParseFault → Type 0
+  Closes old new (Ok x) = Closed old new
+  Closes old new (Err fault) = (pauses : List Reply) → Fails step view cdata ends is_sound number broken old.sink (now step view cdata ends is_sound number broken old old.stream.breaks (view old.sink, pauses) []) fault
+
+  -- What a tokenizer needs at a call: a sink in a sound state, and a reference held only where one may stand.
+  pub record IsReady (k : Tokenizer K) : Type 0 where
+    pub sound : is_sound (view k.sink)
+    pub fits : fits_in k.char_ref k.state ≡ true
+
+  -- Where a step ends so: behind some characters; with an empty queue; or, where it hands back control, behind the ">" of a tag,
+  -- with data to come and nothing held.
+  abbrev pub Leaves : ProcessResult H → Tokenizer K → List ℕ → Queue → Type 0
+  Leaves flow.Continue new taken to = 0 < length taken
+  Leaves flow.Suspend new taken to = to.characters ≡ []
+  Leaves (flow.Script handle) new taken to = (last_of taken ≡ 62) × IsAt new state.Data
+  Leaves (flow.EncodingIndicator label) new taken to = (last_of taken ≡ 62) × IsAt new state.Data
+
+  -- The tokenizer took some characters: whatever follows them, what is to come is what was to come.
+  pub record Moved (old new : Tokenizer K) (from to : Queue) (result : ProcessResult H) : Type 0 where
+    pub taken : List ℕ
+    pub takes : Takes taken from to
+    pub same : (pauses : List Reply) (t : List ℕ) → to_come old pauses (taken ++ t) ≡ to_come new (paused_by number pauses result) t
+    pub ready : IsReady new
+    pub works : broken new.sink ≡ true → broken old.sink ≡ true
+    pub ended : new.stream.has_ended ≡ old.stream.has_ended
+    pub failed : new.stream.has_failed ≡ old.stream.has_failed
+    pub left : Leaves result new taken to
+
+  abbrev pub Moves : Tokenizer K → Tokenizer K → Queue → Queue → Result (ProcessResult H) ParseFault → Type 0
+  Moves old new from to (Ok result) = Moved old new from to result
+  Moves old new from to (Err fault) = (pauses : List Reply) (t : List ℕ) → Fails step view cdata ends is_sound number broken old.sink (to_come old pauses (from.characters ++ t)) fault
+
+  -- Where a call ends so: with an empty queue, or, at a pause, behind the ">" of a tag, with data to come and nothing held.
+  abbrev pub Rests : TokenizerResult H → Tokenizer K → List ℕ → Queue → Type 0
+  Rests Done new taken to = to.characters ≡ []
+  Rests (Script handle) new taken to = (last_of taken ≡ 62) × IsAt new state.Data
+  Rests (EncodingIndicator label) new taken to = (last_of taken ≡ 62) × IsAt new state.Data
+
+  -- The input was read, or read up to a pause: some characters were taken from the queue, each once.
+  pub record Fed (old new : Tokenizer K) (from to : Queue) (result : TokenizerResult H) : Type 0 where
+    pub taken : List ℕ
+    pub takes : Takes taken from to
+    -- for each further text, what was to come over the characters taken and that text is what is now to come over that text
+    pub same : (pauses : List Reply) (t : List ℕ) → to_come old pauses (taken ++ t) ≡ to_come new (paused_with number pauses result) t
+    pub ready : IsReady new
+    pub works : broken new.sink ≡ true → broken old.sink ≡ true
+    pub ended : new.stream.has_ended ≡ old.stream.has_ended
+    pub failed : new.stream.has_failed ≡ old.stream.has_failed
+    pub left : Rests result new taken to
+
+  abbrev pub Runs : Tokenizer K → Tokenizer K → Queue → Queue → Result (TokenizerResult H) ParseFault → Type 0
+  Runs old new from to (Ok result) = Fed old new from to result
+  Runs old new from to (Err fault) = (pauses : List Reply) (t : List ℕ) → Fails step view cdata ends is_sound number broken old.sink (to_come old pauses (from.characters ++ t)) fault
+
+  -- The end was told: what was to come over no further text is what the sink is now.
+  pub record HasEnded (old new : Tokenizer K) : Type 0 where
+    pub same : (pauses : List Reply) → to_come old pauses [] ≡ Ok (view new.sink, pauses)
+    pub sound : is_sound (view new.sink)
+    pub works : broken new.sink ≡ true → broken old.sink ≡ true
+    pub stream : new.stream ≡ record old.stream { has_ended = true }
+
+  -- The end was told, and the sink was not yet told that it was.
+  pub record ToldEnd (old new : Tokenizer K) : Type 0 where
+    pub same : (pauses : List Reply) → to_come old pauses [] ≡ Ok (ends (view new.sink), pauses)
+    pub stream : new.stream ≡ old.stream
+    pub sound : is_sound (view new.sink)
+    pub works : broken new.sink ≡ true → broken old.sink ≡ true
+
+  abbrev pub TellsEnd : Tokenizer K → Tokenizer K → Result (Unit {0}) ParseFault → Type 0
+  TellsEnd old new (Ok x) = ToldEnd old new
+  TellsEnd old new (Err fault) = (pauses : List Reply) → Fails step view cdata ends is_sound number broken old.sink (to_come old pauses []) fault
+
+  -- what a call asks of a tokenizer, if nothing stands against the call
+  abbrev pub IsReadyIf : Option ParseFault → Tokenizer K → Type 0
+  IsReadyIf None k = IsReady k
+  IsReadyIf (Some fault) k = Unit {0}
+
+  -- A call with this input gives this where nothing stands against it; where it fails, the tokenizer has failed.
+  abbrev pub FeedGives : Option ParseFault → Tokenizer K → Tokenizer K → Queue → Queue → Result (TokenizerResult H) ParseFault → Type 0
+  FeedGives None old new from to (Ok result) = Fed old new from to result
+  FeedGives None old new from to (Err fault) = (new.stream.has_failed ≡ true) × Runs old new from to (Err fault)
+  FeedGives (Some fault) old new from to result = (result ≡ Err fault) × (new ≡ old) × (to ≡ from)
+
+  abbrev pub EndGives : Option ParseFault → Tokenizer K → Tokenizer K → Result (Unit {0}) ParseFault → Type 0
+  EndGives None old new (Ok x) = HasEnded old new
+  EndGives None old new (Err fault) = (new.stream.has_failed ≡ true) × ((pauses : List Reply) → Fails step view cdata ends is_sound number broken old.sink (to_come old pauses []) fault)
+  EndGives (Some fault) old new result = (result ≡ Err fault) × (new ≡ old)
+
+  -- A new tokenizer: what is to come is the reading of all the text.
+  pub record IsNew (k : Tokenizer K) (sink : K) (opts : TokenizerOpts) (table : List Row) : Type 0 where
+    pub over : k.sink ≡ sink
+    pub same : (pauses : List Reply) (t : List ℕ)
+        → to_come k pauses t ≡ reading (noting step) (noting_cdata cdata) (noting_end ends) table (first_stand opts.initial_state opts.last_start_tag_name) 0 (view sink, pauses) (normal_text opts.discard_bom t)
+    pub ready : IsReady k
+    pub begun : refusal_of k ≡ None
+
+  -- A tokenizer in a text state, with no part of an item held: what is to come is the reading of what comes, from that text on.
+  abbrev pub ReadsAt : Place → Tokenizer K → Type 0
+  ReadsAt place k = (pauses : List Reply) (t : List ℕ) → to_come k pauses t ≡ reading (noting step) (noting_cdata cdata) (noting_end ends) (rows_of k) (standing k place) k.stream.breaks (view k.sink, pauses) (coming k t)

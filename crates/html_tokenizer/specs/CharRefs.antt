@@ -1,0 +1,127 @@
+-- What a tokenizer holds of a character reference, and what it makes of it (HTML Standard, sections 13.2.5.72 to 13.2.5.80).
+use Rattle.std.specs.Prelude.{◌≡◌, ℕ, Bool, true, false, ◌&&◌, ◌||◌, not, nat_eq, List, [], ◌∷◌, ◌++◌, length, take, drop, Option, Some, None}
+use Rattle.std.specs.Char.{is_ascii_alphanumeric, is_ascii_digit, is_ascii_hexdigit}
+use Rattle.std.specs.List.{ends_with, list_all}
+use Rattle.html_tokens.specs.declared.states.RawKind.TheVariants.{Rcdata}
+use Rattle.html_tokens.specs.declared.states.State.{State}
+use Rattle.html_tokens.specs.declared.states.State.TheVariants as state
+use Rattle.html_tokens.specs.Characters.{run}
+use Rattle.html_tokens.specs.Reference.{Reference, goes_on_at, is_no_character, named_by, number, numbered_reference, numeric, semicolon}
+use Rattle.html_tokens.specs.Table.{Row, goes_on, longest, values_of}
+use Rattle.html_references.specs.References.{IsCheckedTable}
+use Rattle.html_tokenizer.specs.Forbidden.{is_forbidden}
+use Rattle.html_tokenizer.specs.declared.numbers.Found.{Found}
+
+-- what names and digits are written with: letters, digits and ";"
+abbrev pub is_named_with : ℕ → Bool
+is_named_with c = is_ascii_alphanumeric c || nat_eq c 59
+
+-- what stands behind the "&" of a reference: the same, and "#"
+abbrev pub is_held : ℕ → Bool
+is_held c = is_named_with c || nat_eq c 35
+
+abbrev pub goes_on_by : Bool → List Row → List ℕ → Bool
+goes_on_by true rows cs = not (ends_with nat_eq cs (59 ∷ []))
+goes_on_by false rows cs = goes_on rows cs
+
+-- Whether a reference of which this is held may go on by c. Where it may not, no text behind c changes what it is.
+abbrev pub may_go_on : List Row → List ℕ → ℕ → Bool
+may_go_on rows [] c = is_held c
+may_go_on rows (h ∷ hs) c = is_named_with c && goes_on_by (nat_eq h 35) rows (h ∷ hs)
+
+-- whether "=", a letter or a digit stands at the front, or follows where nothing does
+abbrev pub goes_on_before : List ℕ → Bool → Bool
+goes_on_before [] follows = follows
+goes_on_before (c ∷ t) follows = goes_on_at (c ∷ t)
+
+abbrev pub is_text_before : List ℕ → List ℕ → Bool → Bool
+is_text_before name behind_it follows = not (ends_with nat_eq name (59 ∷ [])) && goes_on_before behind_it follows
+
+abbrev pub named_before : Bool → Option Row → List ℕ → Bool → Option Reference
+named_before in_value None cs follows = None
+named_before in_value (Some row) cs follows = named_by (in_value && is_text_before row.name (drop (length row.name) cs) follows) row
+
+abbrev pub decided_by : Bool → Bool → List Row → ℕ → List ℕ → Bool → Option Reference
+decided_by true in_value rows h hs follows = numbered_reference (numeric hs)
+decided_by false in_value rows h hs follows = named_before in_value (longest rows (h ∷ hs)) (h ∷ hs) follows
+
+-- the reference that was held, by whether "=", a letter or a digit follows
+abbrev pub decided : Bool → List Row → List ℕ → Bool → Option Reference
+decided in_value rows [] follows = None
+decided in_value rows (h ∷ hs) follows = decided_by (nat_eq h 35) in_value rows h hs follows
+
+abbrev pub resolved_by : Option Reference → List ℕ → List ℕ
+resolved_by None cs = 38 ∷ cs
+resolved_by (Some r) cs = r.chars ++ drop r.len cs
+
+-- the text that "&" and what was held stand for: a reference's characters, or "&", and what is held behind it
+abbrev pub resolved : Bool → List Row → List ℕ → Bool → List ℕ
+resolved in_value rows cs follows = resolved_by (decided in_value rows cs follows) cs
+
+-- what a tokenizer found, as a reference
+abbrev pub reference_of : Found → Reference
+reference_of f = record { chars = values_of f.first f.second; len = f.len }
+
+-- where the digits of a number in base 16, or else 10, end
+abbrev pub stops : Bool → ℕ → Bool
+stops true d = not (is_ascii_hexdigit d)
+stops false d = not (is_ascii_digit d)
+
+abbrev pub base_of : Bool → ℕ
+base_of true = 16
+base_of false = 10
+
+-- whether the Standard names an error for a reference by its number: no character, a carriage return, another control or a noncharacter
+abbrev pub is_faulty_number : ℕ → Bool
+is_faulty_number n = is_no_character n || nat_eq n 13 || is_forbidden n
+
+-- the same of n digits at the front of a text: also where there is none, or no ";" behind them
+abbrev pub is_faulty_run : ℕ → ℕ → List ℕ → Bool
+is_faulty_run base n t = nat_eq n 0 || nat_eq (semicolon (drop n t)) 0 || is_faulty_number (number base (take n t))
+
+abbrev pub is_faulty_digits : Bool → List ℕ → Bool
+is_faulty_digits hex t = is_faulty_run (base_of hex) (run (stops hex) t) t
+
+abbrev pub is_faulty_numeric_by : Bool → ℕ → List ℕ → Bool
+is_faulty_numeric_by true c t = is_faulty_digits true t
+is_faulty_numeric_by false c t = is_faulty_digits false (c ∷ t)
+
+-- the same of a numeric reference, behind "&#"
+abbrev pub is_faulty_numeric : List ℕ → Bool
+is_faulty_numeric [] = true
+is_faulty_numeric (c ∷ t) = is_faulty_numeric_by (nat_eq c 120 || nat_eq c 88) c t
+
+abbrev pub ends_in_semicolon : List ℕ → Bool
+ends_in_semicolon cs = ends_with nat_eq cs (59 ∷ [])
+
+-- the same of a named one: an unknown name that ";" ends, or a name without ";" that is no text
+abbrev pub is_faulty_named : Bool → Option Row → List ℕ → Bool → Bool
+is_faulty_named in_value None cs follows = not (nat_eq (length cs) 1) && ends_in_semicolon cs
+is_faulty_named in_value (Some row) cs follows = not (in_value && is_text_before row.name (drop (length row.name) cs) follows) && not (ends_in_semicolon row.name)
+
+abbrev pub is_faulty_by : Bool → Bool → List Row → ℕ → List ℕ → Bool → Bool
+is_faulty_by true in_value rows h hs follows = is_faulty_numeric hs
+is_faulty_by false in_value rows h hs follows = is_faulty_named in_value (longest rows (h ∷ hs)) (h ∷ hs) follows
+
+-- whether the Standard names an error for what was held behind "&", by whether "=", a letter or a digit follows
+abbrev pub is_faulty : Bool → List Row → List ℕ → Bool → Bool
+is_faulty in_value rows [] follows = false
+is_faulty in_value rows (h ∷ hs) follows = is_faulty_by (nat_eq h 35) in_value rows h hs follows
+
+-- a reference that is decided before c, whatever follows
+pub record IsDecided (rows : List Row) (cs : List ℕ) (c : ℕ) : Type 0 where
+  pub checked : IsCheckedTable rows
+  pub held : list_all is_held cs ≡ true
+  pub ends : may_go_on rows cs c ≡ false
+
+-- the states in which a reference may be held
+abbrev pub may_hold : State → Bool
+may_hold state.Data = true
+may_hold (state.RawData Rcdata) = true
+may_hold (state.AttributeValue kind) = true
+may_hold _ = false
+
+-- whether a reference is held in one of them, if one is held
+abbrev pub fits_in : Option (List ℕ) → State → Bool
+fits_in None st = true
+fits_in (Some cs) st = may_hold st

@@ -1,0 +1,28 @@
+-- The states in which the end of the input ends text or a tag.
+use Rattle.std.specs.Prelude.{Bool, true, false}
+use Rattle.html_tokens.specs.declared.states.State.{State}
+use Rattle.html_tokens.specs.declared.states.State.TheVariants as state
+
+-- in text of which nothing is held
+abbrev pub is_told_text : State → Bool
+is_told_text state.Data = true
+is_told_text state.Plaintext = true
+is_told_text (state.RawData kind) = true
+is_told_text (state.ScriptDataEscapeStart kind) = true
+is_told_text state.ScriptDataEscapeStartDash = true
+is_told_text (state.ScriptDataEscapedDash kind) = true
+is_told_text (state.ScriptDataEscapedDashDash kind) = true
+is_told_text state.ScriptDataDoubleEscapeEnd = true
+is_told_text _ = false
+
+-- in a tag, which is not told
+abbrev pub is_tag_part : State → Bool
+is_tag_part state.TagName = true
+is_tag_part state.BeforeAttributeName = true
+is_tag_part state.AttributeName = true
+is_tag_part state.AfterAttributeName = true
+is_tag_part state.BeforeAttributeValue = true
+is_tag_part (state.AttributeValue kind) = true
+is_tag_part state.AfterAttributeValueQuoted = true
+is_tag_part state.SelfClosingStartTag = true
+is_tag_part _ = false

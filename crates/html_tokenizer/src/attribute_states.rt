@@ -1,0 +1,328 @@
+//! The attributes of a tag (HTML Standard, sections 13.2.5.32 to 13.2.5.39).
+ghost use Rattle.std.specs.Prelude.{◌≡◌, [], Some, IfErr, OnOk};
+ghost use Rattle.html_tokens.specs.Characters.{ends_attribute_name};
+ghost use Rattle.html_tokens.specs.Tags.{has_attribute, with_attribute};
+ghost use Rattle.html_tokens.specs.declared.states.AttrValueKind.TheVariants as value;
+ghost use Rattle.html_tokens.specs.declared.states.State.TheVariants as state;
+ghost use Rattle.markup.specs.declared.fault.ParseFault.TheVariants.{Memory};
+ghost use Rattle.html_tokenizer.specs.Quotes.{quote_of};
+ghost use Rattle.html_tokenizer.specs.Steps.{IsAt, Keeps};
+
+use crate::characters::{ends_tag_name, ends_word, is_white_space, lowered, shown};
+use crate::held_reference::HeldReference;
+use crate::tell::empty;
+use crate::tokenizer::Tokenizer;
+use html_tokens::sink::TokenSink;
+use html_tokens::states::{AttrValueKind, State};
+use html_tokens::{ProcessResult, Tag};
+use markup::{Attribute, LocalName, Namespace, ParseFault, QualName};
+use std::mem;
+
+/// Whether an attribute's name ends before this character.
+fn ends_name(c: char) -> bool
+    ensures { result ≡ ends_attribute_name c }
+{
+    is_white_space(c) || c == '/' || c == '>' || c == '='
+}
+
+/// Whether a tag has an attribute of this name.
+fn has_name(tag: &Tag, name: &LocalName) -> bool
+    ensures { result ≡ has_attribute tag.now name.now }
+{
+    tag.attrs
+        .as_slice()
+        .iter()
+        .any(|attribute| *name == attribute.name.local)
+}
+
+/// The error of a character in an attribute's name, if it is one.
+fn name_fault(c: char) -> Option<&'static str> {
+    if c == '\0' {
+        return Some("unexpected null character");
+    }
+    if c == '"' || c == '\'' || c == '<' {
+        return Some("unexpected character in attribute name");
+    }
+    None
+}
+
+/// The error of the first character of an attribute's name, if it is one.
+fn first_fault(c: char) -> Option<&'static str> {
+    if c == '=' {
+        return Some("unexpected equals sign before attribute name");
+    }
+    name_fault(c)
+}
+
+/// The error of a character in a value without quotes, if it is one.
+fn unquoted_fault(c: char) -> Option<&'static str> {
+    if c == '\0' {
+        return Some("unexpected null character");
+    }
+    if c == '"' || c == '\'' || c == '<' || c == '=' || c == '`' {
+        return Some("unexpected character in unquoted attribute value");
+    }
+    None
+}
+
+impl<Sink: TokenSink> Tokenizer<Sink> {
+    /// Adds the attribute that was read to the tag, or drops it where the tag has one of its name.
+    fn finish_attribute(&mut self) -> Result<(), ParseFault>
+        ensures ok { OnOk result (self.new ≡ record self.old { tag = with_attribute self.old.tag self.old.attribute_name self.old.attribute_value; attribute_name = []; attribute_value = [] }) }
+        ensures fault { IfErr result (λ fault. fault ≡ Memory) }
+    {
+        let alloc = self.stream.alloc;
+        let name = mem::replace(&mut self.attribute_name, empty(alloc));
+        let name = LocalName::new(name.into_string());
+        let value = mem::replace(&mut self.attribute_value, empty(alloc));
+        if has_name(&self.tag, &name) {
+            self.tag.had_duplicate_attributes = true;
+            return Ok(());
+        }
+        let name = QualName::new(None, Namespace::new(String::new(alloc)), name);
+        self.tag.attrs.push(Attribute { name, value })
+    }
+
+    /// Adds the attribute that was read to the tag, without a value.
+    fn finish_without_value(&mut self) -> Result<(), ParseFault>
+        ensures ok { OnOk result (self.new ≡ record self.old { tag = with_attribute self.old.tag self.old.attribute_name []; attribute_name = []; attribute_value = [] }) }
+        ensures fault { IfErr result (λ fault. fault ≡ Memory) }
+    {
+        self.attribute_value = empty(self.stream.alloc);
+        self.finish_attribute()
+    }
+
+    /// Before an attribute's name.
+    pub(crate) fn before_attribute_name_state(
+        &mut self,
+        c: char,
+    ) -> Result<ProcessResult<Sink::Handle>, ParseFault>
+        requires at { IsAt self.old state.BeforeAttributeName }
+        requires sound { Sink.is_sound (Sink.view self.old.sink) }
+        ensures { Keeps Sink.step Sink.view Sink.asks_cdata Sink.ended Sink.is_sound Sink.number Sink.has_failed self.old self.new c result }
+    {
+        self.tell_fault(first_fault(c))?;
+        self.take_before_name(c)
+    }
+
+    /// The same, where an error of the character was told.
+    fn take_before_name(&mut self, c: char) -> Result<ProcessResult<Sink::Handle>, ParseFault>
+        requires at { IsAt self.old state.BeforeAttributeName }
+        requires sound { Sink.is_sound (Sink.view self.old.sink) }
+        ensures { Keeps Sink.step Sink.view Sink.asks_cdata Sink.ended Sink.is_sound Sink.number Sink.has_failed self.old self.new c result }
+    {
+        if is_white_space(c) {
+            return Ok(ProcessResult::Continue);
+        }
+        if c == '/' {
+            self.state = State::SelfClosingStartTag;
+            return Ok(ProcessResult::Continue);
+        }
+        if c == '>' {
+            return self.emit_tag();
+        }
+        let mut name = empty(self.stream.alloc);
+        name.push(lowered(c))?;
+        self.attribute_name = name;
+        self.state = State::AttributeName;
+        Ok(ProcessResult::Continue)
+    }
+
+    /// In an attribute's name.
+    pub(crate) fn attribute_name_state(
+        &mut self,
+        c: char,
+    ) -> Result<ProcessResult<Sink::Handle>, ParseFault>
+        requires at { IsAt self.old state.AttributeName }
+        requires sound { Sink.is_sound (Sink.view self.old.sink) }
+        ensures { Keeps Sink.step Sink.view Sink.asks_cdata Sink.ended Sink.is_sound Sink.number Sink.has_failed self.old self.new c result }
+    {
+        self.tell_fault(name_fault(c))?;
+        self.take_in_name(c)
+    }
+
+    /// The same, where an error of the character was told.
+    fn take_in_name(&mut self, c: char) -> Result<ProcessResult<Sink::Handle>, ParseFault>
+        requires at { IsAt self.old state.AttributeName }
+        requires sound { Sink.is_sound (Sink.view self.old.sink) }
+        ensures { Keeps Sink.step Sink.view Sink.asks_cdata Sink.ended Sink.is_sound Sink.number Sink.has_failed self.old self.new c result }
+    {
+        if ends_name(c) {
+            self.state = State::AfterAttributeName;
+            return self.after_attribute_name_state(c);
+        }
+        self.attribute_name.push(lowered(c))?;
+        Ok(ProcessResult::Continue)
+    }
+
+    /// Behind an attribute's name.
+    pub(crate) fn after_attribute_name_state(
+        &mut self,
+        c: char,
+    ) -> Result<ProcessResult<Sink::Handle>, ParseFault>
+        requires at { IsAt self.old state.AfterAttributeName }
+        requires sound { Sink.is_sound (Sink.view self.old.sink) }
+        ensures { Keeps Sink.step Sink.view Sink.asks_cdata Sink.ended Sink.is_sound Sink.number Sink.has_failed self.old self.new c result }
+    {
+        if is_white_space(c) {
+            return Ok(ProcessResult::Continue);
+        }
+        if c == '=' {
+            self.state = State::BeforeAttributeValue;
+            return Ok(ProcessResult::Continue);
+        }
+        self.finish_without_value()?;
+        self.state = State::BeforeAttributeName;
+        self.before_attribute_name_state(c)
+    }
+
+    /// Before an attribute's value.
+    pub(crate) fn before_attribute_value_state(
+        &mut self,
+        c: char,
+    ) -> Result<ProcessResult<Sink::Handle>, ParseFault>
+        requires at { IsAt self.old state.BeforeAttributeValue }
+        requires sound { Sink.is_sound (Sink.view self.old.sink) }
+        ensures { Keeps Sink.step Sink.view Sink.asks_cdata Sink.ended Sink.is_sound Sink.number Sink.has_failed self.old self.new c result }
+    {
+        self.tell_if(c == '>', "missing attribute value")?;
+        self.take_before_value(c)
+    }
+
+    /// The same, where an error of the character was told.
+    fn take_before_value(&mut self, c: char) -> Result<ProcessResult<Sink::Handle>, ParseFault>
+        requires at { IsAt self.old state.BeforeAttributeValue }
+        requires sound { Sink.is_sound (Sink.view self.old.sink) }
+        ensures { Keeps Sink.step Sink.view Sink.asks_cdata Sink.ended Sink.is_sound Sink.number Sink.has_failed self.old self.new c result }
+    {
+        if is_white_space(c) {
+            return Ok(ProcessResult::Continue);
+        }
+        if c == '>' {
+            self.finish_without_value()?;
+            self.state = State::BeforeAttributeName;
+            return self.before_attribute_name_state(c);
+        }
+        self.attribute_value = empty(self.stream.alloc);
+        if c == '"' {
+            self.state = State::AttributeValue(AttrValueKind::DoubleQuoted);
+            return Ok(ProcessResult::Continue);
+        }
+        if c == '\'' {
+            self.state = State::AttributeValue(AttrValueKind::SingleQuoted);
+            return Ok(ProcessResult::Continue);
+        }
+        self.state = State::AttributeValue(AttrValueKind::Unquoted);
+        self.unquoted_value_state(c)
+    }
+
+    /// In an attribute's value.
+    pub(crate) fn attribute_value_state(
+        &mut self,
+        kind: AttrValueKind,
+        c: char,
+    ) -> Result<ProcessResult<Sink::Handle>, ParseFault>
+        requires at { IsAt self.old (state.AttributeValue kind) }
+        requires sound { Sink.is_sound (Sink.view self.old.sink) }
+        ensures { Keeps Sink.step Sink.view Sink.asks_cdata Sink.ended Sink.is_sound Sink.number Sink.has_failed self.old self.new c result }
+    {
+        match kind {
+            AttrValueKind::Unquoted => self.unquoted_value_state(c),
+            AttrValueKind::SingleQuoted => self.quoted_value_state(kind, '\'', c),
+            AttrValueKind::DoubleQuoted => self.quoted_value_state(kind, '"', c),
+        }
+    }
+
+    /// In a value without quotes.
+    fn unquoted_value_state(&mut self, c: char) -> Result<ProcessResult<Sink::Handle>, ParseFault>
+        requires at { IsAt self.old (state.AttributeValue value.Unquoted) }
+        requires sound { Sink.is_sound (Sink.view self.old.sink) }
+        ensures { Keeps Sink.step Sink.view Sink.asks_cdata Sink.ended Sink.is_sound Sink.number Sink.has_failed self.old self.new c result }
+    {
+        self.tell_fault(unquoted_fault(c))?;
+        self.take_in_unquoted_value(c)
+    }
+
+    /// The same, where an error of the character was told.
+    fn take_in_unquoted_value(&mut self, c: char) -> Result<ProcessResult<Sink::Handle>, ParseFault>
+        requires at { IsAt self.old (state.AttributeValue value.Unquoted) }
+        requires sound { Sink.is_sound (Sink.view self.old.sink) }
+        ensures { Keeps Sink.step Sink.view Sink.asks_cdata Sink.ended Sink.is_sound Sink.number Sink.has_failed self.old self.new c result }
+    {
+        if ends_word(c) {
+            self.finish_attribute()?;
+            self.state = State::BeforeAttributeName;
+            return self.before_attribute_name_state(c);
+        }
+        if c == '&' {
+            self.char_ref = Some(HeldReference::new(self.stream.alloc));
+            return Ok(ProcessResult::Continue);
+        }
+        self.attribute_value.push(shown(c))?;
+        Ok(ProcessResult::Continue)
+    }
+
+    /// In a value in quotes.
+    fn quoted_value_state(
+        &mut self,
+        kind: AttrValueKind,
+        quote: char,
+        c: char,
+    ) -> Result<ProcessResult<Sink::Handle>, ParseFault>
+        requires at { IsAt self.old (state.AttributeValue kind) }
+        requires quote { quote_of kind ≡ Some quote }
+        requires sound { Sink.is_sound (Sink.view self.old.sink) }
+        ensures { Keeps Sink.step Sink.view Sink.asks_cdata Sink.ended Sink.is_sound Sink.number Sink.has_failed self.old self.new c result }
+    {
+        self.tell_null(c)?;
+        self.take_in_quoted_value(kind, quote, c)
+    }
+
+    /// The same, where an error of the character was told.
+    fn take_in_quoted_value(
+        &mut self,
+        kind: AttrValueKind,
+        quote: char,
+        c: char,
+    ) -> Result<ProcessResult<Sink::Handle>, ParseFault>
+        requires at { IsAt self.old (state.AttributeValue kind) }
+        requires quote { quote_of kind ≡ Some quote }
+        requires sound { Sink.is_sound (Sink.view self.old.sink) }
+        ensures { Keeps Sink.step Sink.view Sink.asks_cdata Sink.ended Sink.is_sound Sink.number Sink.has_failed self.old self.new c result }
+    {
+        if c == quote {
+            self.finish_attribute()?;
+            self.state = State::AfterAttributeValueQuoted;
+            return Ok(ProcessResult::Continue);
+        }
+        if c == '&' {
+            self.char_ref = Some(HeldReference::new(self.stream.alloc));
+            return Ok(ProcessResult::Continue);
+        }
+        self.attribute_value.push(shown(c))?;
+        Ok(ProcessResult::Continue)
+    }
+
+    /// Behind an attribute's value in quotes.
+    pub(crate) fn after_attribute_value_quoted_state(
+        &mut self,
+        c: char,
+    ) -> Result<ProcessResult<Sink::Handle>, ParseFault>
+        requires at { IsAt self.old state.AfterAttributeValueQuoted }
+        requires sound { Sink.is_sound (Sink.view self.old.sink) }
+        ensures { Keeps Sink.step Sink.view Sink.asks_cdata Sink.ended Sink.is_sound Sink.number Sink.has_failed self.old self.new c result }
+    {
+        self.tell_if(!ends_tag_name(c), "missing whitespace between attributes")?;
+        self.take_behind_value(c)
+    }
+
+    /// The same, where an error of the character was told.
+    fn take_behind_value(&mut self, c: char) -> Result<ProcessResult<Sink::Handle>, ParseFault>
+        requires at { IsAt self.old state.AfterAttributeValueQuoted }
+        requires sound { Sink.is_sound (Sink.view self.old.sink) }
+        ensures { Keeps Sink.step Sink.view Sink.asks_cdata Sink.ended Sink.is_sound Sink.number Sink.has_failed self.old self.new c result }
+    {
+        self.state = State::BeforeAttributeName;
+        self.before_attribute_name_state(c)
+    }
+}

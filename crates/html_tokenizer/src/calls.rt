@@ -1,0 +1,175 @@
+//! The calls of a tokenizer.
+ghost use Rattle.std.specs.Prelude.{◌≡◌, true, IfSome, Some, None};
+ghost use Rattle.html_tokens.specs.TextState.{is_text_state};
+ghost use Rattle.html_tokens.specs.Item.{InPlaintext};
+ghost use Rattle.html_tokens.specs.Reading.{first_place};
+ghost use Rattle.html_tokens.specs.declared.states.State.TheVariants as state;
+ghost use Rattle.html_tokenizer.specs.Calls.{refusal, refusal_of, has_ended, text_place, is_nothing_pending, IsReadyIf, IsNew, ReadsAt, FeedGives, EndGives, TellsEnd, Refuses};
+
+use crate::doctype_states::no_doctype;
+use crate::keyword::Keyword;
+use crate::letters::Letters;
+use crate::tag_states::nameless;
+use crate::tell::empty;
+use crate::tokenizer::{Stream, Tokenizer};
+use html_queue::BufferQueue;
+use html_references::References;
+use html_tokens::sink::TokenSink;
+use html_tokens::states::State;
+use html_tokens::{Token, TokenizerOpts};
+use markup::{ParseFault, TokenizerResult};
+use std::alloc::Global;
+
+/// The state in which reading begins.
+fn first_state(initial_state: Option<State>) -> State
+    requires text { IfSome initial_state (λ st. is_text_state st ≡ true) }
+    ensures place { first_place initial_state ≡ first_place (Some result) }
+    ensures text { is_text_state result ≡ true }
+{
+    match initial_state {
+        Some(state) => state,
+        None => State::Data,
+    }
+}
+
+impl Stream {
+    /// Refuses where a fault or the end of the input stands before.
+    fn refuses(&self) -> Result<(), ParseFault>
+        ensures { Refuses (refusal self.now) result }
+    {
+        if self.has_failed {
+            return Err(ParseFault::Failed);
+        }
+        if self.has_ended {
+            return Err(ParseFault::Ended);
+        }
+        Ok(())
+    }
+}
+
+impl<Sink: TokenSink> Tokenizer<Sink> {
+    /// A tokenizer at the front of its input, over this sink and with this table of references (HTML Standard, section
+    /// 13.2.5). It takes no memory.
+    ///
+    /// A context element of fragment parsing chooses `opts.initial_state`; `opts.last_start_tag_name` is then what ends
+    /// raw text.
+    pub fn new(alloc: Global, sink: Sink, opts: TokenizerOpts, table: References) -> Tokenizer<Sink>
+        requires text { IfSome opts.initial_state (λ st. is_text_state st ≡ true) }
+        requires sound { Sink.is_sound (Sink.view sink) }
+        ensures reads { IsNew Sink.step Sink.view Sink.asks_cdata Sink.ended Sink.is_sound Sink.number Sink.has_failed result sink opts table }
+        ensures ready { IsReadyIf Sink.step Sink.view Sink.asks_cdata Sink.ended Sink.is_sound Sink.number Sink.has_failed (refusal_of result) result }
+    {
+        Tokenizer {
+            sink,
+            stream: Stream {
+                alloc,
+                table,
+                exact_errors: opts.exact_errors,
+                discard_bom: opts.discard_bom,
+                ignore_lf: false,
+                breaks: 0,
+                has_ended: false,
+                has_failed: false,
+            },
+            state: first_state(opts.initial_state),
+            char_ref: None,
+            last_start_tag: opts.last_start_tag_name,
+            tag: nameless(alloc),
+            attribute_name: empty(alloc),
+            attribute_value: empty(alloc),
+            comment: empty(alloc),
+            doctype: no_doctype(),
+            temporary: empty(alloc),
+            word: Letters::new(alloc),
+            keyword: Keyword::new(alloc),
+        }
+    }
+
+    /// Takes the characters of the input, and tells the sink what they say, up to the end of the input or a pause: an
+    /// end tag of a script, or a `meta` element that names an encoding. Behind a pause a later call goes on; text may be
+    /// put at the input's front meanwhile, as `document.write` does.
+    ///
+    /// What the input does not yet decide is held: a tag, a comment, a doctype or a reference that may go on. Errors:
+    /// what the sink refuses is passed on, and `Memory`; from then on every call answers `Failed`, as it does where the
+    /// sink had failed. `Ended` once the end was told, which changes nothing.
+    pub fn feed(
+        &mut self,
+        input: &mut BufferQueue,
+    ) -> Result<TokenizerResult<Sink::Handle>, ParseFault>
+        requires ready { IsReadyIf Sink.step Sink.view Sink.asks_cdata Sink.ended Sink.is_sound Sink.number Sink.has_failed (refusal_of self.old) self.old }
+        ensures gives { FeedGives Sink.step Sink.view Sink.asks_cdata Sink.ended Sink.is_sound Sink.number Sink.has_failed (refusal_of self.old) self.old self.new input.old input.new result }
+        ensures ready { IsReadyIf Sink.step Sink.view Sink.asks_cdata Sink.ended Sink.is_sound Sink.number Sink.has_failed (refusal_of self.new) self.new }
+    {
+        self.stream.refuses()?;
+        match self.run(input) {
+            Ok(result) => Ok(result),
+            Err(fault) => {
+                self.stream.has_failed = true;
+                Err(fault)
+            }
+        }
+    }
+
+    /// Hands out what is held, and then the end of the input.
+    fn tell_end(&mut self) -> Result<(), ParseFault>
+        requires ready { IsReadyIf Sink.step Sink.view Sink.asks_cdata Sink.ended Sink.is_sound Sink.number Sink.has_failed None self.old }
+        ensures { TellsEnd Sink.step Sink.view Sink.asks_cdata Sink.ended Sink.is_sound Sink.number Sink.has_failed self.old self.new result }
+    {
+        self.tell_held()?;
+        self.tell(Token::EOFToken)
+    }
+
+    /// Ends the input: tells what is held, then `EOFToken`, then the sink's `end`.
+    ///
+    /// Errors: what the sink refuses is passed on, and `Memory`; from then on every call answers `Failed`. `Ended` once
+    /// the end was told, which changes nothing.
+    pub fn end(&mut self) -> Result<(), ParseFault>
+        requires ready { IsReadyIf Sink.step Sink.view Sink.asks_cdata Sink.ended Sink.is_sound Sink.number Sink.has_failed (refusal_of self.old) self.old }
+        ensures gives { EndGives Sink.step Sink.view Sink.asks_cdata Sink.ended Sink.is_sound Sink.number Sink.has_failed (refusal_of self.old) self.old self.new result }
+        ensures ready { IsReadyIf Sink.step Sink.view Sink.asks_cdata Sink.ended Sink.is_sound Sink.number Sink.has_failed (refusal_of self.new) self.new }
+    {
+        self.stream.refuses()?;
+        match self.tell_end() {
+            Ok(()) => {
+                self.stream.has_ended = true;
+                self.sink.end();
+                Ok(())
+            }
+            Err(fault) => {
+                self.stream.has_failed = true;
+                Err(fault)
+            }
+        }
+    }
+
+    /// Whether the end of the input was told.
+    pub fn has_ended(&self) -> bool
+        ensures { result ≡ has_ended self.now }
+    {
+        self.stream.has_ended
+    }
+
+    /// Whether the tokenizer stands in text, holds no part of an item (HTML Standard, section 13.2.5), and neither ended
+    /// nor failed. Then what comes is read from its front.
+    pub fn nothing_pending(&self) -> bool
+        ensures is { result ≡ is_nothing_pending self.now }
+        ensures reads { result ≡ true → ReadsAt Sink.step Sink.view Sink.asks_cdata Sink.ended Sink.is_sound Sink.number Sink.has_failed (text_place self.now) self.now }
+    {
+        if self.stream.has_ended || self.stream.has_failed {
+            return false;
+        }
+        if self.char_ref.is_some() {
+            return false;
+        }
+        self.state.is_text_state()
+    }
+
+    /// Has all that follows read as text (HTML Standard, section 13.2.5.5).
+    pub fn set_plaintext_state(&mut self)
+        requires nothing_pending { is_nothing_pending self.old ≡ true }
+        ensures changed { self.new ≡ record self.old { state = state.Plaintext } }
+        ensures reads { ReadsAt Sink.step Sink.view Sink.asks_cdata Sink.ended Sink.is_sound Sink.number Sink.has_failed InPlaintext self.new }
+    {
+        self.state = State::Plaintext;
+    }
+}

@@ -1,0 +1,201 @@
+//! Comments (HTML Standard, sections 13.2.5.41 and 13.2.5.43 to 13.2.5.52).
+ghost use Rattle.std.specs.Prelude.{◌≡◌, []};
+ghost use Rattle.html_tokens.specs.declared.states.State.TheVariants as state;
+ghost use Rattle.html_tokens.specs.declared.token.Token.TheVariants.{CommentToken};
+ghost use Rattle.html_tokenizer.specs.Steps.{IsAt, Tells, Keeps};
+
+use crate::characters::shown;
+use crate::tell::empty;
+use crate::tokenizer::Tokenizer;
+use html_tokens::sink::TokenSink;
+use html_tokens::states::State;
+use html_tokens::{ProcessResult, Token};
+use markup::ParseFault;
+use std::mem;
+
+impl<Sink: TokenSink> Tokenizer<Sink> {
+    /// Hands out the comment. What follows is data.
+    fn emit_comment(&mut self) -> Result<(), ParseFault>
+        requires sound { Sink.is_sound (Sink.view self.old.sink) }
+        ensures { Tells Sink.step Sink.view Sink.asks_cdata Sink.ended Sink.is_sound Sink.number Sink.has_failed (CommentToken self.old.comment) (record self.old { comment = []; state = state.Data }) self.new result }
+    {
+        let comment = mem::replace(&mut self.comment, empty(self.stream.alloc));
+        self.state = State::Data;
+        self.tell(Token::CommentToken(comment))
+    }
+
+    /// Hands out a comment that is a parse error. What follows is data.
+    pub(crate) fn emit_faulty_comment(&mut self, message: &'static str) -> Result<(), ParseFault>
+        requires sound { Sink.is_sound (Sink.view self.old.sink) }
+        ensures { Tells Sink.step Sink.view Sink.asks_cdata Sink.ended Sink.is_sound Sink.number Sink.has_failed (CommentToken self.old.comment) (record self.old { comment = []; state = state.Data }) self.new result }
+    {
+        let comment = mem::replace(&mut self.comment, empty(self.stream.alloc));
+        self.state = State::Data;
+        self.tell_faulty(message, Token::CommentToken(comment))
+    }
+
+    pub(crate) fn bogus_comment_state(
+        &mut self,
+        c: char,
+    ) -> Result<ProcessResult<Sink::Handle>, ParseFault>
+        requires at { IsAt self.old state.BogusComment }
+        requires sound { Sink.is_sound (Sink.view self.old.sink) }
+        ensures { Keeps Sink.step Sink.view Sink.asks_cdata Sink.ended Sink.is_sound Sink.number Sink.has_failed self.old self.new c result }
+    {
+        self.tell_null(c)?;
+        self.take_in_bogus_comment(c)
+    }
+
+    /// The same, where an error of the character was told.
+    fn take_in_bogus_comment(&mut self, c: char) -> Result<ProcessResult<Sink::Handle>, ParseFault>
+        requires at { IsAt self.old state.BogusComment }
+        requires sound { Sink.is_sound (Sink.view self.old.sink) }
+        ensures { Keeps Sink.step Sink.view Sink.asks_cdata Sink.ended Sink.is_sound Sink.number Sink.has_failed self.old self.new c result }
+    {
+        if c == '>' {
+            self.emit_faulty_comment("bogus comment")?;
+            return Ok(ProcessResult::Continue);
+        }
+        self.comment.push(shown(c))?;
+        Ok(ProcessResult::Continue)
+    }
+
+    pub(crate) fn comment_start_state(
+        &mut self,
+        c: char,
+    ) -> Result<ProcessResult<Sink::Handle>, ParseFault>
+        requires at { IsAt self.old state.CommentStart }
+        requires sound { Sink.is_sound (Sink.view self.old.sink) }
+        ensures { Keeps Sink.step Sink.view Sink.asks_cdata Sink.ended Sink.is_sound Sink.number Sink.has_failed self.old self.new c result }
+    {
+        if c == '-' {
+            self.state = State::CommentStartDash;
+            return Ok(ProcessResult::Continue);
+        }
+        self.comment = empty(self.stream.alloc);
+        if c == '>' {
+            self.emit_faulty_comment("empty comment")?;
+            return Ok(ProcessResult::Continue);
+        }
+        self.state = State::Comment;
+        self.comment_state(c)
+    }
+
+    pub(crate) fn comment_start_dash_state(
+        &mut self,
+        c: char,
+    ) -> Result<ProcessResult<Sink::Handle>, ParseFault>
+        requires at { IsAt self.old state.CommentStartDash }
+        requires sound { Sink.is_sound (Sink.view self.old.sink) }
+        ensures { Keeps Sink.step Sink.view Sink.asks_cdata Sink.ended Sink.is_sound Sink.number Sink.has_failed self.old self.new c result }
+    {
+        self.comment = empty(self.stream.alloc);
+        if c == '-' {
+            self.state = State::CommentEnd;
+            return Ok(ProcessResult::Continue);
+        }
+        if c == '>' {
+            self.emit_faulty_comment("empty comment")?;
+            return Ok(ProcessResult::Continue);
+        }
+        self.comment.push('-')?;
+        self.state = State::Comment;
+        self.comment_state(c)
+    }
+
+    pub(crate) fn comment_state(
+        &mut self,
+        c: char,
+    ) -> Result<ProcessResult<Sink::Handle>, ParseFault>
+        requires at { IsAt self.old state.Comment }
+        requires sound { Sink.is_sound (Sink.view self.old.sink) }
+        ensures { Keeps Sink.step Sink.view Sink.asks_cdata Sink.ended Sink.is_sound Sink.number Sink.has_failed self.old self.new c result }
+    {
+        self.tell_null(c)?;
+        self.take_in_comment(c)
+    }
+
+    /// The same, where an error of the character was told.
+    fn take_in_comment(&mut self, c: char) -> Result<ProcessResult<Sink::Handle>, ParseFault>
+        requires at { IsAt self.old state.Comment }
+        requires sound { Sink.is_sound (Sink.view self.old.sink) }
+        ensures { Keeps Sink.step Sink.view Sink.asks_cdata Sink.ended Sink.is_sound Sink.number Sink.has_failed self.old self.new c result }
+    {
+        if c == '-' {
+            self.state = State::CommentEndDash;
+            return Ok(ProcessResult::Continue);
+        }
+        self.comment.push(shown(c))?;
+        Ok(ProcessResult::Continue)
+    }
+
+    pub(crate) fn comment_end_dash_state(
+        &mut self,
+        c: char,
+    ) -> Result<ProcessResult<Sink::Handle>, ParseFault>
+        requires at { IsAt self.old state.CommentEndDash }
+        requires sound { Sink.is_sound (Sink.view self.old.sink) }
+        ensures { Keeps Sink.step Sink.view Sink.asks_cdata Sink.ended Sink.is_sound Sink.number Sink.has_failed self.old self.new c result }
+    {
+        if c == '-' {
+            self.state = State::CommentEnd;
+            return Ok(ProcessResult::Continue);
+        }
+        self.comment.push('-')?;
+        self.state = State::Comment;
+        self.comment_state(c)
+    }
+
+    pub(crate) fn comment_end_state(
+        &mut self,
+        c: char,
+    ) -> Result<ProcessResult<Sink::Handle>, ParseFault>
+        requires at { IsAt self.old state.CommentEnd }
+        requires sound { Sink.is_sound (Sink.view self.old.sink) }
+        ensures { Keeps Sink.step Sink.view Sink.asks_cdata Sink.ended Sink.is_sound Sink.number Sink.has_failed self.old self.new c result }
+    {
+        let is_nested = c != '>' && self.comment.as_str().as_bytes().ends_with(b"<!");
+        self.tell_if(is_nested, "nested comment")?;
+        self.take_behind_dashes(c)
+    }
+
+    /// The same, where an error of the character was told.
+    fn take_behind_dashes(&mut self, c: char) -> Result<ProcessResult<Sink::Handle>, ParseFault>
+        requires at { IsAt self.old state.CommentEnd }
+        requires sound { Sink.is_sound (Sink.view self.old.sink) }
+        ensures { Keeps Sink.step Sink.view Sink.asks_cdata Sink.ended Sink.is_sound Sink.number Sink.has_failed self.old self.new c result }
+    {
+        if c == '>' {
+            self.emit_comment()?;
+            return Ok(ProcessResult::Continue);
+        }
+        if c == '!' {
+            self.state = State::CommentEndBang;
+            return Ok(ProcessResult::Continue);
+        }
+        if c == '-' {
+            self.comment.push('-')?;
+            return Ok(ProcessResult::Continue);
+        }
+        self.comment.push_str("--")?;
+        self.state = State::Comment;
+        self.comment_state(c)
+    }
+
+    pub(crate) fn comment_end_bang_state(
+        &mut self,
+        c: char,
+    ) -> Result<ProcessResult<Sink::Handle>, ParseFault>
+        requires at { IsAt self.old state.CommentEndBang }
+        requires sound { Sink.is_sound (Sink.view self.old.sink) }
+        ensures { Keeps Sink.step Sink.view Sink.asks_cdata Sink.ended Sink.is_sound Sink.number Sink.has_failed self.old self.new c result }
+    {
+        if c == '>' {
+            self.emit_faulty_comment("incorrectly closed comment")?;
+            return Ok(ProcessResult::Continue);
+        }
+        self.comment.push_str("--!")?;
+        self.state = State::Comment;
+        self.comment_state(c)
+    }
+}

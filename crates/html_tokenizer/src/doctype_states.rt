@@ -1,0 +1,404 @@
+//! Doctypes, but for their keywords (HTML Standard, sections 13.2.5.53 to 13.2.5.55 and 13.2.5.57 to 13.2.5.68).
+ghost use Rattle.std.specs.Prelude.{◌≡◌, [], Some};
+ghost use Rattle.html_tokens.specs.declared.states.State.TheVariants as state;
+ghost use Rattle.html_tokens.specs.declared.states.DoctypeIdKind.TheVariants as id;
+ghost use Rattle.html_tokens.specs.declared.token.Token.TheVariants.{DoctypeToken};
+ghost use Rattle.html_tokens.specs.Doctypes;
+ghost use Rattle.html_tokenizer.specs.Rest.{with_identifier};
+ghost use Rattle.html_tokenizer.specs.Steps.{IsAt, Tells, Keeps};
+
+use crate::characters::{ends_word, is_white_space, lowered, shown};
+use crate::keyword::Keyword;
+use crate::tell::empty;
+use crate::tokenizer::Tokenizer;
+use html_tokens::sink::TokenSink;
+use html_tokens::states::{DoctypeIdKind, State};
+use html_tokens::{Doctype, ProcessResult, Token};
+use markup::ParseFault;
+use std::mem;
+
+/// A doctype of which nothing was read.
+pub(crate) fn no_doctype() -> Doctype
+    ensures { result ≡ Doctypes.no_doctype }
+{
+    Doctype {
+        name: None,
+        public_id: None,
+        system_id: None,
+        force_quirks: false,
+    }
+}
+
+/// The error of a character behind a keyword, if it is one: a quote.
+fn keyword_fault(kind: DoctypeIdKind, c: char) -> Option<&'static str> {
+    if c != '"' && c != '\'' {
+        return None;
+    }
+    match kind {
+        DoctypeIdKind::Public => Some("missing whitespace after doctype public keyword"),
+        DoctypeIdKind::System => Some("missing whitespace after doctype system keyword"),
+    }
+}
+
+/// The error of a character behind an identifier, if it is one.
+fn identifier_fault(kind: DoctypeIdKind, c: char) -> Option<&'static str> {
+    match kind {
+        DoctypeIdKind::Public => {
+            if c != '"' && c != '\'' {
+                return None;
+            }
+            Some("missing whitespace between doctype public and system identifiers")
+        }
+        DoctypeIdKind::System => {
+            if ends_word(c) {
+                return None;
+            }
+            Some("unexpected character after doctype system identifier")
+        }
+    }
+}
+
+impl<Sink: TokenSink> Tokenizer<Sink> {
+    /// Hands out the doctype. What follows is data.
+    pub(crate) fn emit_doctype(&mut self) -> Result<(), ParseFault>
+        requires sound { Sink.is_sound (Sink.view self.old.sink) }
+        ensures { Tells Sink.step Sink.view Sink.asks_cdata Sink.ended Sink.is_sound Sink.number Sink.has_failed (DoctypeToken self.old.doctype) (record self.old { doctype = Doctypes.no_doctype; state = state.Data }) self.new result }
+    {
+        let doctype = mem::replace(&mut self.doctype, no_doctype());
+        self.state = State::Data;
+        if doctype.force_quirks {
+            self.tell_faulty("faulty doctype", Token::DoctypeToken(doctype))
+        } else {
+            self.tell(Token::DoctypeToken(doctype))
+        }
+    }
+
+    pub(crate) fn doctype_state(
+        &mut self,
+        c: char,
+    ) -> Result<ProcessResult<Sink::Handle>, ParseFault>
+        requires at { IsAt self.old state.Doctype }
+        requires sound { Sink.is_sound (Sink.view self.old.sink) }
+        ensures { Keeps Sink.step Sink.view Sink.asks_cdata Sink.ended Sink.is_sound Sink.number Sink.has_failed self.old self.new c result }
+    {
+        self.tell_if(!ends_word(c), "missing whitespace before doctype name")?;
+        self.take_behind_doctype(c)
+    }
+
+    /// The same, where an error of the character was told.
+    fn take_behind_doctype(&mut self, c: char) -> Result<ProcessResult<Sink::Handle>, ParseFault>
+        requires at { IsAt self.old state.Doctype }
+        requires sound { Sink.is_sound (Sink.view self.old.sink) }
+        ensures { Keeps Sink.step Sink.view Sink.asks_cdata Sink.ended Sink.is_sound Sink.number Sink.has_failed self.old self.new c result }
+    {
+        self.state = State::BeforeDoctypeName;
+        self.before_doctype_name_state(c)
+    }
+
+    pub(crate) fn before_doctype_name_state(
+        &mut self,
+        c: char,
+    ) -> Result<ProcessResult<Sink::Handle>, ParseFault>
+        requires at { IsAt self.old state.BeforeDoctypeName }
+        requires sound { Sink.is_sound (Sink.view self.old.sink) }
+        ensures { Keeps Sink.step Sink.view Sink.asks_cdata Sink.ended Sink.is_sound Sink.number Sink.has_failed self.old self.new c result }
+    {
+        if is_white_space(c) {
+            return Ok(ProcessResult::Continue);
+        }
+        self.doctype = no_doctype();
+        if c == '>' {
+            self.doctype.force_quirks = true;
+            self.emit_doctype()?;
+            return Ok(ProcessResult::Continue);
+        }
+        self.temporary = empty(self.stream.alloc);
+        self.state = State::DoctypeName;
+        self.doctype_name_state(c)
+    }
+
+    /// Takes over the name that was read.
+    pub(crate) fn finish_name(&mut self)
+        ensures { self.new ≡ record self.old { doctype = record Doctypes.no_doctype { name = Some self.old.temporary }; temporary = [] } }
+    {
+        self.doctype = no_doctype();
+        let name = mem::replace(&mut self.temporary, empty(self.stream.alloc));
+        self.doctype.name = Some(name);
+    }
+
+    pub(crate) fn doctype_name_state(
+        &mut self,
+        c: char,
+    ) -> Result<ProcessResult<Sink::Handle>, ParseFault>
+        requires at { IsAt self.old state.DoctypeName }
+        requires sound { Sink.is_sound (Sink.view self.old.sink) }
+        ensures { Keeps Sink.step Sink.view Sink.asks_cdata Sink.ended Sink.is_sound Sink.number Sink.has_failed self.old self.new c result }
+    {
+        self.tell_null(c)?;
+        self.take_in_doctype_name(c)
+    }
+
+    /// The same, where an error of the character was told.
+    fn take_in_doctype_name(&mut self, c: char) -> Result<ProcessResult<Sink::Handle>, ParseFault>
+        requires at { IsAt self.old state.DoctypeName }
+        requires sound { Sink.is_sound (Sink.view self.old.sink) }
+        ensures { Keeps Sink.step Sink.view Sink.asks_cdata Sink.ended Sink.is_sound Sink.number Sink.has_failed self.old self.new c result }
+    {
+        if is_white_space(c) {
+            self.finish_name();
+            self.keyword = Keyword::new(self.stream.alloc);
+            self.state = State::AfterDoctypeName;
+            return Ok(ProcessResult::Continue);
+        }
+        if c == '>' {
+            self.finish_name();
+            self.emit_doctype()?;
+            return Ok(ProcessResult::Continue);
+        }
+        self.temporary.push(lowered(c))?;
+        Ok(ProcessResult::Continue)
+    }
+
+    pub(crate) fn after_doctype_keyword_state(
+        &mut self,
+        kind: DoctypeIdKind,
+        c: char,
+    ) -> Result<ProcessResult<Sink::Handle>, ParseFault>
+        requires at { IsAt self.old (state.AfterDoctypeKeyword kind) }
+        requires sound { Sink.is_sound (Sink.view self.old.sink) }
+        ensures { Keeps Sink.step Sink.view Sink.asks_cdata Sink.ended Sink.is_sound Sink.number Sink.has_failed self.old self.new c result }
+    {
+        self.tell_fault(keyword_fault(kind, c))?;
+        self.take_behind_keyword(kind, c)
+    }
+
+    /// The same, where an error of the character was told.
+    fn take_behind_keyword(
+        &mut self,
+        kind: DoctypeIdKind,
+        c: char,
+    ) -> Result<ProcessResult<Sink::Handle>, ParseFault>
+        requires at { IsAt self.old (state.AfterDoctypeKeyword kind) }
+        requires sound { Sink.is_sound (Sink.view self.old.sink) }
+        ensures { Keeps Sink.step Sink.view Sink.asks_cdata Sink.ended Sink.is_sound Sink.number Sink.has_failed self.old self.new c result }
+    {
+        self.state = State::BeforeDoctypeIdentifier(kind);
+        self.before_doctype_identifier_state(kind, c)
+    }
+
+    pub(crate) fn before_doctype_identifier_state(
+        &mut self,
+        kind: DoctypeIdKind,
+        c: char,
+    ) -> Result<ProcessResult<Sink::Handle>, ParseFault>
+        requires at { IsAt self.old (state.BeforeDoctypeIdentifier kind) }
+        requires sound { Sink.is_sound (Sink.view self.old.sink) }
+        ensures { Keeps Sink.step Sink.view Sink.asks_cdata Sink.ended Sink.is_sound Sink.number Sink.has_failed self.old self.new c result }
+    {
+        if is_white_space(c) {
+            return Ok(ProcessResult::Continue);
+        }
+        if c == '"' {
+            self.temporary = empty(self.stream.alloc);
+            self.state = State::DoctypeIdentifierDoubleQuoted(kind);
+            return Ok(ProcessResult::Continue);
+        }
+        if c == '\'' {
+            self.temporary = empty(self.stream.alloc);
+            self.state = State::DoctypeIdentifierSingleQuoted(kind);
+            return Ok(ProcessResult::Continue);
+        }
+        self.doctype.force_quirks = true;
+        self.state = State::BogusDoctype;
+        self.bogus_doctype_state(c)
+    }
+
+    /// Takes over the identifier that was read.
+    pub(crate) fn finish_identifier(&mut self, kind: DoctypeIdKind)
+        ensures { self.new ≡ record self.old { doctype = with_identifier kind self.old.doctype self.old.temporary; temporary = [] } }
+    {
+        let identifier = mem::replace(&mut self.temporary, empty(self.stream.alloc));
+        match kind {
+            DoctypeIdKind::Public => self.doctype.public_id = Some(identifier),
+            DoctypeIdKind::System => self.doctype.system_id = Some(identifier),
+        }
+    }
+
+    pub(crate) fn doctype_identifier_double_quoted_state(
+        &mut self,
+        kind: DoctypeIdKind,
+        c: char,
+    ) -> Result<ProcessResult<Sink::Handle>, ParseFault>
+        requires at { IsAt self.old (state.DoctypeIdentifierDoubleQuoted kind) }
+        requires sound { Sink.is_sound (Sink.view self.old.sink) }
+        ensures { Keeps Sink.step Sink.view Sink.asks_cdata Sink.ended Sink.is_sound Sink.number Sink.has_failed self.old self.new c result }
+    {
+        self.tell_null(c)?;
+        self.take_in_double_quoted(kind, c)
+    }
+
+    /// The same, where an error of the character was told.
+    fn take_in_double_quoted(
+        &mut self,
+        kind: DoctypeIdKind,
+        c: char,
+    ) -> Result<ProcessResult<Sink::Handle>, ParseFault>
+        requires at { IsAt self.old (state.DoctypeIdentifierDoubleQuoted kind) }
+        requires sound { Sink.is_sound (Sink.view self.old.sink) }
+        ensures { Keeps Sink.step Sink.view Sink.asks_cdata Sink.ended Sink.is_sound Sink.number Sink.has_failed self.old self.new c result }
+    {
+        if c == '"' {
+            self.finish_identifier(kind);
+            self.state = State::AfterDoctypeIdentifier(kind);
+            return Ok(ProcessResult::Continue);
+        }
+        if c == '>' {
+            self.finish_identifier(kind);
+            self.doctype.force_quirks = true;
+            self.emit_doctype()?;
+            return Ok(ProcessResult::Continue);
+        }
+        self.temporary.push(shown(c))?;
+        Ok(ProcessResult::Continue)
+    }
+
+    pub(crate) fn doctype_identifier_single_quoted_state(
+        &mut self,
+        kind: DoctypeIdKind,
+        c: char,
+    ) -> Result<ProcessResult<Sink::Handle>, ParseFault>
+        requires at { IsAt self.old (state.DoctypeIdentifierSingleQuoted kind) }
+        requires sound { Sink.is_sound (Sink.view self.old.sink) }
+        ensures { Keeps Sink.step Sink.view Sink.asks_cdata Sink.ended Sink.is_sound Sink.number Sink.has_failed self.old self.new c result }
+    {
+        self.tell_null(c)?;
+        self.take_in_single_quoted(kind, c)
+    }
+
+    /// The same, where an error of the character was told.
+    fn take_in_single_quoted(
+        &mut self,
+        kind: DoctypeIdKind,
+        c: char,
+    ) -> Result<ProcessResult<Sink::Handle>, ParseFault>
+        requires at { IsAt self.old (state.DoctypeIdentifierSingleQuoted kind) }
+        requires sound { Sink.is_sound (Sink.view self.old.sink) }
+        ensures { Keeps Sink.step Sink.view Sink.asks_cdata Sink.ended Sink.is_sound Sink.number Sink.has_failed self.old self.new c result }
+    {
+        if c == '\'' {
+            self.finish_identifier(kind);
+            self.state = State::AfterDoctypeIdentifier(kind);
+            return Ok(ProcessResult::Continue);
+        }
+        if c == '>' {
+            self.finish_identifier(kind);
+            self.doctype.force_quirks = true;
+            self.emit_doctype()?;
+            return Ok(ProcessResult::Continue);
+        }
+        self.temporary.push(shown(c))?;
+        Ok(ProcessResult::Continue)
+    }
+
+    pub(crate) fn after_doctype_identifier_state(
+        &mut self,
+        kind: DoctypeIdKind,
+        c: char,
+    ) -> Result<ProcessResult<Sink::Handle>, ParseFault>
+        requires at { IsAt self.old (state.AfterDoctypeIdentifier kind) }
+        requires sound { Sink.is_sound (Sink.view self.old.sink) }
+        ensures { Keeps Sink.step Sink.view Sink.asks_cdata Sink.ended Sink.is_sound Sink.number Sink.has_failed self.old self.new c result }
+    {
+        self.tell_fault(identifier_fault(kind, c))?;
+        self.take_behind_identifier(kind, c)
+    }
+
+    /// The same, where an error of the character was told.
+    fn take_behind_identifier(
+        &mut self,
+        kind: DoctypeIdKind,
+        c: char,
+    ) -> Result<ProcessResult<Sink::Handle>, ParseFault>
+        requires at { IsAt self.old (state.AfterDoctypeIdentifier kind) }
+        requires sound { Sink.is_sound (Sink.view self.old.sink) }
+        ensures { Keeps Sink.step Sink.view Sink.asks_cdata Sink.ended Sink.is_sound Sink.number Sink.has_failed self.old self.new c result }
+    {
+        match kind {
+            DoctypeIdKind::Public => {
+                self.state = State::BetweenDoctypePublicAndSystemIdentifiers;
+                self.after_doctype_public_identifier_state(c)
+            }
+            DoctypeIdKind::System => self.after_doctype_system_identifier_state(c),
+        }
+    }
+
+    pub(crate) fn after_doctype_public_identifier_state(
+        &mut self,
+        c: char,
+    ) -> Result<ProcessResult<Sink::Handle>, ParseFault>
+        requires at { IsAt self.old state.BetweenDoctypePublicAndSystemIdentifiers }
+        requires sound { Sink.is_sound (Sink.view self.old.sink) }
+        ensures { Keeps Sink.step Sink.view Sink.asks_cdata Sink.ended Sink.is_sound Sink.number Sink.has_failed self.old self.new c result }
+    {
+        if is_white_space(c) {
+            return Ok(ProcessResult::Continue);
+        }
+        if c == '"' {
+            self.temporary = empty(self.stream.alloc);
+            self.state = State::DoctypeIdentifierDoubleQuoted(DoctypeIdKind::System);
+            return Ok(ProcessResult::Continue);
+        }
+        if c == '\'' {
+            self.temporary = empty(self.stream.alloc);
+            self.state = State::DoctypeIdentifierSingleQuoted(DoctypeIdKind::System);
+            return Ok(ProcessResult::Continue);
+        }
+        if c == '>' {
+            self.emit_doctype()?;
+            return Ok(ProcessResult::Continue);
+        }
+        self.doctype.force_quirks = true;
+        self.state = State::BogusDoctype;
+        self.bogus_doctype_state(c)
+    }
+
+    pub(crate) fn after_doctype_system_identifier_state(
+        &mut self,
+        c: char,
+    ) -> Result<ProcessResult<Sink::Handle>, ParseFault>
+        requires at { IsAt self.old (state.AfterDoctypeIdentifier id.System) }
+        requires sound { Sink.is_sound (Sink.view self.old.sink) }
+        ensures { Keeps Sink.step Sink.view Sink.asks_cdata Sink.ended Sink.is_sound Sink.number Sink.has_failed self.old self.new c result }
+    {
+        if is_white_space(c) {
+            return Ok(ProcessResult::Continue);
+        }
+        self.state = State::BogusDoctype;
+        self.bogus_doctype_state(c)
+    }
+
+    pub(crate) fn bogus_doctype_state(
+        &mut self,
+        c: char,
+    ) -> Result<ProcessResult<Sink::Handle>, ParseFault>
+        requires at { IsAt self.old state.BogusDoctype }
+        requires sound { Sink.is_sound (Sink.view self.old.sink) }
+        ensures { Keeps Sink.step Sink.view Sink.asks_cdata Sink.ended Sink.is_sound Sink.number Sink.has_failed self.old self.new c result }
+    {
+        self.tell_null(c)?;
+        self.take_in_bogus_doctype(c)
+    }
+
+    /// The same, where an error of the character was told.
+    fn take_in_bogus_doctype(&mut self, c: char) -> Result<ProcessResult<Sink::Handle>, ParseFault>
+        requires at { IsAt self.old state.BogusDoctype }
+        requires sound { Sink.is_sound (Sink.view self.old.sink) }
+        ensures { Keeps Sink.step Sink.view Sink.asks_cdata Sink.ended Sink.is_sound Sink.number Sink.has_failed self.old self.new c result }
+    {
+        if c == '>' {
+            self.emit_doctype()?;
+            return Ok(ProcessResult::Continue);
+        }
+        Ok(ProcessResult::Continue)
+    }
+}

@@ -1,0 +1,71 @@
+//! The input, taken piece by piece.
+ghost use Rattle.std.specs.Prelude.{◌≡◌, IfOk, IfErr};
+ghost use Rattle.markup.specs.declared.fault.ParseFault.TheVariants.{Memory};
+ghost use Rattle.html_tokenizer.specs.Calls.{IsReady, KeepsText, Moves, NextsAt, Runs};
+ghost use Rattle.html_tokenizer.specs.Stops.{IsRunAt};
+
+use crate::piece::Piece;
+use crate::tokenizer::Tokenizer;
+use html_queue::BufferQueue;
+use html_tokens::ProcessResult;
+use html_tokens::sink::TokenSink;
+use markup::{ParseFault, Text, TokenizerResult};
+
+impl<Sink: TokenSink> Tokenizer<Sink> {
+    /// What comes next of the input: a run of text where runs are read, or else a character.
+    fn next(&mut self, input: &mut BufferQueue) -> Result<Piece, ParseFault>
+        ensures ok { IfOk result (NextsAt self.old self.new.stream input.old input.new) }
+        ensures kept { self.new ≡ record self.old { stream = self.new.stream } }
+        ensures err { IfErr result (λ fault. fault ≡ Memory) }
+    {
+        match self.stops() {
+            Some(stops) => self.stream.next_piece(stops, input),
+            None => Ok(self.stream.next_one(input)),
+        }
+    }
+
+    /// Takes a run of text, and goes on.
+    fn take_text(&mut self, run: Text) -> Result<ProcessResult<Sink::Handle>, ParseFault>
+        requires run { IsRunAt self.old run }
+        requires sound { Sink.is_sound (Sink.view self.old.sink) }
+        ensures { KeepsText Sink.step Sink.view Sink.asks_cdata Sink.ended Sink.is_sound Sink.number Sink.has_failed self.old self.new run result }
+    {
+        self.take_run(run)?;
+        Ok(ProcessResult::Continue)
+    }
+
+    /// Takes what comes next of the input.
+    fn move_on(
+        &mut self,
+        input: &mut BufferQueue,
+    ) -> Result<ProcessResult<Sink::Handle>, ParseFault>
+        requires ready { IsReady Sink.step Sink.view Sink.asks_cdata Sink.ended Sink.is_sound Sink.number Sink.has_failed self.old }
+        ensures { Moves Sink.step Sink.view Sink.asks_cdata Sink.ended Sink.is_sound Sink.number Sink.has_failed self.old self.new input.old input.new result }
+    {
+        match self.next(input)? {
+            Piece::Nothing => Ok(ProcessResult::Suspend),
+            Piece::Char(c) => self.take(c),
+            Piece::Run(run) => self.take_text(run),
+        }
+    }
+
+    /// Takes all of the input, or what stands before a pause.
+    pub(crate) fn run(
+        &mut self,
+        input: &mut BufferQueue,
+    ) -> Result<TokenizerResult<Sink::Handle>, ParseFault>
+        requires ready { IsReady Sink.step Sink.view Sink.asks_cdata Sink.ended Sink.is_sound Sink.number Sink.has_failed self.old }
+        ensures { Runs Sink.step Sink.view Sink.asks_cdata Sink.ended Sink.is_sound Sink.number Sink.has_failed self.old self.new input.old input.new result }
+    {
+        loop {
+            match self.move_on(input)? {
+                ProcessResult::Continue => {}
+                ProcessResult::Suspend => return Ok(TokenizerResult::Done),
+                ProcessResult::Script(handle) => return Ok(TokenizerResult::Script(handle)),
+                ProcessResult::EncodingIndicator(label) => {
+                    return Ok(TokenizerResult::EncodingIndicator(label));
+                }
+            }
+        }
+    }
+}

@@ -1,0 +1,64 @@
+//! What is held of a character reference.
+ghost use Rattle.std.specs.Prelude.{◌≡◌, ◌≤◌, ◌∷◌, [], ◌++◌, true, IfErr, OnOk, drop, length};
+ghost use Rattle.std.specs.List.{list_all};
+ghost use Rattle.std.specs.Str.{chars};
+ghost use Rattle.markup.specs.declared.fault.ParseFault.TheVariants.{Memory};
+ghost use Rattle.html_tokenizer.specs.CharRefs.{is_held};
+
+use crate::tell::empty;
+use markup::{ParseFault, Text};
+use std::alloc::Global;
+use std::marker::Model;
+
+/// What was read behind the `&` of a reference: letters and digits of ASCII, `#` and `;`.
+#[derive(Drop)]
+pub struct HeldReference {
+    text: Text,
+}
+
+impl Model for HeldReference {
+    ghost use Rattle.std.specs.Prelude.{List, ℕ, ◌≡◌, true};
+    ghost use Rattle.std.specs.List.{list_all};
+    ghost use Rattle.html_tokenizer.specs.CharRefs.{is_held};
+
+    ghost Value = { List ℕ };
+
+    ghost view = { λ h. h.text };
+
+    ghost invariant = { λ h. list_all is_held h.text ≡ true };
+}
+
+impl HeldReference {
+    /// Nothing behind the `&` yet.
+    pub(crate) fn new(alloc: Global) -> HeldReference
+        ensures { result ≡ [] }
+    {
+        HeldReference { text: empty(alloc) }
+    }
+
+    /// Puts a character at the end.
+    pub(crate) fn push(&mut self, c: char) -> Result<(), ParseFault>
+        requires { is_held c ≡ true }
+        ensures ok { OnOk result (self.new ≡ self.old ++ c ∷ []) }
+        ensures fault { IfErr result (λ fault. fault ≡ Memory) }
+    {
+        self.text.push(c)
+    }
+
+    /// The characters, which are their bytes too.
+    pub(crate) fn as_str(&self) -> &str
+        ensures bytes { result.now ≡ self.now }
+        ensures is { chars result.now ≡ self.now }
+        ensures held { list_all is_held self.now ≡ true }
+    {
+        self.text.as_str()
+    }
+
+    /// The characters behind the first so many.
+    pub(crate) fn behind(&self, count: usize) -> &str
+        requires { count ≤ length self.now }
+        ensures { chars result.now ≡ drop count self.now }
+    {
+        &self.as_str()[count..]
+    }
+}

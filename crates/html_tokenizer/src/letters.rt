@@ -1,0 +1,100 @@
+//! Words of ASCII letters.
+ghost use Rattle.std.specs.Prelude.{codes, ◌≡◌, ◌∷◌, [], ◌++◌, true, map, IfOk, IfErr, OnOk, length, ◌==◌};
+ghost use Rattle.std.specs.Char.{is_ascii_alphabetic, to_ascii_lowercase};
+ghost use Rattle.std.specs.List.{list_all};
+ghost use Rattle.std.specs.Str.{chars};
+ghost use Rattle.std.specs.String.{string_bytes};
+ghost use Rattle.markup.specs.declared.fault.ParseFault.TheVariants.{Memory};
+ghost use Rattle.html_tokenizer.specs.Words.{same_any_case};
+
+use crate::tell::empty;
+use markup::{ParseFault, Text};
+use std::alloc::Global;
+use std::marker::Model;
+
+/// A word of ASCII letters, as it was written.
+#[derive(Drop)]
+pub struct Letters {
+    text: Text,
+}
+
+impl Model for Letters {
+    ghost use Rattle.std.specs.Prelude.{List, ℕ, ◌≡◌, true};
+    ghost use Rattle.std.specs.Char.{is_ascii_alphabetic};
+    ghost use Rattle.std.specs.List.{list_all};
+
+    ghost Value = { List ℕ };
+
+    ghost view = { λ w. w.text };
+
+    ghost invariant = { λ w. list_all is_ascii_alphabetic w.text ≡ true };
+}
+
+impl Letters {
+    /// No letters yet.
+    pub(crate) fn new(alloc: Global) -> Letters
+        ensures { result ≡ [] }
+    {
+        Letters { text: empty(alloc) }
+    }
+
+    /// Puts a letter at the end.
+    pub(crate) fn push(&mut self, letter: char) -> Result<(), ParseFault>
+        requires { is_ascii_alphabetic letter ≡ true }
+        ensures ok { OnOk result (self.new ≡ self.old ++ letter ∷ []) }
+        ensures fault { IfErr result (λ fault. fault ≡ Memory) }
+    {
+        self.text.push(letter)
+    }
+
+    /// The word of one letter.
+    pub(crate) fn first(alloc: Global, letter: char) -> Result<Letters, ParseFault>
+        requires { is_ascii_alphabetic letter ≡ true }
+        ensures ok { IfOk result (λ word. word ≡ letter ∷ []) }
+        ensures fault { IfErr result (λ fault. fault ≡ Memory) }
+    {
+        let mut word = Letters::new(alloc);
+        word.push(letter)?;
+        Ok(word)
+    }
+
+    /// The letters, as they were written.
+    pub(crate) fn as_str(&self) -> &str
+        ensures is { chars result.now ≡ self.now }
+        ensures letters { list_all is_ascii_alphabetic self.now ≡ true }
+    {
+        self.text.as_str()
+    }
+
+    /// Whether there is no letter.
+    pub(crate) fn is_empty(&self) -> bool
+        ensures { result ≡ (length self.now == 0) }
+    {
+        self.text.is_empty()
+    }
+
+    /// Whether this is the given name, in any case.
+    pub(crate) fn is_any_case(&self, name: &str) -> bool
+        ensures is { result ≡ same_any_case (chars name.now) self.now }
+        ensures letters { list_all is_ascii_alphabetic self.now ≡ true }
+    {
+        name.eq_ignore_ascii_case(self.text.as_str())
+    }
+
+    /// Whether this is `script`, in any case.
+    pub(crate) fn is_script(&self) -> bool
+        ensures is { result ≡ same_any_case (codes "script") self.now }
+        ensures letters { list_all is_ascii_alphabetic self.now ≡ true }
+    {
+        self.is_any_case("script")
+    }
+
+    /// The letters lowered.
+    pub(crate) fn lowered(&self, alloc: Global) -> Result<String, ParseFault>
+        ensures ok { IfOk result (λ name. chars (string_bytes name) ≡ map to_ascii_lowercase self.now) }
+        ensures letters { list_all is_ascii_alphabetic self.now ≡ true }
+        ensures fault { IfErr result (λ fault. fault ≡ Memory) }
+    {
+        Ok(self.text.as_str().to_ascii_lowercase(alloc)?)
+    }
+}

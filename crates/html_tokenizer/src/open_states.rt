@@ -1,0 +1,93 @@
+//! Behind `<` and `</` outside of raw text (HTML Standard, sections 13.2.5.6 and 13.2.5.7).
+ghost use Rattle.std.specs.Prelude.{◌≡◌, ◌∷◌, [], true};
+ghost use Rattle.std.specs.Char.{is_ascii_alphabetic};
+ghost use Rattle.html_tokens.specs.declared.states.State.TheVariants as state;
+ghost use Rattle.html_tokens.specs.declared.token.Token.TheVariants.{CharacterTokens};
+ghost use Rattle.html_tokenizer.specs.Steps.{IsAt, Tells, Keeps};
+
+use crate::keyword::Keyword;
+use crate::tag_states::nameless;
+use crate::tell::empty;
+use crate::tokenizer::Tokenizer;
+use html_tokens::sink::TokenSink;
+use html_tokens::states::State;
+use html_tokens::{ProcessResult, TagKind};
+use markup::ParseFault;
+
+impl<Sink: TokenSink> Tokenizer<Sink> {
+    /// Hands out `<` as text, since it opened nothing, which is a parse error.
+    pub(crate) fn tell_unopened(&mut self, message: &'static str) -> Result<(), ParseFault>
+        requires sound { Sink.is_sound (Sink.view self.old.sink) }
+        ensures { Tells Sink.step Sink.view Sink.asks_cdata Sink.ended Sink.is_sound Sink.number Sink.has_failed (CharacterTokens (60 ∷ [])) self.old self.new result }
+    {
+        self.tell_error(message)?;
+        self.tell_char('<')
+    }
+
+    /// Hands out `</` as text, since it opened nothing, which is a parse error.
+    pub(crate) fn tell_unopened_end(&mut self, message: &'static str) -> Result<(), ParseFault>
+        requires sound { Sink.is_sound (Sink.view self.old.sink) }
+        ensures { Tells Sink.step Sink.view Sink.asks_cdata Sink.ended Sink.is_sound Sink.number Sink.has_failed (CharacterTokens (60 ∷ 47 ∷ [])) self.old self.new result }
+    {
+        self.tell_error(message)?;
+        self.tell_two('<', '/')
+    }
+
+    /// Section 13.2.5.6.
+    pub(crate) fn tag_open_state(
+        &mut self,
+        c: char,
+    ) -> Result<ProcessResult<Sink::Handle>, ParseFault>
+        requires at { IsAt self.old state.TagOpen }
+        requires sound { Sink.is_sound (Sink.view self.old.sink) }
+        ensures { Keeps Sink.step Sink.view Sink.asks_cdata Sink.ended Sink.is_sound Sink.number Sink.has_failed self.old self.new c result }
+    {
+        if c == '/' {
+            self.state = State::EndTagOpen;
+            return Ok(ProcessResult::Continue);
+        }
+        if c == '!' {
+            self.keyword = Keyword::new(self.stream.alloc);
+            self.state = State::MarkupDeclarationOpen;
+            return Ok(ProcessResult::Continue);
+        }
+        if c.is_ascii_alphabetic() {
+            self.tag = nameless(self.stream.alloc);
+            self.state = State::TagName;
+            return self.tag_name_state(c);
+        }
+        if c == '?' {
+            self.comment = empty(self.stream.alloc);
+            self.state = State::BogusComment;
+            return self.bogus_comment_state(c);
+        }
+        self.tell_unopened("invalid first character of tag name")?;
+        self.state = State::Data;
+        self.data_state(c)
+    }
+
+    /// Section 13.2.5.7.
+    pub(crate) fn end_tag_open_state(
+        &mut self,
+        c: char,
+    ) -> Result<ProcessResult<Sink::Handle>, ParseFault>
+        requires at { IsAt self.old state.EndTagOpen }
+        requires sound { Sink.is_sound (Sink.view self.old.sink) }
+        ensures { Keeps Sink.step Sink.view Sink.asks_cdata Sink.ended Sink.is_sound Sink.number Sink.has_failed self.old self.new c result }
+    {
+        if c.is_ascii_alphabetic() {
+            self.tag = nameless(self.stream.alloc);
+            self.tag.kind = TagKind::EndTag;
+            self.state = State::TagName;
+            return self.tag_name_state(c);
+        }
+        if c == '>' {
+            self.tell_error("end tag without a name")?;
+            self.state = State::Data;
+            return Ok(ProcessResult::Continue);
+        }
+        self.comment = empty(self.stream.alloc);
+        self.state = State::BogusComment;
+        self.bogus_comment_state(c)
+    }
+}

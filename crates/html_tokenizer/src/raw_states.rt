@@ -1,0 +1,306 @@
+//! Text that only its own end tag ends (HTML Standard, sections 13.2.5.2 to 13.2.5.4, 13.2.5.9 to 13.2.5.17 and 13.2.5.20 to 13.2.5.30).
+ghost use Rattle.std.specs.Prelude.{◌≡◌, ◌∷◌, true, false};
+ghost use Rattle.std.specs.Char.{is_ascii_alphabetic};
+ghost use Rattle.std.specs.List.{list_all};
+ghost use Rattle.html_tokens.specs.declared.states.State.TheVariants as state;
+ghost use Rattle.html_tokens.specs.declared.states.RawKind.TheVariants as raw;
+ghost use Rattle.html_tokens.specs.declared.states.ScriptEscapeKind.TheVariants as script;
+ghost use Rattle.html_tokens.specs.declared.token.Token.TheVariants.{CharacterTokens};
+ghost use Rattle.html_tokens.specs.RawText.{ends_at_tag, has_references};
+ghost use Rattle.html_tokenizer.specs.Steps.{IsAt, Tells, Keeps};
+ghost use Rattle.html_tokenizer.specs.Words.{ends_raw_text, may_escape};
+
+use crate::characters::ends_tag_name;
+use crate::held_reference::HeldReference;
+use crate::letters::Letters;
+use crate::tell::empty;
+use crate::tokenizer::Tokenizer;
+use html_tokens::sink::TokenSink;
+use html_tokens::states::{RawKind, ScriptEscapeKind, State};
+use html_tokens::{ProcessResult, Tag, TagKind, Token};
+use markup::{Attributes, LocalName, ParseFault};
+
+/// Whether the fitting end tag ends text of this kind.
+pub(crate) fn ends_at_tag(kind: RawKind) -> bool
+    ensures { result ≡ ends_at_tag kind }
+{
+    !matches!(
+        kind,
+        RawKind::ScriptDataEscaped(ScriptEscapeKind::DoubleEscaped)
+    )
+}
+
+/// Whether text of this kind has references.
+fn has_references(kind: RawKind) -> bool
+    ensures { result ≡ has_references kind }
+{
+    matches!(kind, RawKind::Rcdata)
+}
+
+impl<Sink: TokenSink> Tokenizer<Sink> {
+    /// Sections 13.2.5.2 to 13.2.5.4, 13.2.5.20 and 13.2.5.27.
+    pub(crate) fn raw_data_state(
+        &mut self,
+        kind: RawKind,
+        c: char,
+    ) -> Result<ProcessResult<Sink::Handle>, ParseFault>
+        requires at { IsAt self.old (state.RawData kind) }
+        requires sound { Sink.is_sound (Sink.view self.old.sink) }
+        ensures { Keeps Sink.step Sink.view Sink.asks_cdata Sink.ended Sink.is_sound Sink.number Sink.has_failed self.old self.new c result }
+    {
+        if c == '<' {
+            return self.raw_less_than_sign(kind);
+        }
+        if c == '&' {
+            return self.raw_ampersand(kind);
+        }
+        if c == '-' {
+            return self.raw_dash(kind);
+        }
+        self.take_shown(c)
+    }
+
+    /// At `<`, which is held where it may begin the fitting end tag.
+    fn raw_less_than_sign(
+        &mut self,
+        kind: RawKind,
+    ) -> Result<ProcessResult<Sink::Handle>, ParseFault>
+        requires at { IsAt self.old (state.RawData kind) }
+        requires sound { Sink.is_sound (Sink.view self.old.sink) }
+        ensures { Keeps Sink.step Sink.view Sink.asks_cdata Sink.ended Sink.is_sound Sink.number Sink.has_failed self.old self.new 60 result }
+    {
+        self.state = State::RawLessThanSign(kind);
+        if ends_at_tag(kind) {
+            Ok(ProcessResult::Continue)
+        } else {
+            self.take_char('<')
+        }
+    }
+
+    /// At `&`.
+    fn raw_ampersand(&mut self, kind: RawKind) -> Result<ProcessResult<Sink::Handle>, ParseFault>
+        requires at { IsAt self.old (state.RawData kind) }
+        requires sound { Sink.is_sound (Sink.view self.old.sink) }
+        ensures { Keeps Sink.step Sink.view Sink.asks_cdata Sink.ended Sink.is_sound Sink.number Sink.has_failed self.old self.new 38 result }
+    {
+        if has_references(kind) {
+            self.char_ref = Some(HeldReference::new(self.stream.alloc));
+            Ok(ProcessResult::Continue)
+        } else {
+            self.take_char('&')
+        }
+    }
+
+    /// At `-`.
+    fn raw_dash(&mut self, kind: RawKind) -> Result<ProcessResult<Sink::Handle>, ParseFault>
+        requires at { IsAt self.old (state.RawData kind) }
+        requires sound { Sink.is_sound (Sink.view self.old.sink) }
+        ensures { Keeps Sink.step Sink.view Sink.asks_cdata Sink.ended Sink.is_sound Sink.number Sink.has_failed self.old self.new 45 result }
+    {
+        match kind {
+            RawKind::ScriptDataEscaped(escape) => {
+                self.state = State::ScriptDataEscapedDash(escape);
+                self.take_char('-')
+            }
+            RawKind::Rcdata | RawKind::Rawtext | RawKind::ScriptData => self.take_char('-'),
+        }
+    }
+
+    /// Sections 13.2.5.9, 13.2.5.12, 13.2.5.15, 13.2.5.23 and 13.2.5.30.
+    pub(crate) fn raw_less_than_sign_state(
+        &mut self,
+        kind: RawKind,
+        c: char,
+    ) -> Result<ProcessResult<Sink::Handle>, ParseFault>
+        requires at { IsAt self.old (state.RawLessThanSign kind) }
+        requires sound { Sink.is_sound (Sink.view self.old.sink) }
+        ensures { Keeps Sink.step Sink.view Sink.asks_cdata Sink.ended Sink.is_sound Sink.number Sink.has_failed self.old self.new c result }
+    {
+        match kind {
+            RawKind::Rcdata | RawKind::Rawtext => self.held_less_than_sign(kind, c),
+            RawKind::ScriptData => self.script_less_than_sign(c),
+            RawKind::ScriptDataEscaped(ScriptEscapeKind::Escaped) => self.escaped_less_than_sign(c),
+            RawKind::ScriptDataEscaped(ScriptEscapeKind::DoubleEscaped) => {
+                self.double_escaped_less_than_sign(c)
+            }
+        }
+    }
+
+    /// Behind `<`, where no escape may begin: `/`, or the `<` was text.
+    fn held_less_than_sign(
+        &mut self,
+        kind: RawKind,
+        c: char,
+    ) -> Result<ProcessResult<Sink::Handle>, ParseFault>
+        requires at { IsAt self.old (state.RawLessThanSign kind) }
+        requires held { ends_at_tag kind ≡ true }
+        requires plain { may_escape kind c ≡ false }
+        requires sound { Sink.is_sound (Sink.view self.old.sink) }
+        ensures { Keeps Sink.step Sink.view Sink.asks_cdata Sink.ended Sink.is_sound Sink.number Sink.has_failed self.old self.new c result }
+    {
+        if c == '/' {
+            self.state = State::RawEndTagOpen(kind);
+            return Ok(ProcessResult::Continue);
+        }
+        self.state = State::RawData(kind);
+        self.tell_char('<')?;
+        self.raw_data_state(kind, c)
+    }
+
+    /// Section 13.2.5.15.
+    fn script_less_than_sign(&mut self, c: char) -> Result<ProcessResult<Sink::Handle>, ParseFault>
+        requires at { IsAt self.old (state.RawLessThanSign raw.ScriptData) }
+        requires sound { Sink.is_sound (Sink.view self.old.sink) }
+        ensures { Keeps Sink.step Sink.view Sink.asks_cdata Sink.ended Sink.is_sound Sink.number Sink.has_failed self.old self.new c result }
+    {
+        if c == '!' {
+            self.state = State::ScriptDataEscapeStart(ScriptEscapeKind::Escaped);
+            return self.take_two('<', '!');
+        }
+        self.held_less_than_sign(RawKind::ScriptData, c)
+    }
+
+    /// Section 13.2.5.23.
+    fn escaped_less_than_sign(&mut self, c: char) -> Result<ProcessResult<Sink::Handle>, ParseFault>
+        requires at { IsAt self.old (state.RawLessThanSign (raw.ScriptDataEscaped script.Escaped)) }
+        requires sound { Sink.is_sound (Sink.view self.old.sink) }
+        ensures { Keeps Sink.step Sink.view Sink.asks_cdata Sink.ended Sink.is_sound Sink.number Sink.has_failed self.old self.new c result }
+    {
+        if c.is_ascii_alphabetic() {
+            self.word = Letters::first(self.stream.alloc, c)?;
+            self.state = State::ScriptDataEscapeStart(ScriptEscapeKind::DoubleEscaped);
+            return self.take_two('<', c);
+        }
+        self.held_less_than_sign(RawKind::ScriptDataEscaped(ScriptEscapeKind::Escaped), c)
+    }
+
+    /// Section 13.2.5.30.
+    fn double_escaped_less_than_sign(
+        &mut self,
+        c: char,
+    ) -> Result<ProcessResult<Sink::Handle>, ParseFault>
+        requires at { IsAt self.old (state.RawLessThanSign (raw.ScriptDataEscaped script.DoubleEscaped)) }
+        requires sound { Sink.is_sound (Sink.view self.old.sink) }
+        ensures { Keeps Sink.step Sink.view Sink.asks_cdata Sink.ended Sink.is_sound Sink.number Sink.has_failed self.old self.new c result }
+    {
+        if c == '/' {
+            self.word = Letters::new(self.stream.alloc);
+            self.state = State::ScriptDataDoubleEscapeEnd;
+            return self.take_char('/');
+        }
+        let kind = RawKind::ScriptDataEscaped(ScriptEscapeKind::DoubleEscaped);
+        self.state = State::RawData(kind);
+        self.raw_data_state(kind, c)
+    }
+
+    /// Sections 13.2.5.10, 13.2.5.13, 13.2.5.16 and 13.2.5.24.
+    pub(crate) fn raw_end_tag_open_state(
+        &mut self,
+        kind: RawKind,
+        c: char,
+    ) -> Result<ProcessResult<Sink::Handle>, ParseFault>
+        requires at { IsAt self.old (state.RawEndTagOpen kind) }
+        requires sound { Sink.is_sound (Sink.view self.old.sink) }
+        ensures { Keeps Sink.step Sink.view Sink.asks_cdata Sink.ended Sink.is_sound Sink.number Sink.has_failed self.old self.new c result }
+    {
+        if c.is_ascii_alphabetic() {
+            self.word = Letters::first(self.stream.alloc, c)?;
+            self.state = State::RawEndTagName(kind);
+            return Ok(ProcessResult::Continue);
+        }
+        self.state = State::RawData(kind);
+        self.tell_two('<', '/')?;
+        self.raw_data_state(kind, c)
+    }
+
+    /// Sections 13.2.5.11, 13.2.5.14, 13.2.5.17 and 13.2.5.25.
+    pub(crate) fn raw_end_tag_name_state(
+        &mut self,
+        kind: RawKind,
+        c: char,
+    ) -> Result<ProcessResult<Sink::Handle>, ParseFault>
+        requires at { IsAt self.old (state.RawEndTagName kind) }
+        requires sound { Sink.is_sound (Sink.view self.old.sink) }
+        ensures { Keeps Sink.step Sink.view Sink.asks_cdata Sink.ended Sink.is_sound Sink.number Sink.has_failed self.old self.new c result }
+    {
+        if c.is_ascii_alphabetic() {
+            self.word.push(c)?;
+            return Ok(ProcessResult::Continue);
+        }
+        if !ends_at_tag(kind) {
+            return self.double_escaped_end_tag(kind, c);
+        }
+        if self.ends_raw_text(c) {
+            return self.raw_end_tag(kind, c);
+        }
+        self.state = State::RawData(kind);
+        self.tell_end_tag()?;
+        self.raw_data_state(kind, c)
+    }
+
+    /// Behind the whole fitting name.
+    fn raw_end_tag(
+        &mut self,
+        kind: RawKind,
+        c: char,
+    ) -> Result<ProcessResult<Sink::Handle>, ParseFault>
+        requires at { IsAt self.old (state.RawEndTagName kind) }
+        requires held { ends_at_tag kind ≡ true }
+        requires ends { ends_raw_text self.old.last_start_tag self.old.word c ≡ true }
+        requires sound { Sink.is_sound (Sink.view self.old.sink) }
+        ensures { Keeps Sink.step Sink.view Sink.asks_cdata Sink.ended Sink.is_sound Sink.number Sink.has_failed self.old self.new c result }
+    {
+        let name = self.word.lowered(self.stream.alloc)?;
+        self.tag = Tag {
+            kind: TagKind::EndTag,
+            name: LocalName::new(name),
+            self_closing: false,
+            attrs: Attributes::new(self.stream.alloc),
+            had_duplicate_attributes: false,
+        };
+        self.state = State::TagName;
+        self.tag_name_state(c)
+    }
+
+    /// Text escaped twice, in which no end tag is held.
+    fn double_escaped_end_tag(
+        &mut self,
+        kind: RawKind,
+        c: char,
+    ) -> Result<ProcessResult<Sink::Handle>, ParseFault>
+        requires at { IsAt self.old (state.RawEndTagName kind) }
+        requires told { ends_at_tag kind ≡ false }
+        requires sound { Sink.is_sound (Sink.view self.old.sink) }
+        ensures { Keeps Sink.step Sink.view Sink.asks_cdata Sink.ended Sink.is_sound Sink.number Sink.has_failed self.old self.new c result }
+    {
+        self.state = State::ScriptDataDoubleEscapeEnd;
+        self.tell_end_tag()?;
+        self.script_data_double_escape_end_state(c)
+    }
+
+    /// Whether the word that is held, with this character behind it, is the fitting end tag's name.
+    fn ends_raw_text(&self, c: char) -> bool
+        ensures { result ≡ ends_raw_text self.now.last_start_tag self.now.word c }
+    {
+        match &self.last_start_tag {
+            Some(name) => {
+                !self.word.is_empty() && self.word.is_any_case(name.as_str()) && ends_tag_name(c)
+            }
+            None => false,
+        }
+    }
+
+    /// Hands out the end tag that is held, which was text.
+    pub(crate) fn tell_end_tag(&mut self) -> Result<(), ParseFault>
+        requires sound { Sink.is_sound (Sink.view self.old.sink) }
+        ensures is { Tells Sink.step Sink.view Sink.asks_cdata Sink.ended Sink.is_sound Sink.number Sink.has_failed (CharacterTokens (60 ∷ 47 ∷ self.old.word)) self.old self.new result }
+        ensures letters { list_all is_ascii_alphabetic self.old.word ≡ true }
+    {
+        let mut text = empty(self.stream.alloc);
+        let word = self.word.as_str();
+        text.push('<')?;
+        text.push('/')?;
+        text.push_str(word)?;
+        self.tell(Token::CharacterTokens(text))
+    }
+}

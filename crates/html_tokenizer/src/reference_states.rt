@@ -1,0 +1,106 @@
+//! Character references in text and in attributes' values (HTML Standard, sections 13.2.5.72 to 13.2.5.80).
+ghost use Rattle.std.specs.Prelude.{◌≡◌, Some, None, true, false};
+ghost use Rattle.html_tokens.specs.declared.states.RawKind.TheVariants as raw;
+ghost use Rattle.html_tokens.specs.declared.states.State.TheVariants as state;
+ghost use Rattle.html_tokens.specs.declared.token.Token.TheVariants.{CharacterTokens};
+ghost use Rattle.html_tokenizer.specs.CharRefs.{IsDecided, may_hold, resolved};
+ghost use Rattle.html_tokenizer.specs.Rest.{rows_of};
+ghost use Rattle.html_tokenizer.specs.Steps.{IsAt, Keeps, Tells};
+
+use crate::held_reference::HeldReference;
+use crate::references::{decided, goes_on_at, may_go_on, push_resolved};
+use crate::tell::empty;
+use crate::tokenizer::Tokenizer;
+use html_tokens::sink::TokenSink;
+use html_tokens::states::{AttrValueKind, RawKind, State};
+use html_tokens::{ProcessResult, Token};
+use markup::ParseFault;
+
+impl<Sink: TokenSink> Tokenizer<Sink> {
+    /// Hands out what a reference in text stands for.
+    pub(crate) fn tell_reference(&mut self, held: &HeldReference) -> Result<(), ParseFault>
+        requires sound { Sink.is_sound (Sink.view self.old.sink) }
+        ensures { Tells Sink.step Sink.view Sink.asks_cdata Sink.ended Sink.is_sound Sink.number Sink.has_failed (CharacterTokens (resolved false (rows_of self.old) held.now false)) self.old self.new result }
+    {
+        let decision = decided(&self.stream.table, false, held, false);
+        let mut text = empty(self.stream.alloc);
+        push_resolved(&mut text, decision.found, held)?;
+        let token = Token::CharacterTokens(text);
+        match decision.fault {
+            Some(message) => self.tell_faulty(message, token),
+            None => self.tell(token),
+        }
+    }
+
+    /// A reference ends in data.
+    fn end_reference_in_data(
+        &mut self,
+        held: &HeldReference,
+        c: char,
+    ) -> Result<ProcessResult<Sink::Handle>, ParseFault>
+        requires at { IsAt self.old state.Data }
+        requires decided { IsDecided (rows_of self.old) held.now c }
+        requires sound { Sink.is_sound (Sink.view self.old.sink) }
+        ensures { Keeps Sink.step Sink.view Sink.asks_cdata Sink.ended Sink.is_sound Sink.number Sink.has_failed (record self.old { char_ref = Some held.now }) self.new c result }
+    {
+        self.tell_reference(held)?;
+        self.data_state(c)
+    }
+
+    /// A reference ends in text with references that only its end tag ends.
+    fn end_reference_in_rcdata(
+        &mut self,
+        held: &HeldReference,
+        c: char,
+    ) -> Result<ProcessResult<Sink::Handle>, ParseFault>
+        requires at { IsAt self.old (state.RawData raw.Rcdata) }
+        requires decided { IsDecided (rows_of self.old) held.now c }
+        requires sound { Sink.is_sound (Sink.view self.old.sink) }
+        ensures { Keeps Sink.step Sink.view Sink.asks_cdata Sink.ended Sink.is_sound Sink.number Sink.has_failed (record self.old { char_ref = Some held.now }) self.new c result }
+    {
+        self.tell_reference(held)?;
+        self.raw_data_state(RawKind::Rcdata, c)
+    }
+
+    /// A reference ends in an attribute's value.
+    fn end_reference_in_value(
+        &mut self,
+        kind: AttrValueKind,
+        held: &HeldReference,
+        c: char,
+    ) -> Result<ProcessResult<Sink::Handle>, ParseFault>
+        requires at { IsAt self.old (state.AttributeValue kind) }
+        requires decided { IsDecided (rows_of self.old) held.now c }
+        requires sound { Sink.is_sound (Sink.view self.old.sink) }
+        ensures { Keeps Sink.step Sink.view Sink.asks_cdata Sink.ended Sink.is_sound Sink.number Sink.has_failed (record self.old { char_ref = Some held.now }) self.new c result }
+    {
+        let decision = decided(&self.stream.table, true, held, goes_on_at(c));
+        self.tell_fault(decision.fault)?;
+        push_resolved(&mut self.attribute_value, decision.found, held)?;
+        self.attribute_value_state(kind, c)
+    }
+
+    /// Goes on with the reference that was held: by one character more of it, or else by what it stands for and then the character.
+    pub(crate) fn reference_state(
+        &mut self,
+        mut held: HeldReference,
+        c: char,
+    ) -> Result<ProcessResult<Sink::Handle>, ParseFault>
+        requires fresh { self.old.char_ref ≡ None }
+        requires fits { may_hold self.old.state ≡ true }
+        requires sound { Sink.is_sound (Sink.view self.old.sink) }
+        ensures { Keeps Sink.step Sink.view Sink.asks_cdata Sink.ended Sink.is_sound Sink.number Sink.has_failed (record self.old { char_ref = Some held }) self.new c result }
+    {
+        if may_go_on(&self.stream.table, &held, c) {
+            held.push(c)?;
+            self.char_ref = Some(held);
+            return Ok(ProcessResult::Continue);
+        }
+        match self.state {
+            State::Data => self.end_reference_in_data(&held, c),
+            State::RawData(RawKind::Rcdata) => self.end_reference_in_rcdata(&held, c),
+            State::AttributeValue(kind) => self.end_reference_in_value(kind, &held, c),
+            _ => Ok(ProcessResult::Continue),
+        }
+    }
+}

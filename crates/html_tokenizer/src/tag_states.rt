@@ -1,0 +1,168 @@
+//! Tags up to their attributes, and their end (HTML Standard, sections 13.2.5.8, 13.2.5.32 and 13.2.5.40).
+ghost use Rattle.std.specs.Prelude.{◌≡◌, [], None, IfOk, IfErr};
+ghost use Rattle.html_tokens.specs.Errors.{is_faulty_tag};
+ghost use Rattle.html_tokens.specs.Tags.{last_name};
+ghost use Rattle.html_tokens.specs.declared.states.State.TheVariants as state;
+ghost use Rattle.html_tokens.specs.declared.tags.TagKind.TheVariants.{StartTag};
+ghost use Rattle.html_tokens.specs.Tags.{named};
+ghost use Rattle.markup.specs.declared.fault.ParseFault.TheVariants.{Memory};
+ghost use Rattle.html_tokenizer.specs.Steps.{IsAt, Keeps, Errs, EndsTag, state_behind, answer_to};
+
+use crate::characters::{is_white_space, lowered};
+use crate::tokenizer::Tokenizer;
+use html_tokens::sink::TokenSink;
+use html_tokens::states::State;
+use html_tokens::{ProcessResult, Tag, TagKind, Token, TokenSinkResult};
+use markup::{Attributes, LocalName, ParseFault, Text};
+use std::alloc::Global;
+use std::mem;
+
+/// A start tag without a name, which takes no memory.
+pub(crate) fn nameless(alloc: Global) -> Tag
+    ensures { result ≡ named StartTag [] }
+{
+    Tag {
+        kind: TagKind::StartTag,
+        name: LocalName::new(String::new(alloc)),
+        self_closing: false,
+        attrs: Attributes::new(alloc),
+        had_duplicate_attributes: false,
+    }
+}
+
+/// Whether a tag is told with an error: it has a repeated attribute, or it is an end tag with more than its name.
+fn is_faulty(tag: &Tag) -> bool
+    ensures { result ≡ is_faulty_tag tag.now }
+{
+    match tag.kind {
+        TagKind::StartTag => tag.had_duplicate_attributes,
+        TagKind::EndTag => {
+            tag.had_duplicate_attributes || tag.self_closing || !tag.attrs.is_empty()
+        }
+    }
+}
+
+impl<Sink: TokenSink> Tokenizer<Sink> {
+    /// The name of the last start tag once the tag that is read was told.
+    fn next_last_start_tag(&self) -> Result<Option<Text>, ParseFault>
+        ensures ok { IfOk result (λ name. name ≡ last_name self.now.tag.kind self.now.tag.name self.now.last_start_tag) }
+        ensures err { IfErr result (λ fault. fault ≡ Memory) }
+    {
+        match (self.tag.kind, &self.last_start_tag) {
+            (TagKind::StartTag, _) => {
+                let name = String::from_str(self.stream.alloc, self.tag.name.as_str())?;
+                Ok(Some(Text::new(name)))
+            }
+            (TagKind::EndTag, None) => Ok(None),
+            (TagKind::EndTag, Some(name)) => Ok(Some(name.copy(self.stream.alloc)?)),
+        }
+    }
+
+    /// Tells an error, if the tag that is read is faulty.
+    fn tell_faulty_tag(&mut self) -> Result<(), ParseFault>
+        requires sound { Sink.is_sound (Sink.view self.old.sink) }
+        ensures { Errs Sink.step Sink.view Sink.asks_cdata Sink.ended Sink.is_sound Sink.number Sink.has_failed self.old self.new result }
+    {
+        if is_faulty(&self.tag) {
+            return self.tell_error("repeated attribute, or more than a name in an end tag");
+        }
+        Ok(())
+    }
+
+    /// Goes where the reply to a tag has it.
+    fn follow(&mut self, reply: TokenSinkResult<Sink::Handle>) -> ProcessResult<Sink::Handle>
+        ensures moved { self.new ≡ record self.old { state = state_behind reply } }
+        ensures answer { result ≡ answer_to reply }
+    {
+        self.state = State::Data;
+        match reply {
+            TokenSinkResult::Continue => ProcessResult::Continue,
+            TokenSinkResult::Script(handle) => ProcessResult::Script(handle),
+            TokenSinkResult::Plaintext => {
+                self.state = State::Plaintext;
+                ProcessResult::Continue
+            }
+            TokenSinkResult::RawData(kind) => {
+                self.state = State::RawData(kind);
+                ProcessResult::Continue
+            }
+            TokenSinkResult::EncodingIndicator(label) => ProcessResult::EncodingIndicator(label),
+        }
+    }
+
+    /// Hands out the tag that was read.
+    pub(crate) fn emit_tag(&mut self) -> Result<ProcessResult<Sink::Handle>, ParseFault>
+        requires fresh { self.old.char_ref ≡ None }
+        requires sound { Sink.is_sound (Sink.view self.old.sink) }
+        ensures { EndsTag Sink.step Sink.view Sink.asks_cdata Sink.ended Sink.is_sound Sink.number Sink.has_failed self.old self.new result }
+    {
+        let last_start_tag = self.next_last_start_tag()?;
+        self.tell_faulty_tag()?;
+        let tag = mem::replace(&mut self.tag, nameless(self.stream.alloc));
+        let line = self.line();
+        let reply = self.sink.process_token(Token::TagToken(tag), line)?;
+        self.last_start_tag = last_start_tag;
+        Ok(self.follow(reply))
+    }
+
+    /// In a tag's name.
+    pub(crate) fn tag_name_state(
+        &mut self,
+        c: char,
+    ) -> Result<ProcessResult<Sink::Handle>, ParseFault>
+        requires at { IsAt self.old state.TagName }
+        requires sound { Sink.is_sound (Sink.view self.old.sink) }
+        ensures { Keeps Sink.step Sink.view Sink.asks_cdata Sink.ended Sink.is_sound Sink.number Sink.has_failed self.old self.new c result }
+    {
+        self.tell_null(c)?;
+        self.take_in_tag_name(c)
+    }
+
+    /// The same, where an error of the character was told.
+    fn take_in_tag_name(&mut self, c: char) -> Result<ProcessResult<Sink::Handle>, ParseFault>
+        requires at { IsAt self.old state.TagName }
+        requires sound { Sink.is_sound (Sink.view self.old.sink) }
+        ensures { Keeps Sink.step Sink.view Sink.asks_cdata Sink.ended Sink.is_sound Sink.number Sink.has_failed self.old self.new c result }
+    {
+        if is_white_space(c) {
+            self.state = State::BeforeAttributeName;
+            return Ok(ProcessResult::Continue);
+        }
+        if c == '/' {
+            self.state = State::SelfClosingStartTag;
+            return Ok(ProcessResult::Continue);
+        }
+        if c == '>' {
+            return self.emit_tag();
+        }
+        self.tag.name.push(lowered(c))?;
+        Ok(ProcessResult::Continue)
+    }
+
+    /// Behind a `/` in a tag.
+    pub(crate) fn self_closing_start_tag_state(
+        &mut self,
+        c: char,
+    ) -> Result<ProcessResult<Sink::Handle>, ParseFault>
+        requires at { IsAt self.old state.SelfClosingStartTag }
+        requires sound { Sink.is_sound (Sink.view self.old.sink) }
+        ensures { Keeps Sink.step Sink.view Sink.asks_cdata Sink.ended Sink.is_sound Sink.number Sink.has_failed self.old self.new c result }
+    {
+        self.tell_if(c != '>', "unexpected solidus in tag")?;
+        self.take_behind_solidus(c)
+    }
+
+    /// The same, where an error of the character was told.
+    fn take_behind_solidus(&mut self, c: char) -> Result<ProcessResult<Sink::Handle>, ParseFault>
+        requires at { IsAt self.old state.SelfClosingStartTag }
+        requires sound { Sink.is_sound (Sink.view self.old.sink) }
+        ensures { Keeps Sink.step Sink.view Sink.asks_cdata Sink.ended Sink.is_sound Sink.number Sink.has_failed self.old self.new c result }
+    {
+        if c == '>' {
+            self.tag.self_closing = true;
+            return self.emit_tag();
+        }
+        self.state = State::BeforeAttributeName;
+        self.before_attribute_name_state(c)
+    }
+}

@@ -1,0 +1,60 @@
+//! One character of the input, with its line and its own errors.
+ghost use Rattle.std.specs.Prelude.{◌≡◌, min, ◌+◌, true, nat_eq};
+ghost use Rattle.html_tokens.specs.Reading.{line_break};
+ghost use Rattle.html_tokenizer.specs.Calls.{Passes, counted};
+ghost use Rattle.html_tokenizer.specs.CharRefs.{fits_in};
+ghost use Rattle.html_tokenizer.specs.Steps.{Errs, Keeps};
+
+use crate::characters::is_forbidden;
+use crate::tokenizer::{Stream, Tokenizer};
+use html_tokens::ProcessResult;
+use html_tokens::sink::TokenSink;
+use markup::ParseFault;
+
+impl Stream {
+    /// Counts a line break, if the character is one.
+    fn count_break(&mut self, c: char)
+        ensures { self.new ≡ record self.old { breaks = counted self.old.breaks c } }
+    {
+        if c == '\n' {
+            self.breaks = self.breaks.saturating_add(1);
+        }
+    }
+}
+
+impl<Sink: TokenSink> Tokenizer<Sink> {
+    /// Tells of a control character or a noncharacter, where such are told.
+    fn tell_forbidden(&mut self, c: char) -> Result<(), ParseFault>
+        requires sound { Sink.is_sound (Sink.view self.old.sink) }
+        ensures { Errs Sink.step Sink.view Sink.asks_cdata Sink.ended Sink.is_sound Sink.number Sink.has_failed self.old self.new result }
+    {
+        if self.stream.exact_errors && is_forbidden(c) {
+            return self.tell_error("control character or noncharacter");
+        }
+        Ok(())
+    }
+
+    /// Takes a character, by the reference that is held if there is one.
+    fn advance(&mut self, c: char) -> Result<ProcessResult<Sink::Handle>, ParseFault>
+        requires sound { Sink.is_sound (Sink.view self.old.sink) }
+        requires fits { fits_in self.old.char_ref self.old.state ≡ true }
+        ensures { Keeps Sink.step Sink.view Sink.asks_cdata Sink.ended Sink.is_sound Sink.number Sink.has_failed self.old self.new c result }
+    {
+        match self.char_ref.take() {
+            Some(held) => self.reference_state(held, c),
+            None => self.step(c),
+        }
+    }
+
+    /// Takes a character, and counts its line.
+    pub(crate) fn take(&mut self, c: char) -> Result<ProcessResult<Sink::Handle>, ParseFault>
+        requires sound { Sink.is_sound (Sink.view self.old.sink) }
+        requires fits { fits_in self.old.char_ref self.old.state ≡ true }
+        ensures { Passes Sink.step Sink.view Sink.asks_cdata Sink.ended Sink.is_sound Sink.number Sink.has_failed self.old self.new c result }
+    {
+        self.tell_forbidden(c)?;
+        let result = self.advance(c)?;
+        self.stream.count_break(c);
+        Ok(result)
+    }
+}

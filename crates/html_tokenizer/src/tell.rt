@@ -1,0 +1,133 @@
+//! How the machine speaks to its sink.
+ghost use Rattle.std.specs.Prelude.{◌≡◌, ◌∷◌, []};
+ghost use Rattle.html_tokens.specs.declared.token.Token.TheVariants.{CharacterTokens, CommentToken};
+ghost use Rattle.html_tokens.specs.Characters.{shown};
+ghost use Rattle.html_tokens.specs.Reading.{line_number};
+ghost use Rattle.html_tokenizer.specs.Steps.{IsNoTag, Tells, Errs, EndsTag};
+
+use crate::tokenizer::Tokenizer;
+use html_tokens::sink::TokenSink;
+use html_tokens::states::State;
+use html_tokens::{ProcessResult, Tag, TagKind, Token, TokenSinkResult};
+use markup::{Attributes, LocalName, ParseFault, Text};
+use std::alloc::Global;
+use std::borrow::CowStr;
+use std::mem;
+
+/// A text of no characters, which takes no memory.
+pub(crate) fn empty(alloc: Global) -> Text
+    ensures { result ≡ [] }
+{
+    Text::new(String::new(alloc))
+}
+
+impl<Sink: TokenSink> Tokenizer<Sink> {
+    /// The line on which the next character stands, counted from 1.
+    pub(crate) fn line(&self) -> u64
+        ensures { result ≡ line_number self.now.stream.breaks }
+    {
+        self.stream.breaks.saturating_add(1)
+    }
+
+    /// Hands out a token that is no tag.
+    pub(crate) fn tell(&mut self, token: Token) -> Result<(), ParseFault>
+        requires no_tag { IsNoTag token }
+        requires sound { Sink.is_sound (Sink.view self.old.sink) }
+        ensures { Tells Sink.step Sink.view Sink.asks_cdata Sink.ended Sink.is_sound Sink.number Sink.has_failed token self.old self.new result }
+    {
+        let line = self.line();
+        let _reply = self.sink.process_token(token, line)?;
+        Ok(())
+    }
+
+    /// Tells of a parse error.
+    pub(crate) fn tell_error(&mut self, message: &'static str) -> Result<(), ParseFault>
+        requires sound { Sink.is_sound (Sink.view self.old.sink) }
+        ensures { Errs Sink.step Sink.view Sink.asks_cdata Sink.ended Sink.is_sound Sink.number Sink.has_failed self.old self.new result }
+    {
+        let line = self.line();
+        let _reply = self
+            .sink
+            .process_token(Token::ParseError(CowStr::Borrowed(message)), line)?;
+        Ok(())
+    }
+
+    /// Tells of an error, if there is one.
+    pub(crate) fn tell_fault(&mut self, fault: Option<&'static str>) -> Result<(), ParseFault>
+        requires sound { Sink.is_sound (Sink.view self.old.sink) }
+        ensures { Errs Sink.step Sink.view Sink.asks_cdata Sink.ended Sink.is_sound Sink.number Sink.has_failed self.old self.new result }
+    {
+        match fault {
+            Some(message) => self.tell_error(message),
+            None => Ok(()),
+        }
+    }
+
+    /// Tells of an error, where it is one.
+    pub(crate) fn tell_if(
+        &mut self,
+        is_fault: bool,
+        message: &'static str,
+    ) -> Result<(), ParseFault>
+        requires sound { Sink.is_sound (Sink.view self.old.sink) }
+        ensures { Errs Sink.step Sink.view Sink.asks_cdata Sink.ended Sink.is_sound Sink.number Sink.has_failed self.old self.new result }
+    {
+        if is_fault {
+            return self.tell_error(message);
+        }
+        Ok(())
+    }
+
+    /// Tells of U+0000.
+    pub(crate) fn tell_null(&mut self, c: char) -> Result<(), ParseFault>
+        requires sound { Sink.is_sound (Sink.view self.old.sink) }
+        ensures { Errs Sink.step Sink.view Sink.asks_cdata Sink.ended Sink.is_sound Sink.number Sink.has_failed self.old self.new result }
+    {
+        self.tell_if(c == '\0', "unexpected null character")
+    }
+
+    /// Hands out a character as text.
+    pub(crate) fn tell_char(&mut self, c: char) -> Result<(), ParseFault>
+        requires sound { Sink.is_sound (Sink.view self.old.sink) }
+        ensures { Tells Sink.step Sink.view Sink.asks_cdata Sink.ended Sink.is_sound Sink.number Sink.has_failed (CharacterTokens (c ∷ [])) self.old self.new result }
+    {
+        let mut text = empty(self.stream.alloc);
+        text.push(c)?;
+        self.tell(Token::CharacterTokens(text))
+    }
+
+    /// Tells of a parse error, and hands out the token that has it.
+    pub(crate) fn tell_faulty(
+        &mut self,
+        message: &'static str,
+        token: Token,
+    ) -> Result<(), ParseFault>
+        requires no_tag { IsNoTag token }
+        requires sound { Sink.is_sound (Sink.view self.old.sink) }
+        ensures { Tells Sink.step Sink.view Sink.asks_cdata Sink.ended Sink.is_sound Sink.number Sink.has_failed token self.old self.new result }
+    {
+        self.tell_error(message)?;
+        self.tell(token)
+    }
+
+    /// Hands out U+FFFD in place of U+0000, which is a parse error.
+    fn tell_replacement(&mut self) -> Result<(), ParseFault>
+        requires sound { Sink.is_sound (Sink.view self.old.sink) }
+        ensures { Tells Sink.step Sink.view Sink.asks_cdata Sink.ended Sink.is_sound Sink.number Sink.has_failed (CharacterTokens (0xFFFD ∷ [])) self.old self.new result }
+    {
+        self.tell_error("unexpected null character")?;
+        self.tell_char('\u{FFFD}')
+    }
+
+    /// Hands out a character of text in which U+FFFD stands for U+0000.
+    pub(crate) fn tell_shown(&mut self, c: char) -> Result<(), ParseFault>
+        requires sound { Sink.is_sound (Sink.view self.old.sink) }
+        ensures { Tells Sink.step Sink.view Sink.asks_cdata Sink.ended Sink.is_sound Sink.number Sink.has_failed (CharacterTokens (shown c ∷ [])) self.old self.new result }
+    {
+        if c == '\0' {
+            self.tell_replacement()
+        } else {
+            self.tell_char(c)
+        }
+    }
+}

@@ -1,0 +1,88 @@
+//! Runs of text, which are taken at once.
+ghost use Rattle.std.specs.Prelude.{◌≡◌, IfSome};
+ghost use Rattle.html_tokenizer.specs.Stops as stops;
+ghost use Rattle.html_tokenizer.specs.Stops.{HasBreaks, IsRunAt};
+ghost use Rattle.html_tokenizer.specs.Calls.{KeepsRun};
+
+use crate::tokenizer::Tokenizer;
+use html_queue::SmallCharSet;
+use html_tokens::Token;
+use html_tokens::sink::TokenSink;
+use html_tokens::states::{AttrValueKind, RawKind, State};
+use markup::{ParseFault, Text};
+
+/// NUL, line feed and carriage return.
+const BREAKS: u64 = 1 << 0 | 1 << 10 | 1 << 13;
+
+/// The characters of raw text of this kind that are no plain text.
+fn raw_stops(kind: RawKind) -> SmallCharSet
+    ensures { result ≡ stops.raw_stops kind }
+{
+    match kind {
+        RawKind::Rcdata => SmallCharSet {
+            bits: BREAKS | 1 << 38 | 1 << 60,
+        },
+        RawKind::Rawtext | RawKind::ScriptData => SmallCharSet {
+            bits: BREAKS | 1 << 60,
+        },
+        RawKind::ScriptDataEscaped(_) => SmallCharSet {
+            bits: BREAKS | 1 << 45 | 1 << 60,
+        },
+    }
+}
+
+/// The characters of a quoted value that end it or do not stand for themselves.
+fn value_stops(kind: AttrValueKind) -> Option<SmallCharSet>
+    ensures is { result ≡ stops.value_stops kind }
+    ensures breaks { IfSome result HasBreaks }
+{
+    match kind {
+        AttrValueKind::Unquoted => None,
+        AttrValueKind::SingleQuoted => Some(SmallCharSet {
+            bits: BREAKS | 1 << 38 | 1 << 39,
+        }),
+        AttrValueKind::DoubleQuoted => Some(SmallCharSet {
+            bits: BREAKS | 1 << 34 | 1 << 38,
+        }),
+    }
+}
+
+impl<Sink: TokenSink> Tokenizer<Sink> {
+    /// The characters at which a run of plain text ends, where such runs are read.
+    pub(crate) fn stops(&self) -> Option<SmallCharSet>
+        ensures exact { result ≡ stops.stops_of self.now.stream.exact_errors self.now.char_ref self.now.state }
+        ensures breaks { IfSome result HasBreaks }
+    {
+        if self.stream.exact_errors || self.char_ref.is_some() {
+            return None;
+        }
+        match self.state {
+            State::Data => Some(SmallCharSet {
+                bits: BREAKS | 1 << 38 | 1 << 60,
+            }),
+            State::Plaintext => Some(SmallCharSet { bits: BREAKS }),
+            State::RawData(kind) => Some(raw_stops(kind)),
+            State::AttributeValue(kind) => value_stops(kind),
+            State::BogusComment => Some(SmallCharSet {
+                bits: BREAKS | 1 << 62,
+            }),
+            State::Comment => Some(SmallCharSet {
+                bits: BREAKS | 1 << 45,
+            }),
+            _ => None,
+        }
+    }
+
+    /// Takes a run of characters of which none is a stop.
+    pub(crate) fn take_run(&mut self, run: Text) -> Result<(), ParseFault>
+        requires run { IsRunAt self.old run }
+        requires sound { Sink.is_sound (Sink.view self.old.sink) }
+        ensures { KeepsRun Sink.step Sink.view Sink.asks_cdata Sink.ended Sink.is_sound Sink.number Sink.has_failed self.old self.new run result }
+    {
+        match self.state {
+            State::AttributeValue(_) => self.attribute_value.append(&run),
+            State::BogusComment | State::Comment => self.comment.append(&run),
+            _ => self.tell(Token::CharacterTokens(run)),
+        }
+    }
+}

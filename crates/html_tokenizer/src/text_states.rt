@@ -1,0 +1,99 @@
+//! Text outside of raw text (HTML Standard, sections 13.2.5.1 and 13.2.5.5).
+ghost use Rattle.std.specs.Prelude.{◌∷◌, []};
+ghost use Rattle.html_tokens.specs.declared.states.State.TheVariants as state;
+ghost use Rattle.html_tokens.specs.declared.token.Token.TheVariants.{CharacterTokens, NullCharacterToken};
+ghost use Rattle.html_tokens.specs.Characters.{shown};
+ghost use Rattle.html_tokenizer.specs.Steps.{IsAt, Tells, TakesAs, Keeps};
+
+use crate::held_reference::HeldReference;
+use crate::tell::empty;
+use crate::tokenizer::Tokenizer;
+use html_tokens::sink::TokenSink;
+use html_tokens::states::State;
+use html_tokens::{ProcessResult, Token};
+use markup::ParseFault;
+
+impl<Sink: TokenSink> Tokenizer<Sink> {
+    /// Section 13.2.5.1.
+    pub(crate) fn data_state(&mut self, c: char) -> Result<ProcessResult<Sink::Handle>, ParseFault>
+        requires at { IsAt self.old state.Data }
+        requires sound { Sink.is_sound (Sink.view self.old.sink) }
+        ensures { Keeps Sink.step Sink.view Sink.asks_cdata Sink.ended Sink.is_sound Sink.number Sink.has_failed self.old self.new c result }
+    {
+        if c == '<' {
+            self.state = State::TagOpen;
+            return Ok(ProcessResult::Continue);
+        }
+        if c == '&' {
+            self.char_ref = Some(HeldReference::new(self.stream.alloc));
+            return Ok(ProcessResult::Continue);
+        }
+        if c == '\0' {
+            return self.take_null();
+        }
+        self.take_char(c)
+    }
+
+    /// Section 13.2.5.5.
+    pub(crate) fn plaintext_state(
+        &mut self,
+        c: char,
+    ) -> Result<ProcessResult<Sink::Handle>, ParseFault>
+        requires at { IsAt self.old state.Plaintext }
+        requires sound { Sink.is_sound (Sink.view self.old.sink) }
+        ensures { Keeps Sink.step Sink.view Sink.asks_cdata Sink.ended Sink.is_sound Sink.number Sink.has_failed self.old self.new c result }
+    {
+        self.take_shown(c)
+    }
+
+    /// Hands out a character of text, and goes on.
+    pub(crate) fn take_char(&mut self, c: char) -> Result<ProcessResult<Sink::Handle>, ParseFault>
+        requires sound { Sink.is_sound (Sink.view self.old.sink) }
+        ensures { TakesAs Sink.step Sink.view Sink.asks_cdata Sink.ended Sink.is_sound Sink.number Sink.has_failed (CharacterTokens (c ∷ [])) self.old self.new result }
+    {
+        self.tell_char(c)?;
+        Ok(ProcessResult::Continue)
+    }
+
+    /// Hands out a character of text in which U+FFFD stands for U+0000, and goes on.
+    pub(crate) fn take_shown(&mut self, c: char) -> Result<ProcessResult<Sink::Handle>, ParseFault>
+        requires sound { Sink.is_sound (Sink.view self.old.sink) }
+        ensures { TakesAs Sink.step Sink.view Sink.asks_cdata Sink.ended Sink.is_sound Sink.number Sink.has_failed (CharacterTokens (shown c ∷ [])) self.old self.new result }
+    {
+        self.tell_shown(c)?;
+        Ok(ProcessResult::Continue)
+    }
+
+    /// Hands out U+0000 for its reader to decide on, and goes on.
+    pub(crate) fn take_null(&mut self) -> Result<ProcessResult<Sink::Handle>, ParseFault>
+        requires sound { Sink.is_sound (Sink.view self.old.sink) }
+        ensures { TakesAs Sink.step Sink.view Sink.asks_cdata Sink.ended Sink.is_sound Sink.number Sink.has_failed NullCharacterToken self.old self.new result }
+    {
+        self.tell_faulty("unexpected null character", Token::NullCharacterToken)?;
+        Ok(ProcessResult::Continue)
+    }
+
+    /// Hands out two characters as text.
+    pub(crate) fn tell_two(&mut self, first: char, second: char) -> Result<(), ParseFault>
+        requires sound { Sink.is_sound (Sink.view self.old.sink) }
+        ensures { Tells Sink.step Sink.view Sink.asks_cdata Sink.ended Sink.is_sound Sink.number Sink.has_failed (CharacterTokens (first ∷ second ∷ [])) self.old self.new result }
+    {
+        let mut text = empty(self.stream.alloc);
+        text.push(first)?;
+        text.push(second)?;
+        self.tell(Token::CharacterTokens(text))
+    }
+
+    /// Hands out two characters as text, and goes on.
+    pub(crate) fn take_two(
+        &mut self,
+        first: char,
+        second: char,
+    ) -> Result<ProcessResult<Sink::Handle>, ParseFault>
+        requires sound { Sink.is_sound (Sink.view self.old.sink) }
+        ensures { TakesAs Sink.step Sink.view Sink.asks_cdata Sink.ended Sink.is_sound Sink.number Sink.has_failed (CharacterTokens (first ∷ second ∷ [])) self.old self.new result }
+    {
+        self.tell_two(first, second)?;
+        Ok(ProcessResult::Continue)
+    }
+}

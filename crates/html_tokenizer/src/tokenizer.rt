@@ -1,0 +1,59 @@
+//! What a tokenizer holds between two characters.
+
+use crate::held_reference::HeldReference;
+use crate::keyword::Keyword;
+use crate::letters::Letters;
+use html_references::References;
+use html_tokens::states::State;
+use html_tokens::{Doctype, Tag};
+use markup::Text;
+use std::alloc::Global;
+
+/// What a tokenizer knows of its input wherever it stands.
+#[derive(Drop)]
+pub struct Stream {
+    pub(crate) alloc: Global,
+    /// The named references.
+    pub(crate) table: References,
+    /// Whether control characters and noncharacters are told as errors.
+    pub(crate) exact_errors: bool,
+    /// Whether a byte order mark may still come, which is dropped.
+    pub(crate) discard_bom: bool,
+    /// Whether a line feed is dropped, since it stands behind a carriage return.
+    pub(crate) ignore_lf: bool,
+    /// How many line breaks were read. At u64::MAX the number stays.
+    pub(crate) breaks: u64,
+    /// Whether the end of the input was told.
+    pub(crate) has_ended: bool,
+    /// Whether a fault ended the tokenizing.
+    pub(crate) has_failed: bool,
+}
+
+/// A tokenizer, with what takes its tokens.
+#[derive(Drop)]
+pub struct Tokenizer<Sink> {
+    /// What takes the tokens.
+    pub sink: Sink,
+    pub(crate) stream: Stream,
+    pub(crate) state: State,
+    /// What stands behind the `&` of a reference that may go on.
+    pub(crate) char_ref: Option<HeldReference>,
+    /// The name of the last start tag, if one was told.
+    pub(crate) last_start_tag: Option<Text>,
+    /// The tag that is read.
+    pub(crate) tag: Tag,
+    /// The name of the attribute that is read.
+    pub(crate) attribute_name: Text,
+    /// The value of the attribute that is read.
+    pub(crate) attribute_value: Text,
+    /// The comment that is read.
+    pub(crate) comment: Text,
+    /// The doctype that is read.
+    pub(crate) doctype: Doctype,
+    /// Characters that were read of a name or an identifier.
+    pub(crate) temporary: Text,
+    /// The letters that were read of the name of an end tag, or of `script`.
+    pub(crate) word: Letters,
+    /// What was read of a word behind `<!` or behind a doctype's name.
+    pub(crate) keyword: Keyword,
+}

@@ -1,0 +1,208 @@
+//! What the calls answer before, at and behind the end of the input.
+
+ghost use Rattle.std.specs.Prelude.{IfOk};
+ghost use Rattle.html_tokenizer.specs.Calls.{IsReadyIf, refusal};
+
+use super::words::in_words;
+use super::{PAGE, Setting, Table, feed_piece, list_of, tokenizer_over};
+use html_tokenizer::{BufferQueue, State, TokenSink, Tokenizer};
+use html_tokens::states::RawKind;
+use markup::ParseFault;
+use std::alloc::Global;
+use std::process::Abort;
+use std::test::Fail;
+
+/// A tokenizer of a page that was fed a text.
+fn behind<S: TokenSink + Drop>(
+    alloc: Global,
+    sink: S,
+    text: &str,
+) -> Result<Tokenizer<S>, ParseFault>
+    requires { S.is_sound (S.view sink) }
+    ensures { IfOk result (λ k. IsReadyIf S.step S.view S.asks_cdata S.ended S.is_sound S.number S.has_failed (refusal k.stream) k) }
+{
+    let mut tokenizer = tokenizer_over(alloc, sink, PAGE)?;
+    let mut input = BufferQueue::new();
+    feed_piece(&mut tokenizer, &mut input, String::from_str(alloc, text)?)?;
+    Ok(tokenizer)
+}
+
+// Texts, and whether nothing is pending behind them.
+const PENDING: [(&str, bool); 20] = [
+    ("", true),
+    ("a", true),
+    ("a\r", true),
+    ("<", false),
+    ("</", false),
+    ("<a", false),
+    ("<a b='c", false),
+    ("<a b='&", false),
+    ("<a>", true),
+    ("&", false),
+    ("&am", false),
+    ("&amp; ", true),
+    ("<!--a", false),
+    ("<!doctype", false),
+    ("<?a", false),
+    ("<title>a", true),
+    ("<title>a</titl", false),
+    ("<title>&", false),
+    ("<script><!-- ", false),
+    ("<plaintext>&</plaintext", true),
+];
+
+/// Sees whether nothing is pending behind a text.
+fn assert_pending<S: TokenSink + Drop>(
+    rt: &impl Abort,
+    alloc: Global,
+    sink: S,
+    row: (&str, bool),
+) -> Result<(), ParseFault>
+    requires { S.is_sound (S.view sink) }
+{
+    let (text, nothing_pending) = row;
+    let tokenizer = behind(alloc, sink, text)?;
+    assert_eq!(rt; tokenizer.nothing_pending(), nothing_pending, "{text}");
+    assert!(rt; !tokenizer.has_ended(), "{text}");
+    Ok(())
+}
+
+#[test]
+fn parts_of_items_are_pending(rt: HostRuntime) -> Result<(), Fail> {
+    for row in PENDING {
+        assert_pending(&rt, rt.alloc(), list_of(rt.alloc(), PAGE), row)?;
+    }
+    Ok(())
+}
+
+/// Sees that nothing is pending where nothing was read.
+fn assert_at_start<S: TokenSink + Drop>(
+    rt: &impl Abort,
+    alloc: Global,
+    sink: S,
+    setting: Setting,
+) -> Result<(), ParseFault>
+    requires { S.is_sound (S.view sink) }
+{
+    let tokenizer = tokenizer_over(alloc, sink, setting)?;
+    assert!(rt; tokenizer.nothing_pending() && !tokenizer.has_ended());
+    Ok(())
+}
+
+const STARTS: [State; 3] = [
+    State::Data,
+    State::Plaintext,
+    State::RawData(RawKind::Rcdata),
+];
+
+#[test]
+fn nothing_is_pending_at_the_start(rt: HostRuntime) -> Result<(), Fail> {
+    for state in STARTS {
+        let setting = Setting {
+            initial_state: Some(state),
+            table: Table::Not,
+            ..PAGE
+        };
+        assert_at_start(&rt, rt.alloc(), list_of(rt.alloc(), setting), setting)?;
+    }
+    Ok(())
+}
+
+/// Sees that a tokenizer that told the end refuses every call.
+fn assert_ended<S: TokenSink>(
+    rt: &impl Abort,
+    tokenizer: &mut Tokenizer<S>,
+    input: &mut BufferQueue,
+)
+    requires { IsReadyIf S.step S.view S.asks_cdata S.ended S.is_sound S.number S.has_failed (refusal tokenizer.old.stream) tokenizer.old }
+    ensures { IsReadyIf S.step S.view S.asks_cdata S.ended S.is_sound S.number S.has_failed (refusal tokenizer.new.stream) tokenizer.new }
+{
+    assert!(rt; tokenizer.has_ended() && !tokenizer.nothing_pending());
+    assert!(rt; matches!(tokenizer.feed(input), Err(ParseFault::Ended)));
+    assert!(rt; matches!(tokenizer.end(), Err(ParseFault::Ended)));
+}
+
+/// Ends a text, sees that each call behind that is refused, and hands out the sink.
+fn assert_refused_behind<S: TokenSink + Drop>(
+    rt: &impl Abort,
+    alloc: Global,
+    sink: S,
+    text: &str,
+    input: &mut BufferQueue,
+) -> Result<S, ParseFault>
+    requires { S.is_sound (S.view sink) }
+{
+    let mut tokenizer = behind(alloc, sink, text)?;
+    tokenizer.end()?;
+    assert_ended(rt, &mut tokenizer, input);
+    assert_ended(rt, &mut tokenizer, input);
+    Ok(tokenizer.sink)
+}
+
+#[test]
+fn calls_behind_the_end_are_refused(rt: HostRuntime) -> Result<(), Fail> {
+    let alloc = rt.alloc();
+    let mut input = BufferQueue::new();
+    input.push_back(String::from_str(alloc, "b")?)?;
+    let sink = assert_refused_behind(&rt, alloc, list_of(alloc, PAGE), "a<", &mut input)?;
+    assert!(rt; sink.has_ended);
+    assert_eq!(rt; input.next(), Some('b'));
+    assert!(rt; input.is_empty());
+    let words = in_words(alloc, &sink)?;
+    assert_eq!(rt; words.as_str(), "text \"a<\"; eof");
+    Ok(())
+}
+
+// What is read before all that follows is text, what is read then, and the tokens.
+const PLAIN: [(&str, &str, &str); 4] = [
+    ("a", "<b>&amp;", "text \"a<b>&amp;\"; eof"),
+    ("", "<", "text \"<\"; eof"),
+    ("<b>\r", "\n\0</b>", "start b; text \"\n\u{FFFD}</b>\"; eof"),
+    (
+        "<title>a",
+        "</title>",
+        "start title; text \"a</title>\"; eof",
+    ),
+];
+
+/// Has all that follows read as text, where nothing is pending.
+fn turn_plain<S: TokenSink>(tokenizer: &mut Tokenizer<S>) -> Result<(), ParseFault>
+    requires { IsReadyIf S.step S.view S.asks_cdata S.ended S.is_sound S.number S.has_failed (refusal tokenizer.old.stream) tokenizer.old }
+    ensures { IsReadyIf S.step S.view S.asks_cdata S.ended S.is_sound S.number S.has_failed (refusal tokenizer.new.stream) tokenizer.new }
+{
+    if !tokenizer.nothing_pending() {
+        return Err(ParseFault::Shape);
+    }
+    tokenizer.set_plaintext_state();
+    Ok(())
+}
+
+/// Reads a text and then one that is all text, and hands out the sink.
+fn read_plainly<S: TokenSink + Drop>(
+    rt: &impl Abort,
+    alloc: Global,
+    sink: S,
+    before: &str,
+    text: &str,
+) -> Result<S, ParseFault>
+    requires { S.is_sound (S.view sink) }
+{
+    let mut tokenizer = behind(alloc, sink, before)?;
+    turn_plain(&mut tokenizer)?;
+    let mut input = BufferQueue::new();
+    feed_piece(&mut tokenizer, &mut input, String::from_str(alloc, text)?)?;
+    assert!(rt; tokenizer.nothing_pending(), "{before}");
+    tokenizer.end()?;
+    Ok(tokenizer.sink)
+}
+
+#[test]
+fn all_that_follows_may_be_text(rt: HostRuntime) -> Result<(), Fail> {
+    let alloc = rt.alloc();
+    for (before, text, told) in PLAIN {
+        let sink = read_plainly(&rt, alloc, list_of(alloc, PAGE), before, text)?;
+        let words = in_words(alloc, &sink)?;
+        assert_eq!(rt; words.as_str(), told);
+    }
+    Ok(())
+}

@@ -1,0 +1,196 @@
+//! Text that only its own end tag ends, and text that nothing ends.
+
+use super::{PAGE, Row, Setting, assert_rows};
+use html_tokenizer::State;
+use html_tokens::states::RawKind;
+use std::test::Fail;
+
+const RAW_TEXTS: [Row; 13] = [
+    ("<title>a</title", "start title; text \"a</title\"; eof"),
+    ("<title>a</title ", "start title; text \"a\"; eof"),
+    (
+        "<title>a</titlex></title>",
+        "start title; text \"a</titlex>\"; end title; eof",
+    ),
+    (
+        "<title></titl></title\n>",
+        "start title; text \"</titl>\"; end title; eof",
+    ),
+    (
+        "<title><b></TITLE/>",
+        "start title; text \"<b>\"; end title /; eof",
+    ),
+    (
+        "<textarea>\r\n<!-- </textarea>",
+        "start textarea; text \"\n<!-- \"; end textarea; eof",
+    ),
+    ("<title>a<", "start title; text \"a<\"; eof"),
+    (
+        "<title></</title>",
+        "start title; text \"</\"; end title; eof",
+    ),
+    (
+        "<title>a\0</title>\0",
+        "start title; text \"a\u{FFFD}\"; end title; null; eof",
+    ),
+    (
+        "<style>&lt;</styl</STYLE >b",
+        "start style; text \"&lt;</styl\"; end style; text \"b\"; eof",
+    ),
+    (
+        "<style>a\0<</style>",
+        "start style; text \"a\u{FFFD}<\"; end style; eof",
+    ),
+    (
+        "<xmp></style></xmp><b>",
+        "start xmp; text \"</style>\"; end xmp; start b; eof",
+    ),
+    ("</title>&lt;", "end title; text \"<\"; eof"),
+];
+
+#[test]
+fn raw_text_ends_at_its_tag(rt: HostRuntime) -> Result<(), Fail> {
+    assert_rows(&rt, rt.alloc(), PAGE, &RAW_TEXTS)?;
+    Ok(())
+}
+
+const SCRIPTS: [Row; 10] = [
+    (
+        "<script>a<b</script>c",
+        "start script; text \"a<b\"; end script; text \"c\"; eof",
+    ),
+    (
+        "<script>&lt;</SCRIPT>&lt;",
+        "start script; text \"&lt;\"; end script; text \"<\"; eof",
+    ),
+    (
+        "<script><!--<script></script>--></script>x",
+        "start script; text \"<!--<script></script>-->\"; end script; text \"x\"; eof",
+    ),
+    (
+        "<script><!--></script>",
+        "start script; text \"<!-->\"; end script; eof",
+    ),
+    (
+        "<script><!-- <script> --></script>",
+        "start script; text \"<!-- <script> -->\"; end script; eof",
+    ),
+    (
+        "<script><!--</script>",
+        "start script; text \"<!--\"; end script; eof",
+    ),
+    (
+        "<script><!--<script></script></script>",
+        "start script; text \"<!--<script></script>\"; end script; eof",
+    ),
+    (
+        "<script><!--<scriptx></script>",
+        "start script; text \"<!--<scriptx>\"; end script; eof",
+    ),
+    (
+        "<script><!-</script>",
+        "start script; text \"<!-\"; end script; eof",
+    ),
+    (
+        "<script><!--<SCRIPT/>\0-\0--\0<</scrip></script x>\0</script>",
+        "start script; text \"<!--<SCRIPT/>\u{FFFD}-\u{FFFD}--\u{FFFD}<</scrip></script x>\u{FFFD}\"; end script; eof",
+    ),
+];
+
+#[test]
+fn scripts_may_hold_scripts(rt: HostRuntime) -> Result<(), Fail> {
+    assert_rows(&rt, rt.alloc(), PAGE, &SCRIPTS)?;
+    Ok(())
+}
+
+const CUT_SCRIPTS: [Row; 9] = [
+    ("<script>a", "start script; text \"a\"; eof"),
+    ("<script><", "start script; text \"<\"; eof"),
+    ("<script></", "start script; text \"</\"; eof"),
+    ("<script></Sc", "start script; text \"</Sc\"; eof"),
+    ("<script><!-", "start script; text \"<!-\"; eof"),
+    ("<script><!--a-", "start script; text \"<!--a-\"; eof"),
+    ("<script><!--<", "start script; text \"<!--<\"; eof"),
+    (
+        "<script><!--<script",
+        "start script; text \"<!--<script\"; eof",
+    ),
+    (
+        "<script><!--<script></Scr",
+        "start script; text \"<!--<script></Scr\"; eof",
+    ),
+];
+
+#[test]
+fn scripts_may_miss_their_end(rt: HostRuntime) -> Result<(), Fail> {
+    assert_rows(&rt, rt.alloc(), PAGE, &CUT_SCRIPTS)?;
+    Ok(())
+}
+
+const PLAIN_TEXTS: [Row; 2] = [
+    (
+        "<plaintext>&lt;</plaintext>\0",
+        "start plaintext; text \"&lt;</plaintext>\u{FFFD}\"; eof",
+    ),
+    (
+        "<plaintext><a>\r\n<",
+        "start plaintext; text \"<a>\n<\"; eof",
+    ),
+];
+
+#[test]
+fn plain_text_has_no_end(rt: HostRuntime) -> Result<(), Fail> {
+    assert_rows(&rt, rt.alloc(), PAGE, &PLAIN_TEXTS)?;
+    Ok(())
+}
+
+const IN_RCDATA: Setting = Setting {
+    initial_state: Some(State::RawData(RawKind::Rcdata)),
+    ..PAGE
+};
+
+const NAMED_FRAGMENTS: [Row; 3] = [
+    ("a&lt;</title>b", "text \"a<\"; end title; text \"b\"; eof"),
+    ("a</Title >b", "text \"a\"; end title; text \"b\"; eof"),
+    ("a</style>", "text \"a</style>\"; eof"),
+];
+
+#[test]
+fn reading_begins_in_raw_text(rt: HostRuntime) -> Result<(), Fail> {
+    let setting = Setting {
+        last_start_tag: Some("title"),
+        ..IN_RCDATA
+    };
+    assert_rows(&rt, rt.alloc(), setting, &NAMED_FRAGMENTS)?;
+    Ok(())
+}
+
+const NAMELESS_FRAGMENTS: [Row; 2] = [
+    ("a&lt;</title>b", "text \"a<</title>b\"; eof"),
+    ("a</>", "text \"a</>\"; eof"),
+];
+
+#[test]
+fn no_end_tag_fits_where_no_tag_began(rt: HostRuntime) -> Result<(), Fail> {
+    assert_rows(&rt, rt.alloc(), IN_RCDATA, &NAMELESS_FRAGMENTS)?;
+    Ok(())
+}
+
+const STARTS: [(State, &str); 4] = [
+    (State::Data, "text \"<\"; start b; eof"),
+    (State::Plaintext, "text \"&lt;<b>\"; eof"),
+    (State::RawData(RawKind::Rawtext), "text \"&lt;<b>\"; eof"),
+    (State::RawData(RawKind::ScriptData), "text \"&lt;<b>\"; eof"),
+];
+
+#[test]
+fn reading_begins_in_any_text(rt: HostRuntime) -> Result<(), Fail> {
+    for (state, told) in STARTS {
+        let setting = Setting {
+            initial_state: Some(state),
+            ..PAGE
+        };
+        assert_rows(&rt, rt.alloc(), setting, &[("&lt;<b>", told)])?;
+    }
+    Ok(())
+}

@@ -1,0 +1,105 @@
+//! Character references.
+
+use super::{PAGE, Row, Setting, Table, assert_rows};
+use std::test::Fail;
+
+const NUMBERS: [Row; 12] = [
+    (
+        "&#x80;&#0;&#xD800;&#x110000;&#13x&#x;",
+        "text \"€\u{FFFD}\u{FFFD}\u{FFFD}\rx&#x;\"; eof",
+    ),
+    ("&#65;&#65&#x41;&#X4a", "text \"AAAJ\"; eof"),
+    ("&#65b&#x41g", "text \"AbAg\"; eof"),
+    ("&#0065;;", "text \"A;\"; eof"),
+    ("&#x1F600;&#x10FFFF;", "text \"\u{1F600}\u{10FFFF}\"; eof"),
+    ("&#128;&#x9F;&#x81;", "text \"€Ÿ\u{81}\"; eof"),
+    ("&#xFDD0;&#1;", "text \"\u{FDD0}\u{1}\"; eof"),
+    ("&#99999999999999999999;", "text \"\u{FFFD}\"; eof"),
+    ("&#xFFFFFFFFFFFFFFFF41;", "text \"\u{FFFD}\"; eof"),
+    ("&#xDFFF;&#xE000;", "text \"\u{FFFD}\u{E000}\"; eof"),
+    ("&#", "text \"&#\"; eof"),
+    ("&#;&#x&#xg;&#a", "text \"&#;&#x&#xg;&#a\"; eof"),
+];
+
+#[test]
+fn numbers_stand_for_characters(rt: HostRuntime) -> Result<(), Fail> {
+    assert_rows(&rt, rt.alloc(), PAGE, &NUMBERS)?;
+    Ok(())
+}
+
+const FIVE_NAMES: [Row; 10] = [
+    ("&amp&amp;", "text \"&amp&\"; eof"),
+    ("&amp;&lt;&gt;&quot;&nbsp;", "text \"&<>\"\u{A0}\"; eof"),
+    ("&amp;amp;", "text \"&amp;\"; eof"),
+    ("&ampx;&AMP;", "text \"&ampx;&AMP;\"; eof"),
+    ("&", "text \"&\"; eof"),
+    ("&&amp;& &;", "text \"&&& &;\"; eof"),
+    ("&am<a>&", "text \"&am\"; start a; text \"&\"; eof"),
+    ("&lt\r\n;&é", "text \"&lt\n;&é\"; eof"),
+    (
+        "<title>&lt;&#65</title>",
+        "start title; text \"<A\"; end title; eof",
+    ),
+    (
+        "<title>&am</title>&",
+        "start title; text \"&am\"; end title; text \"&\"; eof",
+    ),
+];
+
+#[test]
+fn names_stand_for_characters(rt: HostRuntime) -> Result<(), Fail> {
+    assert_rows(&rt, rt.alloc(), PAGE, &FIVE_NAMES)?;
+    Ok(())
+}
+
+const VALUES: [Row; 6] = [
+    (
+        "<a b=&lt; c='&amp' d=\"&#65\">",
+        "start a b=\"<\" c=\"&amp\" d=\"A\"; eof",
+    ),
+    ("<a b=&amp>c", "start a b=\"&amp\"; text \"c\"; eof"),
+    ("<a b='&lt;&gt;x' c=&>", "start a b=\"<>x\" c=\"&\"; eof"),
+    ("<a b=\"&#x41=&#65x\">", "start a b=\"A=Ax\"; eof"),
+    ("<a b='&", "eof"),
+    ("<a &lt;=1>", "start a &lt;=\"1\"; eof"),
+];
+
+#[test]
+fn references_stand_in_values(rt: HostRuntime) -> Result<(), Fail> {
+    assert_rows(&rt, rt.alloc(), PAGE, &VALUES)?;
+    Ok(())
+}
+
+const LONGEST_NAMES: [Row; 9] = [
+    ("&notit;&notin;", "text \"¬it;∉\"; eof"),
+    (
+        "<a b=\"&notit\" c=\"&not=\" d=\"&not\">",
+        "start a b=\"&notit\" c=\"&not=\" d=\"¬\"; eof",
+    ),
+    (
+        "<a b=&not c=&notin; d='&not;'>",
+        "start a b=\"¬\" c=\"∉\" d=\"¬;\"; eof",
+    ),
+    (
+        "<a b='&notin' c='&not1'>",
+        "start a b=\"&notin\" c=\"&not1\"; eof",
+    ),
+    ("<a b='&not&not-'>", "start a b=\"¬¬-\"; eof"),
+    ("&no&not", "text \"&no¬\"; eof"),
+    ("&noti", "text \"¬i\"; eof"),
+    ("&notin", "text \"¬in\"; eof"),
+    (
+        "<title>&not=&Not</title>",
+        "start title; text \"¬=&Not\"; end title; eof",
+    ),
+];
+
+#[test]
+fn the_longest_name_counts(rt: HostRuntime) -> Result<(), Fail> {
+    let setting = Setting {
+        table: Table::Not,
+        ..PAGE
+    };
+    assert_rows(&rt, rt.alloc(), setting, &LONGEST_NAMES)?;
+    Ok(())
+}

@@ -1,0 +1,100 @@
+//! Text of no special kind, and CDATA sections.
+
+use super::{PAGE, Row, Setting, assert_rows};
+use std::test::Fail;
+
+const TEXTS: [Row; 14] = [
+    ("", "eof"),
+    ("a", "text \"a\"; eof"),
+    ("a<b c", "text \"a\"; eof"),
+    ("a < b", "text \"a < b\"; eof"),
+    ("a<", "text \"a<\"; eof"),
+    ("a</", "text \"a</\"; eof"),
+    ("<>", "text \"<>\"; eof"),
+    ("<<a>", "text \"<\"; start a; eof"),
+    ("<1>é€\u{1F600}", "text \"<1>é€\u{1F600}\"; eof"),
+    ("\u{1}a", "text \"\u{1}a\"; eof"),
+    ("a\0b\0", "text \"a\"; null; text \"b\"; null; eof"),
+    ("<\0&\0", "text \"<\"; null; text \"&\"; null; eof"),
+    ("a\r\nb\rc\nd\r\r\n\n", "text \"a\nb\nc\nd\n\n\n\"; eof"),
+    (
+        "a\r<b>\r\n</b>",
+        "text \"a\n\"; start b; text \"\n\"; end b; eof",
+    ),
+];
+
+#[test]
+fn texts_are_joined(rt: HostRuntime) -> Result<(), Fail> {
+    assert_rows(&rt, rt.alloc(), PAGE, &TEXTS)?;
+    Ok(())
+}
+
+const MARKS: [Row; 5] = [
+    ("\u{FEFF}", "eof"),
+    ("\u{FEFF}a\r\n\u{FEFF}b", "text \"a\n\u{FEFF}b\"; eof"),
+    ("\u{FEFF}\u{FEFF}", "text \"\u{FEFF}\"; eof"),
+    ("\u{FEFF}\r\na", "text \"\na\"; eof"),
+    ("<a \u{FEFF}>", "start a \u{FEFF}=\"\"; eof"),
+];
+
+#[test]
+fn the_mark_at_the_front_is_dropped(rt: HostRuntime) -> Result<(), Fail> {
+    assert_rows(&rt, rt.alloc(), PAGE, &MARKS)?;
+    Ok(())
+}
+
+const KEPT_MARKS: [Row; 2] = [
+    ("\u{FEFF}", "text \"\u{FEFF}\"; eof"),
+    (
+        "\u{FEFF}a\r\n\u{FEFF}b",
+        "text \"\u{FEFF}a\n\u{FEFF}b\"; eof",
+    ),
+];
+
+#[test]
+fn the_mark_at_the_front_is_kept(rt: HostRuntime) -> Result<(), Fail> {
+    let setting = Setting {
+        discard_bom: false,
+        ..PAGE
+    };
+    assert_rows(&rt, rt.alloc(), setting, &KEPT_MARKS)?;
+    Ok(())
+}
+
+const SECTIONS: [Row; 11] = [
+    ("<![CDATA[a]]]>b", "text \"a]b\"; eof"),
+    ("<![CDATA[]]>", "eof"),
+    ("<![CDATA[a]]b]c]]]]>", "text \"a]]b]c]]\"; eof"),
+    ("<![CDATA[<b>&lt;]]><b>", "text \"<b>&lt;\"; start b; eof"),
+    ("<![CDATA[a", "text \"a\"; eof"),
+    ("<![CDATA[a]", "text \"a]\"; eof"),
+    ("<![CDATA[a]]", "text \"a]]\"; eof"),
+    ("<![CDATA[\0]\r\n]>", "null; text \"]\n]>\"; eof"),
+    ("<![CDATA", "comment \"[CDATA\"; eof"),
+    ("<![CDATA>a", "comment \"[CDATA\"; text \"a\"; eof"),
+    ("<![cdata[a]]>b", "comment \"[cdata[a]]\"; text \"b\"; eof"),
+];
+
+#[test]
+fn sections_are_text(rt: HostRuntime) -> Result<(), Fail> {
+    let setting = Setting {
+        asks_cdata: true,
+        ..PAGE
+    };
+    assert_rows(&rt, rt.alloc(), setting, &SECTIONS)?;
+    Ok(())
+}
+
+const NO_SECTIONS: [Row; 2] = [
+    (
+        "<![CDATA[a]]]>b",
+        "comment \"[CDATA[a]]]\"; text \"b\"; eof",
+    ),
+    ("<![CDATA[a", "comment \"[CDATA[a\"; eof"),
+];
+
+#[test]
+fn sections_are_comments_in_a_page(rt: HostRuntime) -> Result<(), Fail> {
+    assert_rows(&rt, rt.alloc(), PAGE, &NO_SECTIONS)?;
+    Ok(())
+}
