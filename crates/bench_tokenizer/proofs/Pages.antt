@@ -1,14 +1,17 @@
 -- Pages that are read in pieces.
-use Rattle.std.proofs.Common.{◌≡◌, ◌∙◌, ℕ, ◌==◌, Bool, true, List, [], ◌++◌, length, take, drop, Ok, sym, ap}
-use Rattle.std.specs.Prelude.{IsUtf8}
+use Rattle.std.proofs.Common.{◌≡◌, ◌∙◌, ℕ, ◌+◌, ◌==◌, ◌≤◌, Bool, true, List, [], ◌++◌, length, take, drop, Ok, sym, ap, subst, arith}
+use Rattle.std.specs.Prelude.{IsUtf8, min}
 use Rattle.std.specs.Str.{chars}
 use Rattle.std.proofs.lemmas.List.{nil_from_length, take-append-drop}
 use Rattle.std.proofs.lemmas.Bool.{eqb-true}
 use Rattle.std.proofs.lemmas.Str.{chars-append, chars-nil}
 use Rattle.html_tokenizer.specs.Calls.{EndGives, refusal}
+use Rattle.html_tokenizer.specs.Steps.{and_more}
 use Rattle.html_tokenizer.specs.declared.tokenizer.Tokenizer.{Tokenizer}
-use Rattle.bench_tokenizer.specs.Counts.{IsWithin, counted_by, step, ended, asks_cdata, number, has_failed}
-use Rattle.bench_tokenizer.specs.Readings.{Takes, page_reading, to_come}
+use Rattle.html_tokenizer.proofs.Rises.{more-sum}
+use Rattle.html_tokens.specs.Notes.{errors_of}
+use Rattle.bench_tokenizer.specs.Counts.{IsWithin, counted_by, step, ended, asks_cdata, number, has_failed, errors}
+use Rattle.bench_tokenizer.specs.Readings.{HasRead, Reads, IsCounted, page_reading, to_come}
 use Rattle.bench_tokenizer.specs.declared.counts.Counts.{Counts}
 
 -- the characters of a text that is cut are those of both parts
@@ -19,9 +22,30 @@ chars-cut bs n front = ap chars (sym (take-append-drop n bs)) ∙ chars-append (
 pub no-bytes : (rest : List ℕ) (b : Bool) → b ≡ (length rest == 0) → b ≡ true → rest ≡ []
 no-bytes rest b e t = nil_from_length rest (eqb-true (length rest) 0 (sym e ∙ t))
 
+-- where an error was told for each faulty item, and then one for each further one, one was told for each of them all
+told-all : (before rise m n : ℕ) → min before 0xffff_ffff_ffff_ffff ≤ m → min (m + rise) 0xffff_ffff_ffff_ffff ≤ n → min (and_more rise before) 0xffff_ffff_ffff_ffff ≤ n
+told-all before rise m n h k = let sum = more-sum rise before in omega (arith, sum, h, k)
+
+-- behind a text that a tokenizer read, what follows that text is the rest of the page
+pub read-on : (page text behind : List ℕ) (old new : Tokenizer Counts) → HasRead page old (text ++ behind) → Reads old new text → HasRead page new behind
+read-on page text behind old new read reads = record {
+  owed = and_more reads.owed read.owed;
+  told = told-all read.owed reads.owed old.sink.errors new.sink.errors read.told reads.rises.enough;
+  same = read.same ∙ reads.same read.owed behind;
+  takes = reads.takes;
+}
+
 -- where nothing of a page is left and the end is told, the numbers are those of the page
-pub whole-page : (k new : Tokenizer Counts) (page : List ℕ) (rest : List ℕ) → page_reading page ≡ to_come k (chars rest) → Takes k → rest ≡ []
-    → EndGives step counted_by asks_cdata ended IsWithin number has_failed (refusal k.stream) k new (Ok tt) → page_reading page ≡ Ok (counted_by new.sink, [])
-whole-page k new page rest read takes none gives =
-    let has_ended = rw takes.begun at gives in
-    read ∙ ap (λ r. to_come k (chars r)) none ∙ ap (to_come k) chars-nil ∙ has_ended.same []
+pub whole-page : (k new : Tokenizer Counts) (page : List ℕ) (rest : List ℕ) → HasRead page k (chars rest) → rest ≡ []
+    → EndGives step counted_by asks_cdata ended IsWithin number has_failed errors (refusal k.stream) k new (Ok tt) → IsCounted page new.sink
+whole-page k new page rest read none gives =
+    let has_ended = rw read.takes.begun at gives in
+    let owed = and_more has_ended.owed read.owed in
+    let told = told-all read.owed has_ended.owed k.sink.errors new.sink.errors read.told has_ended.rises.enough in
+    let whole : page_reading page ≡ Ok (counted_by new.sink, record { pauses = []; errors = owed }) =
+    read.same ∙ ap (λ r. to_come k read.owed (chars r)) none ∙ ap (to_come k read.owed) chars-nil ∙ has_ended.same (record { pauses = []; errors = read.owed }) in
+    let is_owed : errors_of (page_reading page) ≡ owed = ap errors_of whole in
+    record {
+      read = whole ∙ ap (λ n. Ok (counted_by new.sink, record { pauses = []; errors = n })) (sym is_owed);
+      told = subst (λ n. min n 0xffff_ffff_ffff_ffff ≤ new.sink.errors) (sym is_owed) told;
+    }

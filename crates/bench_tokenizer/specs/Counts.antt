@@ -55,6 +55,10 @@ number _ = 0
 abbrev pub has_failed : Counts → Bool
 has_failed c = false
 
+-- how many errors were told
+abbrev pub errors : Counts → ℕ
+errors c = c.errors
+
 -- a number of errors after a token
 abbrev pub error_counted : Token → ℕ → ℕ
 error_counted (ParseError _) errors = one_more errors

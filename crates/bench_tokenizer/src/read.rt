@@ -1,9 +1,8 @@
 //! Reading a page in pieces.
-ghost use Rattle.std.specs.Prelude.{◌≡◌, ◌++◌, ◌<◌, [], length, Ok, IfOk, OnOk};
+ghost use Rattle.std.specs.Prelude.{◌≡◌, ◌++◌, ◌<◌, [], length, IfOk, OnOk};
 ghost use Rattle.std.specs.Str.{chars};
 ghost use Rattle.std.specs.String.{string_bytes};
-ghost use Rattle.bench_tokenizer.specs.Counts.{counted_by};
-ghost use Rattle.bench_tokenizer.specs.Readings.{Reads, Takes, Begins, page_reading};
+ghost use Rattle.bench_tokenizer.specs.Readings.{Reads, Takes, Begins, IsCounted};
 
 use crate::counts::Counts;
 use html_tokenizer::{BufferQueue, References, Tokenizer, TokenizerOpts};
@@ -59,7 +58,7 @@ fn feed_text(
 
 /// Reads a page in pieces to its end, and counts what it says.
 pub(crate) fn read(alloc: Global, page: &str, exact_errors: bool) -> Result<Counts, ParseFault>
-    ensures { IfOk result (λ counts. page_reading (chars page.now) ≡ Ok (counted_by counts, [])) }
+    ensures { IfOk result (λ counts. IsCounted (chars page.now) counts) }
 {
     let mut tokenizer = tokenizer_of(alloc, exact_errors)?;
     let mut input = BufferQueue::new();

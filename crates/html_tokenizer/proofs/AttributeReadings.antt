@@ -1,11 +1,11 @@
 -- How an attribute is read, character by character.
 use Rattle.std.proofs.Common.{◌≡◌, ◌∙◌, ℕ, suc, ◌+◌, Bool, true, false, nat_eq, List, [], ◌∷◌, ◌++◌, take, drop, refl, sym, ap, append-nil, append_assoc}
 use Rattle.std.specs.Prelude.{codes}
+use Rattle.html_tokens.specs.Notes.{NotedStep}
 use Rattle.html_tokens.specs.declared.tags.Tag.{Tag}
 use Rattle.html_tokens.specs.Characters.{is_white_space, ends_attribute_name, ends_word, lowered, all_lowered, shown, run, white, begins}
 use Rattle.html_tokens.specs.Item.{InTag, Stand, moved, behind, behind_all, silent}
 use Rattle.html_tokens.specs.Reading.{line_break, reading, play}
-use Rattle.html_tokens.specs.Sink.{Step}
 use Rattle.html_tokens.specs.Table.{Row}
 use Rattle.html_tokens.specs.Tags.{with_attribute, attribute_after, equals_by, equals_at, value_at, opening, opened_by, value_from, quote_at, quoted_after, unquoted_after, no_value}
 use Rattle.html_tokenizer.proofs.Readings.{play-is, play-nothing}
@@ -61,65 +61,65 @@ pub unquoted-ends : (rows : List Row) (st : Stand) (tag : Tag) (name front : Lis
 unfolding value_from
 unquoted-ends rows st tag name front c t e = rw e (ap (λ value. silent 0 (moved st (InTag (with_attribute tag name value)))) (append-nil front))
 
-module _ {T : Type 0} (step : Step T) (cdata : T → Bool) (ends : T → T) (rows : List Row) where
+module _ {T : Type 0} (step : NotedStep T) (erred : T → T) (cdata : T → Bool) (ends : T → T) (rows : List Row) where
   -- a character of an attribute's name
   pub name-goes_on : (st : Stand) (tag : Tag) (front : List ℕ) (b : ℕ) (s : T) (c : ℕ) (t : List ℕ) → ends_attribute_name c ≡ false
-      → play step cdata ends rows (attribute_after rows st tag front (c ∷ t)) b s (c ∷ t) ≡ play step cdata ends rows (attribute_after rows st tag (front ++ lowered c ∷ []) t) (b + line_break (nat_eq c 10)) s t
+      → play step erred cdata ends rows (attribute_after rows st tag front (c ∷ t)) b s (c ∷ t) ≡ play step erred cdata ends rows (attribute_after rows st tag (front ++ lowered c ∷ []) t) (b + line_break (nat_eq c 10)) s t
   name-goes_on st tag front b s c t e =
       let n = run ends_attribute_name t in
-      play-is step cdata ends rows (attribute_after rows st tag front (c ∷ t)) (attribute_after rows st tag (front ++ lowered c ∷ []) t) b s c t
+      play-is step erred cdata ends rows (attribute_after rows st tag front (c ∷ t)) (attribute_after rows st tag (front ++ lowered c ∷ []) t) b s c t
       (rw e (ap (λ name. behind (behind_all n (equals_at rows st tag name (drop n t)))) (sym (append_assoc front (lowered c ∷ []) (all_lowered (take n t))))))
 
   -- white space before "=", or before what follows an attribute without value
   equals_by-space : (equals : Bool) (st : Stand) (tag : Tag) (name : List ℕ) (b : ℕ) (s : T) (c : ℕ) (t : List ℕ) → is_white_space c ≡ true
-      → play step cdata ends rows (equals_by equals rows st tag name (c ∷ t)) b s (c ∷ t) ≡ play step cdata ends rows (equals_by equals rows st tag name t) (b + line_break (nat_eq c 10)) s t
+      → play step erred cdata ends rows (equals_by equals rows st tag name (c ∷ t)) b s (c ∷ t) ≡ play step erred cdata ends rows (equals_by equals rows st tag name t) (b + line_break (nat_eq c 10)) s t
   equals_by-space true st tag name b s c t e =
-      play-is step cdata ends rows (equals_by true rows st tag name (c ∷ t)) (equals_by true rows st tag name t) b s c t
+      play-is step erred cdata ends rows (equals_by true rows st tag name (c ∷ t)) (equals_by true rows st tag name t) b s c t
       (ap (λ n. behind_all (suc n) (value_at rows st tag name (drop (suc n) (c ∷ t)))) (white-more c t e))
   equals_by-space false st tag name b s c t e =
       let next = with_attribute tag name [] in
-      play-nothing step cdata ends rows (moved st (InTag next)) b s (c ∷ t)
-      ∙ tag-space step cdata ends rows st next b s c t e
-      ∙ sym (play-nothing step cdata ends rows (moved st (InTag next)) (b + line_break (nat_eq c 10)) s t)
+      play-nothing step erred cdata ends rows (moved st (InTag next)) b s (c ∷ t)
+      ∙ tag-space step erred cdata ends rows st next b s c t e
+      ∙ sym (play-nothing step erred cdata ends rows (moved st (InTag next)) (b + line_break (nat_eq c 10)) s t)
 
   pub equals-space : (st : Stand) (tag : Tag) (name : List ℕ) (b : ℕ) (s : T) (c : ℕ) (t : List ℕ) → is_white_space c ≡ true
-      → play step cdata ends rows (equals_at rows st tag name (c ∷ t)) b s (c ∷ t) ≡ play step cdata ends rows (equals_at rows st tag name t) (b + line_break (nat_eq c 10)) s t
+      → play step erred cdata ends rows (equals_at rows st tag name (c ∷ t)) b s (c ∷ t) ≡ play step erred cdata ends rows (equals_at rows st tag name t) (b + line_break (nat_eq c 10)) s t
   equals-space st tag name b s c t e =
-      ap (λ n. play step cdata ends rows (equals_by (begins (codes "=") (drop n (c ∷ t))) rows st tag name (c ∷ t)) b s (c ∷ t)) (white-more c t e)
+      ap (λ n. play step erred cdata ends rows (equals_by (begins (codes "=") (drop n (c ∷ t))) rows st tag name (c ∷ t)) b s (c ∷ t)) (white-more c t e)
       ∙ equals_by-space (begins (codes "=") (drop (white t) t)) st tag name b s c t e
 
   pub equals-sign : (st : Stand) (tag : Tag) (name : List ℕ) (b : ℕ) (s : T) (t : List ℕ)
-      → play step cdata ends rows (equals_at rows st tag name (61 ∷ t)) b s (61 ∷ t) ≡ play step cdata ends rows (value_at rows st tag name t) (b + line_break (nat_eq 61 10)) s t
-  equals-sign st tag name b s t = play-is step cdata ends rows (equals_at rows st tag name (61 ∷ t)) (value_at rows st tag name t) b s 61 t refl
+      → play step erred cdata ends rows (equals_at rows st tag name (61 ∷ t)) b s (61 ∷ t) ≡ play step erred cdata ends rows (value_at rows st tag name t) (b + line_break (nat_eq 61 10)) s t
+  equals-sign st tag name b s t = play-is step erred cdata ends rows (equals_at rows st tag name (61 ∷ t)) (value_at rows st tag name t) b s 61 t refl
 
   -- white space before a value, and the quote that begins one
   pub value-space : (st : Stand) (tag : Tag) (name : List ℕ) (b : ℕ) (s : T) (c : ℕ) (t : List ℕ) → is_white_space c ≡ true
-      → play step cdata ends rows (value_at rows st tag name (c ∷ t)) b s (c ∷ t) ≡ play step cdata ends rows (value_at rows st tag name t) (b + line_break (nat_eq c 10)) s t
-  value-space st tag name b s c t e = play-is step cdata ends rows (value_at rows st tag name (c ∷ t)) (value_at rows st tag name t) b s c t (rw e refl)
+      → play step erred cdata ends rows (value_at rows st tag name (c ∷ t)) b s (c ∷ t) ≡ play step erred cdata ends rows (value_at rows st tag name t) (b + line_break (nat_eq c 10)) s t
+  value-space st tag name b s c t e = play-is step erred cdata ends rows (value_at rows st tag name (c ∷ t)) (value_at rows st tag name t) b s c t (rw e refl)
 
   pub value-quote : (st : Stand) (tag : Tag) (name : List ℕ) (b : ℕ) (s : T) (t : List ℕ)
-      → play step cdata ends rows (value_at rows st tag name (34 ∷ t)) b s (34 ∷ t) ≡ play step cdata ends rows (quoted_after rows 34 st tag name [] t) (b + line_break (nat_eq 34 10)) s t
-  value-quote st tag name b s t = play-is step cdata ends rows (value_at rows st tag name (34 ∷ t)) (quoted_after rows 34 st tag name [] t) b s 34 t refl
+      → play step erred cdata ends rows (value_at rows st tag name (34 ∷ t)) b s (34 ∷ t) ≡ play step erred cdata ends rows (quoted_after rows 34 st tag name [] t) (b + line_break (nat_eq 34 10)) s t
+  value-quote st tag name b s t = play-is step erred cdata ends rows (value_at rows st tag name (34 ∷ t)) (quoted_after rows 34 st tag name [] t) b s 34 t refl
 
   pub value-apostrophe : (st : Stand) (tag : Tag) (name : List ℕ) (b : ℕ) (s : T) (t : List ℕ)
-      → play step cdata ends rows (value_at rows st tag name (39 ∷ t)) b s (39 ∷ t) ≡ play step cdata ends rows (quoted_after rows 39 st tag name [] t) (b + line_break (nat_eq 39 10)) s t
-  value-apostrophe st tag name b s t = play-is step cdata ends rows (value_at rows st tag name (39 ∷ t)) (quoted_after rows 39 st tag name [] t) b s 39 t refl
+      → play step erred cdata ends rows (value_at rows st tag name (39 ∷ t)) b s (39 ∷ t) ≡ play step erred cdata ends rows (quoted_after rows 39 st tag name [] t) (b + line_break (nat_eq 39 10)) s t
+  value-apostrophe st tag name b s t = play-is step erred cdata ends rows (value_at rows st tag name (39 ∷ t)) (quoted_after rows 39 st tag name [] t) b s 39 t refl
 
   -- a character of a value that begins no reference
   pub quoted-goes_on : (quote : ℕ) (st : Stand) (tag : Tag) (name front : List ℕ) (b : ℕ) (s : T) (c : ℕ) (t : List ℕ) → nat_eq quote c ≡ false → nat_eq c 38 ≡ false
-      → play step cdata ends rows (quoted_after rows quote st tag name front (c ∷ t)) b s (c ∷ t) ≡ play step cdata ends rows (quoted_after rows quote st tag name (front ++ shown c ∷ []) t) (b + line_break (nat_eq c 10)) s t
+      → play step erred cdata ends rows (quoted_after rows quote st tag name front (c ∷ t)) b s (c ∷ t) ≡ play step erred cdata ends rows (quoted_after rows quote st tag name (front ++ shown c ∷ []) t) (b + line_break (nat_eq c 10)) s t
   quoted-goes_on quote st tag name front b s c t e f =
-      play-is step cdata ends rows (quoted_after rows quote st tag name front (c ∷ t)) (quoted_after rows quote st tag name (front ++ shown c ∷ []) t) b s c t (quoted-behind rows quote st tag name front c t e f)
+      play-is step erred cdata ends rows (quoted_after rows quote st tag name front (c ∷ t)) (quoted_after rows quote st tag name (front ++ shown c ∷ []) t) b s c t (quoted-behind rows quote st tag name front c t e f)
 
   -- the quote that ends a value
   pub quoted-closes : (quote : ℕ) (st : Stand) (tag : Tag) (name front : List ℕ) (b : ℕ) (s : T) (c : ℕ) (t : List ℕ) → nat_eq quote c ≡ true
-      → play step cdata ends rows (quoted_after rows quote st tag name front (c ∷ t)) b s (c ∷ t) ≡ reading step cdata ends rows (moved st (InTag (with_attribute tag name front))) (b + line_break (nat_eq c 10)) s t
+      → play step erred cdata ends rows (quoted_after rows quote st tag name front (c ∷ t)) b s (c ∷ t) ≡ reading step erred cdata ends rows (moved st (InTag (with_attribute tag name front))) (b + line_break (nat_eq c 10)) s t
   quoted-closes quote st tag name front b s c t e =
       let next = moved st (InTag (with_attribute tag name front)) in
-      play-is step cdata ends rows (quoted_after rows quote st tag name front (c ∷ t)) (silent 0 next) b s c t (quoted-ends rows quote st tag name front c t e)
-      ∙ play-nothing step cdata ends rows next (b + line_break (nat_eq c 10)) s t
+      play-is step erred cdata ends rows (quoted_after rows quote st tag name front (c ∷ t)) (silent 0 next) b s c t (quoted-ends rows quote st tag name front c t e)
+      ∙ play-nothing step erred cdata ends rows next (b + line_break (nat_eq c 10)) s t
 
   pub unquoted-goes_on : (st : Stand) (tag : Tag) (name front : List ℕ) (b : ℕ) (s : T) (c : ℕ) (t : List ℕ) → ends_word c ≡ false → nat_eq c 38 ≡ false
-      → play step cdata ends rows (unquoted_after rows st tag name front (c ∷ t)) b s (c ∷ t) ≡ play step cdata ends rows (unquoted_after rows st tag name (front ++ shown c ∷ []) t) (b + line_break (nat_eq c 10)) s t
+      → play step erred cdata ends rows (unquoted_after rows st tag name front (c ∷ t)) b s (c ∷ t) ≡ play step erred cdata ends rows (unquoted_after rows st tag name (front ++ shown c ∷ []) t) (b + line_break (nat_eq c 10)) s t
   unquoted-goes_on st tag name front b s c t e f =
-      play-is step cdata ends rows (unquoted_after rows st tag name front (c ∷ t)) (unquoted_after rows st tag name (front ++ shown c ∷ []) t) b s c t (unquoted-behind rows st tag name front c t e f)
+      play-is step erred cdata ends rows (unquoted_after rows st tag name front (c ∷ t)) (unquoted_after rows st tag name (front ++ shown c ∷ []) t) b s c t (unquoted-behind rows st tag name front c t e f)

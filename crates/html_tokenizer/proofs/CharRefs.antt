@@ -10,13 +10,14 @@ use Rattle.std.proofs.lemmas.List.{take-append-le, drop-append-le}
 use Rattle.std.proofs.lemmas.List.Elements.{All-tail}
 use Rattle.std.proofs.lemmas.Slice.Eq.{ends_is}
 use Rattle.html_tokens.specs.Characters.{run, run_by}
-use Rattle.html_tokens.specs.Reference.{goes_on_at, digits_at, is_text_in_value, named_row, named_by, numbered_reference, numeric, numeric_by, reference_at, reference_by, semicolon}
+use Rattle.html_tokens.specs.Reference.{Number, goes_on_at, digits_at, is_no_character, is_none_number, is_text_in_value, named_row, named_by, names_no_character, names_none_by, number, numbered_reference, numeric, numeric_by, reference_at, reference_by, semicolon}
+use Rattle.html_tokens.specs.Notes.{one_if}
 use Rattle.html_tokens.specs.Table.{goes_on, longest}
 use Rattle.html_tokens.specs.declared.table.ReferenceRow.{ReferenceRow}
 use Rattle.html_references.specs.References.{IsCheckedTable, is_reference_name, stem}
 use Rattle.html_references.proofs.Begins.{fitting-is}
 use Rattle.html_references.proofs.Longest.{Within, longest-cut, longest-within}
-use Rattle.html_tokenizer.specs.CharRefs.{is_named_with, goes_on_by, may_go_on, is_text_before, named_before, decided, decided_by, reference_of}
+use Rattle.html_tokenizer.specs.CharRefs.{is_named_with, goes_on_by, may_go_on, is_text_before, named_before, decided, decided_by, reference_of, is_faulty, is_faulty_by, is_faulty_number, is_faulty_numeric, is_faulty_numeric_by, is_faulty_run}
 use Rattle.html_tokenizer.specs.declared.numbers.Found.{Found}
 
 -- digits and how a run of them goes on
@@ -275,3 +276,68 @@ if-mapped (Some f) n h = h
 
 pub found-within : (in_value : Bool) (rows : List ReferenceRow) (cs : List ℕ) (b : Bool) (o : Option Found) → option_map reference_of o ≡ decided in_value rows cs b → IfSome o (λ f. f.len ≤ length cs)
 found-within in_value rows cs b o e = if-mapped o (length cs) (rw e (decided-within in_value rows cs b))
+
+-- references that name no character
+
+none-begun : (b : Bool) (rows : List ReferenceRow) (h : ℕ) (hs : List ℕ) (c : ℕ) (t : List ℕ) → nat_eq h 35 ≡ b → (is_named_with c && goes_on_by b rows (h ∷ hs)) ≡ false
+    → names_none_by b (hs ++ c ∷ t) ≡ names_none_by b hs
+none-begun true rows h hs c t e g =
+    let is : h ≡ 35 = eqb-true h 35 e in
+    ap is_none_number (numeric-by (is_named_with c) (ends_with nat_eq (35 ∷ hs) (59 ∷ [])) hs c t refl refl (rw is at g))
+none-begun false rows h hs c t e g = refl
+
+-- Where what is held can't go on by a character, what follows does not matter to whether it names none.
+pub none-decided : (rows : List ReferenceRow) (cs : List ℕ) (c : ℕ) (t : List ℕ) → may_go_on rows cs c ≡ false → names_no_character (cs ++ c ∷ t) ≡ names_no_character cs
+none-decided rows [] c t g = ap (λ b. names_none_by b t) (or_parts (is_named_with c) (nat_eq c 35) g).1
+none-decided rows (h ∷ hs) c t g = none-begun (nat_eq h 35) rows h hs c t refl g
+
+no_number : (o : Option Number) → numbered_reference o ≡ None → is_none_number o ≡ false
+no_number None e = refl
+no_number (Some n) e = cc
+
+no_reference-by : (b : Bool) (rows : List ReferenceRow) (c : ℕ) (t : List ℕ) → reference_by b false rows c t ≡ None → names_none_by b t ≡ false
+no_reference-by true rows c t e = no_number (numeric t) e
+no_reference-by false rows c t e = refl
+
+-- where there is no reference, none names no character
+pub no_reference : (rows : List ReferenceRow) (t : List ℕ) → reference_at false rows t ≡ None → names_no_character t ≡ false
+no_reference rows [] e = refl
+no_reference rows (c ∷ t) e = no_reference-by (nat_eq c 35) rows c t e
+
+faulty-number : (n : ℕ) → is_no_character n ≡ true → is_faulty_number n ≡ true
+faulty-number n e = rw e refl
+
+last-holds : (a b c : Bool) → c ≡ true → (a || b || c) ≡ true
+last-holds true b c e = refl
+last-holds false true c e = refl
+last-holds false false c e = e
+
+faulty-run : (k base n : ℕ) (t : List ℕ) → is_none_number (digits_at k base n t) ≡ true → is_faulty_run base n t ≡ true
+faulty-run k base zero t e = refl
+faulty-run k base (suc n) t e =
+    last-holds (nat_eq (suc n) 0) (nat_eq (semicolon (drop (suc n) t)) 0) (is_faulty_number (number base (take (suc n) t))) (faulty-number (number base (take (suc n) t)) e)
+
+faulty-numeric_by : (b : Bool) (c : ℕ) (t : List ℕ) → is_none_number (numeric_by b c t) ≡ true → is_faulty_numeric_by b c t ≡ true
+faulty-numeric_by true c t e = faulty-run 2 16 (run (λ d. not (is_ascii_hexdigit d)) t) t e
+faulty-numeric_by false c t e = faulty-run 1 10 (run (λ d. not (is_ascii_digit d)) (c ∷ t)) (c ∷ t) e
+
+faulty-numeric : (t : List ℕ) → is_none_number (numeric t) ≡ true → is_faulty_numeric t ≡ true
+faulty-numeric [] e = refl
+faulty-numeric (c ∷ t) e = faulty-numeric_by (nat_eq c 120 || nat_eq c 88) c t e
+
+none-faulty-by : (b in_value : Bool) (rows : List ReferenceRow) (h : ℕ) (hs : List ℕ) (follows : Bool) → names_none_by b hs ≡ true → is_faulty_by b in_value rows h hs follows ≡ true
+none-faulty-by true in_value rows h hs follows e = faulty-numeric hs e
+none-faulty-by false in_value rows h hs follows e = cc
+
+-- the Standard names an error for a reference that names no character
+pub none-faulty : (in_value : Bool) (rows : List ReferenceRow) (cs : List ℕ) (follows : Bool) → names_no_character cs ≡ true → is_faulty in_value rows cs follows ≡ true
+none-faulty in_value rows [] follows e = cc
+none-faulty in_value rows (h ∷ hs) follows e = none-faulty-by (nat_eq h 35) in_value rows h hs follows e
+
+none-owed : (named faulty : Bool) → (named ≡ true → faulty ≡ true) → one_if named ≤ one_if faulty
+none-owed true faulty h = rw (h refl) (omega arith)
+none-owed false faulty h = omega arith
+
+-- of a reference no more errors are owed than are told
+pub none-within : (in_value : Bool) (rows : List ReferenceRow) (cs : List ℕ) (follows told : Bool) → told ≡ is_faulty in_value rows cs follows → one_if (names_no_character cs) ≤ one_if told
+none-within in_value rows cs follows told e = none-owed (names_no_character cs) told (λ h. e ∙ none-faulty in_value rows cs follows h)

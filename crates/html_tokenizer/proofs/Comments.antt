@@ -1,5 +1,5 @@
 -- How comments are read, and what the machine's states make of them.
-use Rattle.std.proofs.Common.{◌≡◌, ◌∙◌, ℕ, ◌+◌, Bool, false, nat_eq, List, [], ◌∷◌, ◌++◌, take, drop, Some, None, Result, refl, sym, ap, append_assoc}
+use Rattle.std.proofs.Common.{◌≡◌, ◌∙◌, ℕ, ◌+◌, Bool, true, false, nat_eq, List, [], ◌∷◌, ◌++◌, take, drop, Some, None, Result, refl, sym, ap, append_assoc}
 use Rattle.std.specs.Prelude.{codes}
 use Rattle.std.specs.Result.{IsErrAnd}
 use Rattle.markup.specs.declared.fault.ParseFault.{ParseFault}
@@ -9,15 +9,15 @@ use Rattle.html_tokens.specs.declared.states.State.{State}
 use Rattle.html_tokens.specs.declared.states.State.TheVariants as state
 use Rattle.html_tokens.specs.declared.token.Token.{Token}
 use Rattle.html_tokens.specs.declared.token.Token.TheVariants.{CommentToken}
-use Rattle.html_tokens.specs.Characters.{shown}
-use Rattle.html_tokens.specs.Comments.{comment_end, comment_at, comment_after}
-use Rattle.html_tokens.specs.Item.{Stand, Item, InData, behind, told}
-use Rattle.html_tokens.specs.Pauses.{noting, noting_cdata, noting_end}
+use Rattle.html_tokens.specs.Characters.{shown, begins}
+use Rattle.html_tokens.specs.Comments.{comment_end, empty_by, comment_at, comment_after}
+use Rattle.html_tokens.specs.Item.{Stand, Item, InData, behind, told_as}
+use Rattle.html_tokens.specs.Notes.{Notes, one_if, noting, noting_error, noting_cdata, noting_end}
 use Rattle.html_tokens.specs.Reading.{line_number, line_break, line_breaks, reading, play}
-use Rattle.html_tokens.specs.Sink.{◌>>=◌, Step, Reply, SinkLaws}
+use Rattle.html_tokens.specs.Sink.{◌>>=◌, Step, SinkLaws}
 use Rattle.html_tokenizer.specs.declared.tokenizer.Tokenizer.{Tokenizer}
 use Rattle.html_tokenizer.specs.Rest.{rows_of, standing, held_at}
-use Rattle.html_tokenizer.specs.Steps.{IsAt, Fails, Told, Took, Keeps}
+use Rattle.html_tokenizer.specs.Steps.{IsAt, more, Fails, Told, Took, Keeps}
 use Rattle.html_tokenizer.proofs.Readings.{play-is}
 use Rattle.html_tokenizer.proofs.Ends.{EndSays, end-says, emitted-took, emitted-failed, same-text, behind-one}
 use Rattle.html_tokenizer.proofs.Glue.{at, took, keeps_silent}
@@ -49,6 +49,19 @@ end-bang c t e = rw e refl
 dash-letter : (st : Stand) (front : List ℕ) (c : ℕ) (t : List ℕ) → nat_eq c 45 ≡ false → comment_after st front (45 ∷ c ∷ t) ≡ behind (comment_after st (front ++ 45 ∷ []) (c ∷ t))
 dash-letter st front c t e = comment-goes_on st front 45 (c ∷ t) (end-dash c t e)
 
+-- behind what is no empty comment
+empty-none : (a b : Bool) (st : Stand) (t : List ℕ) → a ≡ false → b ≡ false → empty_by a b st t ≡ comment_after st [] t
+empty-none a b st t e f = rw (e, f) refl
+
+no-mark : (c : ℕ) (t : List ℕ) → nat_eq 62 c ≡ false → begins (codes ">") (c ∷ t) ≡ false
+no-mark c t e = rw e refl
+
+no-dash : (c : ℕ) (t : List ℕ) → nat_eq 45 c ≡ false → begins (codes "->") (c ∷ t) ≡ false
+no-dash c t e = rw e refl
+
+at-other : (st : Stand) (c : ℕ) (t : List ℕ) → nat_eq 62 c ≡ false → nat_eq 45 c ≡ false → comment_at st (c ∷ t) ≡ comment_after st [] (c ∷ t)
+at-other st c t e f = empty-none _ _ st (c ∷ t) (no-mark c t e) (no-dash c t f)
+
 at-dash : (st : Stand) (c : ℕ) (t : List ℕ) → nat_eq 62 c ≡ false → nat_eq c 45 ≡ false → comment_at st (45 ∷ c ∷ t) ≡ behind (comment_after st (45 ∷ []) (c ∷ t))
 at-dash st c t e f = rw e (dash-letter st [] c t f)
 
@@ -66,7 +79,7 @@ bang-letter st front c t e =
 
 -- STATES
 
-module _ {K S H : Type 0} (step : Step S) (view : K → S) (cdata : S → Bool) (ends : S → S) (sound : S → Type 0) (number : H → ℕ) (broken : K → Bool) (quiet : S → Token → Bool) (laws : SinkLaws sound step ends quiet) where
+module _ {K S H : Type 0} (step : Step S) (view : K → S) (cdata : S → Bool) (ends : S → S) (sound : S → Type 0) (number : H → ℕ) (broken : K → Bool) (errors : K → ℕ) (quiet : S → Token → Bool) (laws : SinkLaws sound step ends quiet) where
   -- the machine once its comment is told
   abbrev emitted : Tokenizer K → Tokenizer K
   emitted k = record k { comment = []; state = state.Data }
@@ -75,149 +88,151 @@ module _ {K S H : Type 0} (step : Step S) (view : K → S) (cdata : S → Bool) 
   abbrev holding : Tokenizer K → List ℕ → State → Tokenizer K
   holding k front st = record k { comment = front; state = st }
 
-  -- A comment is told next, and ">" ends it.
-  abbrev pub CommentSays : State → Tokenizer K → List ℕ → Type 0
-  CommentSays st old front = EndSays step view cdata ends sound number broken quiet laws st old (emitted old) (CommentToken front)
+  -- A comment is told next, behind its error if it is faulty, and ">" ends it.
+  abbrev pub CommentSays : State → Tokenizer K → ℕ → List ℕ → Type 0
+  CommentSays st old owed front = EndSays step view cdata ends sound number broken errors quiet laws st old (emitted old) owed (CommentToken front)
 
-  comment-says : (old : Tokenizer K) (b : ℕ) (s : S × List Reply) → sound s.0 → (front t u : List ℕ) (n : ℕ) (i : Item) → i ≡ told (CommentToken front) n (standing old InData) → line_breaks (take n u) ≡ 0 → drop n u ≡ t
-      → play (noting step) (noting_cdata cdata) (noting_end ends) (rows_of old) i b s u ≡ (noting step s (CommentToken front) (line_number b) >>= λ p. reading (noting step) (noting_cdata cdata) (noting_end ends) (rows_of old) (standing old InData) (b + 0) p.0 t)
-  comment-says old b s h front t u n i is unbroken left = end-says step view cdata ends sound number broken quiet laws old b s h (CommentToken front) t u n i tt is unbroken left
+  comment-says : (faulty : Bool) (old : Tokenizer K) (b : ℕ) (s : S × Notes ℕ) → sound s.0 → (front t u : List ℕ) (n : ℕ) (i : Item) → i ≡ told_as faulty (CommentToken front) n (standing old InData) → line_breaks (take n u) ≡ 0 → drop n u ≡ t
+      → play (noting step) noting_error (noting_cdata cdata) (noting_end ends) (rows_of old) i b s u ≡ (noting step (s.0, more (one_if faulty) s.1) (CommentToken front) (line_number b) >>= λ p. reading (noting step) noting_error (noting_cdata cdata) (noting_end ends) (rows_of old) (standing old InData) (b + 0) p.0 t)
+  comment-says faulty old b s h front t u n i is unbroken left = end-says step view cdata ends sound number broken errors quiet laws faulty old b s h (CommentToken front) t u n i tt is unbroken left
 
-  pub bogus-says : (old : Tokenizer K) → CommentSays state.BogusComment old old.comment
+  pub bogus-says : (old : Tokenizer K) → CommentSays state.BogusComment old 1 old.comment
   unfolding held_at
-  bogus-says old b s h t = comment-says old b s h old.comment t (62 ∷ t) 1 _ refl refl refl
+  bogus-says old b s h t = comment-says true old b s h old.comment t (62 ∷ t) 1 _ refl refl refl
 
-  pub start-says : (old : Tokenizer K) → CommentSays state.CommentStart old []
+  pub start-says : (old : Tokenizer K) → CommentSays state.CommentStart old 1 []
   unfolding held_at
-  start-says old b s h t = comment-says old b s h [] t (62 ∷ t) 1 _ refl refl refl
+  start-says old b s h t = comment-says true old b s h [] t (62 ∷ t) 1 _ refl refl refl
 
-  pub start_dash-says : (old : Tokenizer K) → CommentSays state.CommentStartDash old []
+  pub start_dash-says : (old : Tokenizer K) → CommentSays state.CommentStartDash old 1 []
   unfolding held_at
-  start_dash-says old b s h t = comment-says old b s h [] t (45 ∷ 62 ∷ t) 2 _ refl refl refl
+  start_dash-says old b s h t = comment-says true old b s h [] t (45 ∷ 62 ∷ t) 2 _ refl refl refl
 
   end-mark : (t : List ℕ) → comment_end (45 ∷ 45 ∷ 62 ∷ t) ≡ Some 3
   end-mark [] = refl
   end-mark (c ∷ t) = refl
 
-  pub end_state-says : (old : Tokenizer K) → CommentSays state.CommentEnd old old.comment
+  pub end_state-says : (old : Tokenizer K) → CommentSays state.CommentEnd old 0 old.comment
   unfolding held_at
-  end_state-says old b s h t = comment-says old b s h old.comment t (45 ∷ 45 ∷ 62 ∷ t) 3 (comment_after (standing old InData) old.comment (45 ∷ 45 ∷ 62 ∷ t)) (rw (end-mark t) refl) refl refl
+  end_state-says old b s h t = comment-says false old b s h old.comment t (45 ∷ 45 ∷ 62 ∷ t) 3 (comment_after (standing old InData) old.comment (45 ∷ 45 ∷ 62 ∷ t)) (rw (end-mark t) refl) refl refl
 
-  pub end_bang-says : (old : Tokenizer K) → CommentSays state.CommentEndBang old old.comment
+  pub end_bang-says : (old : Tokenizer K) → CommentSays state.CommentEndBang old 1 old.comment
   unfolding held_at
-  end_bang-says old b s h t = comment-says old b s h old.comment t (45 ∷ 45 ∷ 33 ∷ 62 ∷ t) 4 _ refl refl refl
+  end_bang-says old b s h t = comment-says true old b s h old.comment t (45 ∷ 45 ∷ 33 ∷ 62 ∷ t) 4 _ refl refl refl
 
   -- The comment was told, or could not be told.
-  pub comment-took : (old new : Tokenizer K) (c : ℕ) (st : State) (front : List ℕ) → c ≡ 62 → IsAt old st → sound (view old.sink) → Told step view cdata ends sound number broken (CommentToken front) (emitted old) new → CommentSays st old front → Took step view cdata ends sound number broken old new c flow.Continue
-  comment-took old new c st front e from ok told says = emitted-took step view cdata ends sound number broken quiet laws old (emitted old) new c st (CommentToken front) e from ok refl refl (record { state = refl; fresh = from.fresh }) told says
+  pub comment-took : {owed : ℕ} (old new : Tokenizer K) (c : ℕ) (st : State) (front : List ℕ) → c ≡ 62 → IsAt old st → sound (view old.sink) → Told step view cdata ends sound number broken errors owed (CommentToken front) (emitted old) new → CommentSays st old owed front → Took step view cdata ends sound number broken errors old new c flow.Continue
+  comment-took old new c st front e from ok told says = emitted-took step view cdata ends sound number broken errors quiet laws old (emitted old) new c st (CommentToken front) e from ok refl refl (record { state = refl; fresh = from.fresh }) told says
 
-  pub comment-failed : (old new : Tokenizer K) (c : ℕ) (st : State) (front : List ℕ) (result : Result (ProcessResult H) ParseFault) (fault : ParseFault) → c ≡ 62 → IsAt old st → sound (view old.sink) → IsErrAnd result (λ y. y ≡ fault)
-      → Fails step view cdata ends sound number broken old.sink (step (view old.sink) (CommentToken front) (line_number old.stream.breaks)) fault → CommentSays st old front → Keeps step view cdata ends sound number broken old new c result
-  comment-failed old new c st front result fault e from ok is fails says = emitted-failed step view cdata ends sound number broken quiet laws old (emitted old) new c st (CommentToken front) result fault e from ok is fails says
+  pub comment-failed : (owed : ℕ) (old new : Tokenizer K) (c : ℕ) (st : State) (front : List ℕ) (result : Result (ProcessResult H) ParseFault) (fault : ParseFault) → c ≡ 62 → IsAt old st → sound (view old.sink) → IsErrAnd result (λ y. y ≡ fault)
+      → Fails step view cdata ends sound number broken errors old.sink (step (view old.sink) (CommentToken front) (line_number old.stream.breaks)) fault → CommentSays st old owed front → Keeps step view cdata ends sound number broken errors old new c result
+  comment-failed owed old new c st front result fault e from ok is fails says = emitted-failed step view cdata ends sound number broken errors quiet laws owed old (emitted old) new c st (CommentToken front) result fault e from ok is fails says
 
   -- A character more of the comment is held, or of what may end it.
   module _ (old : Tokenizer K) (c : ℕ) (ok : sound (view old.sink)) where
     moves : (st st' : State) (front : List ℕ) → IsAt old st
-        → ((b : ℕ) (s : S × List Reply) (t : List ℕ) → at step view cdata ends sound number broken st old b s (c ∷ t) ≡ at step view cdata ends sound number broken st' (holding old front st') (b + line_break (nat_eq c 10)) s t)
-        → Took step view cdata ends sound number broken old (holding old front st') c flow.Continue
-    moves st st' front from law = took step view cdata ends sound number broken old (holding old front st') c st st' from (record { state = refl; fresh = from.fresh }) refl refl ok law
+        → ((b : ℕ) (s : S × Notes ℕ) (t : List ℕ) → at step view cdata ends sound number broken errors st old b s (c ∷ t) ≡ at step view cdata ends sound number broken errors st' (holding old front st') (b + line_break (nat_eq c 10)) s t)
+        → Took step view cdata ends sound number broken errors old (holding old front st') c flow.Continue
+    moves st st' front from law = took step view cdata ends sound number broken errors old (holding old front st') c st st' from (record { state = refl; fresh = from.fresh }) refl refl ok law
 
     -- the same where the machine stays in its state
     grows : (st : State) (front : List ℕ) → IsAt old st
-        → ((b : ℕ) (s : S × List Reply) (t : List ℕ) → at step view cdata ends sound number broken st old b s (c ∷ t) ≡ at step view cdata ends sound number broken st (record old { comment = front }) (b + line_break (nat_eq c 10)) s t)
-        → Took step view cdata ends sound number broken old (record old { comment = front }) c flow.Continue
-    grows st front from law = took step view cdata ends sound number broken old (record old { comment = front }) c st st from (record { state = from.state; fresh = from.fresh }) refl refl ok law
+        → ((b : ℕ) (s : S × Notes ℕ) (t : List ℕ) → at step view cdata ends sound number broken errors st old b s (c ∷ t) ≡ at step view cdata ends sound number broken errors st (record old { comment = front }) (b + line_break (nat_eq c 10)) s t)
+        → Took step view cdata ends sound number broken errors old (record old { comment = front }) c flow.Continue
+    grows st front from law = took step view cdata ends sound number broken errors old (record old { comment = front }) c st st from (record { state = from.state; fresh = from.fresh }) refl refl ok law
 
-    pub bogus-push : (front : List ℕ) → IsAt old state.BogusComment → nat_eq c 62 ≡ false → front ≡ old.comment ++ shown c ∷ [] → Took step view cdata ends sound number broken old (record old { comment = front }) c flow.Continue
+    pub bogus-push : (front : List ℕ) → IsAt old state.BogusComment → nat_eq c 62 ≡ false → front ≡ old.comment ++ shown c ∷ [] → Took step view cdata ends sound number broken errors old (record old { comment = front }) c flow.Continue
     unfolding held_at
-    bogus-push front from e is = rw is (grows state.BogusComment (old.comment ++ shown c ∷ []) from (λ b s t. play-is (noting step) (noting_cdata cdata) (noting_end ends) (rows_of old) _ _ b s c t (rw e refl)))
+    bogus-push front from e is = rw is (grows state.BogusComment (old.comment ++ shown c ∷ []) from (λ b s t. play-is (noting step) noting_error (noting_cdata cdata) (noting_end ends) (rows_of old) _ _ b s c t (rw e refl)))
 
-    pub comment-push : (front : List ℕ) → IsAt old state.Comment → nat_eq c 45 ≡ false → front ≡ old.comment ++ shown c ∷ [] → Took step view cdata ends sound number broken old (record old { comment = front }) c flow.Continue
+    pub comment-push : (front : List ℕ) → IsAt old state.Comment → nat_eq c 45 ≡ false → front ≡ old.comment ++ shown c ∷ [] → Took step view cdata ends sound number broken errors old (record old { comment = front }) c flow.Continue
     unfolding held_at
-    comment-push front from e is = rw is (grows state.Comment (old.comment ++ shown c ∷ []) from (λ b s t. play-is (noting step) (noting_cdata cdata) (noting_end ends) (rows_of old) _ _ b s c t (comment-goes_on (standing old InData) old.comment c t (end-letter c t e))))
+    comment-push front from e is = rw is (grows state.Comment (old.comment ++ shown c ∷ []) from (λ b s t. play-is (noting step) noting_error (noting_cdata cdata) (noting_end ends) (rows_of old) _ _ b s c t (comment-goes_on (standing old InData) old.comment c t (end-letter c t e))))
 
   -- A dash or "!" is held beside the comment.
   module _ (old : Tokenizer K) (ok : sound (view old.sink)) where
-    pub start-dash : IsAt old state.CommentStart → Took step view cdata ends sound number broken old (record old { state = state.CommentStartDash }) 45 flow.Continue
+    pub start-dash : IsAt old state.CommentStart → Took step view cdata ends sound number broken errors old (record old { state = state.CommentStartDash }) 45 flow.Continue
     unfolding held_at
-    start-dash from = moves old 45 ok state.CommentStart state.CommentStartDash old.comment from (λ b s t. same-text step view cdata ends sound number broken quiet laws old _ b s (45 ∷ t))
+    start-dash from = moves old 45 ok state.CommentStart state.CommentStartDash old.comment from (λ b s t. same-text step view cdata ends sound number broken errors quiet laws old _ b s (45 ∷ t))
 
-    pub start_dash-dash : (front : List ℕ) → front ≡ [] → IsAt old state.CommentStartDash → Took step view cdata ends sound number broken old (holding old front state.CommentEnd) 45 flow.Continue
+    pub start_dash-dash : (front : List ℕ) → front ≡ [] → IsAt old state.CommentStartDash → Took step view cdata ends sound number broken errors old (holding old front state.CommentEnd) 45 flow.Continue
     unfolding held_at
-    start_dash-dash front is from = rw is (moves old 45 ok state.CommentStartDash state.CommentEnd [] from (λ b s t. same-text step view cdata ends sound number broken quiet laws old _ b s (45 ∷ 45 ∷ t)))
+    start_dash-dash front is from = rw is (moves old 45 ok state.CommentStartDash state.CommentEnd [] from (λ b s t. same-text step view cdata ends sound number broken errors quiet laws old _ b s (45 ∷ 45 ∷ t)))
 
-    pub comment-dash : IsAt old state.Comment → Took step view cdata ends sound number broken old (record old { state = state.CommentEndDash }) 45 flow.Continue
+    pub comment-dash : IsAt old state.Comment → Took step view cdata ends sound number broken errors old (record old { state = state.CommentEndDash }) 45 flow.Continue
     unfolding held_at
-    comment-dash from = moves old 45 ok state.Comment state.CommentEndDash old.comment from (λ b s t. same-text step view cdata ends sound number broken quiet laws old _ b s (45 ∷ t))
+    comment-dash from = moves old 45 ok state.Comment state.CommentEndDash old.comment from (λ b s t. same-text step view cdata ends sound number broken errors quiet laws old _ b s (45 ∷ t))
 
-    pub end_dash-dash : IsAt old state.CommentEndDash → Took step view cdata ends sound number broken old (record old { state = state.CommentEnd }) 45 flow.Continue
+    pub end_dash-dash : IsAt old state.CommentEndDash → Took step view cdata ends sound number broken errors old (record old { state = state.CommentEnd }) 45 flow.Continue
     unfolding held_at
-    end_dash-dash from = moves old 45 ok state.CommentEndDash state.CommentEnd old.comment from (λ b s t. same-text step view cdata ends sound number broken quiet laws old _ b s (45 ∷ 45 ∷ t))
+    end_dash-dash from = moves old 45 ok state.CommentEndDash state.CommentEnd old.comment from (λ b s t. same-text step view cdata ends sound number broken errors quiet laws old _ b s (45 ∷ 45 ∷ t))
 
-    pub end-bang_held : IsAt old state.CommentEnd → Took step view cdata ends sound number broken old (record old { state = state.CommentEndBang }) 33 flow.Continue
+    pub end-bang_held : IsAt old state.CommentEnd → Took step view cdata ends sound number broken errors old (record old { state = state.CommentEndBang }) 33 flow.Continue
     unfolding held_at
-    end-bang_held from = moves old 33 ok state.CommentEnd state.CommentEndBang old.comment from (λ b s t. same-text step view cdata ends sound number broken quiet laws old _ b s (45 ∷ 45 ∷ 33 ∷ t))
+    end-bang_held from = moves old 33 ok state.CommentEnd state.CommentEndBang old.comment from (λ b s t. same-text step view cdata ends sound number broken errors quiet laws old _ b s (45 ∷ 45 ∷ 33 ∷ t))
 
-    pub end-dash_more : (front : List ℕ) → front ≡ old.comment ++ 45 ∷ [] → IsAt old state.CommentEnd → Took step view cdata ends sound number broken old (record old { comment = front }) 45 flow.Continue
+    pub end-dash_more : (front : List ℕ) → front ≡ old.comment ++ 45 ∷ [] → IsAt old state.CommentEnd → Took step view cdata ends sound number broken errors old (record old { comment = front }) 45 flow.Continue
     unfolding held_at
     end-dash_more front is from = rw is (grows old 45 ok state.CommentEnd (old.comment ++ 45 ∷ []) from (λ b s t.
-        play-is (noting step) (noting_cdata cdata) (noting_end ends) (rows_of old) _ _ b s 45 (45 ∷ 45 ∷ t) (comment-goes_on (standing old InData) old.comment 45 (45 ∷ 45 ∷ t) (end-dashes 45 t refl refl))))
+        play-is (noting step) noting_error (noting_cdata cdata) (noting_end ends) (rows_of old) _ _ b s 45 (45 ∷ 45 ∷ t) (comment-goes_on (standing old InData) old.comment 45 (45 ∷ 45 ∷ t) (end-dashes 45 t refl refl))))
 
   -- What was held ends nothing, and the character is of the comment.
-  module _ (old new : Tokenizer K) (c : ℕ) (result : Result (ProcessResult H) ParseFault) (front : List ℕ) (keeps : Keeps step view cdata ends sound number broken (holding old front state.Comment) new c result) where
-    goes-on : (st : State) → IsAt old st → ((b : ℕ) (s : S × List Reply) (t : List ℕ) → at step view cdata ends sound number broken st old b s (c ∷ t) ≡ at step view cdata ends sound number broken state.Comment (holding old front state.Comment) b s (c ∷ t)) → Keeps step view cdata ends sound number broken old new c result
-    goes-on st from law = keeps_silent step view cdata ends sound number broken old (holding old front state.Comment) new c st state.Comment result from (record { state = refl; fresh = from.fresh }) refl refl law keeps
+  module _ (old new : Tokenizer K) (c : ℕ) (result : Result (ProcessResult H) ParseFault) (front : List ℕ) (keeps : Keeps step view cdata ends sound number broken errors (holding old front state.Comment) new c result) where
+    goes-on : (st : State) → IsAt old st → ((b : ℕ) (s : S × Notes ℕ) (t : List ℕ) → at step view cdata ends sound number broken errors st old b s (c ∷ t) ≡ at step view cdata ends sound number broken errors state.Comment (holding old front state.Comment) b s (c ∷ t)) → Keeps step view cdata ends sound number broken errors old new c result
+    goes-on st from law = keeps_silent step view cdata ends sound number broken errors old (holding old front state.Comment) new c st state.Comment result from (record { state = refl; fresh = from.fresh }) refl refl law keeps
 
-    pub start-other : IsAt old state.CommentStart → front ≡ [] → nat_eq 62 c ≡ false → nat_eq 45 c ≡ false → Keeps step view cdata ends sound number broken old new c result
+    pub start-other : IsAt old state.CommentStart → front ≡ [] → nat_eq 62 c ≡ false → nat_eq 45 c ≡ false → Keeps step view cdata ends sound number broken errors old new c result
     unfolding held_at
-    start-other from is e f = goes-on state.CommentStart from (λ b s t. rw (is, e, f) refl)
+    start-other from is e f = goes-on state.CommentStart from (λ b s t.
+        ap (λ i. play (noting step) noting_error (noting_cdata cdata) (noting_end ends) (rows_of old) i b s (c ∷ t)) (at-other (standing old InData) c t e f)
+        ∙ ap (λ x. play (noting step) noting_error (noting_cdata cdata) (noting_end ends) (rows_of old) (comment_after (standing old InData) x (c ∷ t)) b s (c ∷ t)) (sym is))
 
-    pub start_dash-other : IsAt old state.CommentStartDash → front ≡ 45 ∷ [] → nat_eq 62 c ≡ false → nat_eq c 45 ≡ false → Keeps step view cdata ends sound number broken old new c result
+    pub start_dash-other : IsAt old state.CommentStartDash → front ≡ 45 ∷ [] → nat_eq 62 c ≡ false → nat_eq c 45 ≡ false → Keeps step view cdata ends sound number broken errors old new c result
     unfolding held_at
     start_dash-other from is e f = goes-on state.CommentStartDash from (λ b s t.
-        behind-one step view cdata ends sound number broken quiet laws old 45 refl (comment_at (standing old InData) (45 ∷ c ∷ t)) (comment_after (standing old InData) (45 ∷ []) (c ∷ t)) b s (c ∷ t) (at-dash (standing old InData) c t e f)
-        ∙ ap (λ x. play (noting step) (noting_cdata cdata) (noting_end ends) (rows_of old) (comment_after (standing old InData) x (c ∷ t)) b s (c ∷ t)) (sym is))
+        behind-one step view cdata ends sound number broken errors quiet laws old 45 refl (comment_at (standing old InData) (45 ∷ c ∷ t)) (comment_after (standing old InData) (45 ∷ []) (c ∷ t)) b s (c ∷ t) (at-dash (standing old InData) c t e f)
+        ∙ ap (λ x. play (noting step) noting_error (noting_cdata cdata) (noting_end ends) (rows_of old) (comment_after (standing old InData) x (c ∷ t)) b s (c ∷ t)) (sym is))
 
-    pub end_dash-other : IsAt old state.CommentEndDash → front ≡ old.comment ++ 45 ∷ [] → nat_eq c 45 ≡ false → Keeps step view cdata ends sound number broken old new c result
+    pub end_dash-other : IsAt old state.CommentEndDash → front ≡ old.comment ++ 45 ∷ [] → nat_eq c 45 ≡ false → Keeps step view cdata ends sound number broken errors old new c result
     unfolding held_at
     end_dash-other from is e = goes-on state.CommentEndDash from (λ b s t.
-        behind-one step view cdata ends sound number broken quiet laws old 45 refl _ _ b s (c ∷ t) (dash-letter (standing old InData) old.comment c t e)
-        ∙ ap (λ x. play (noting step) (noting_cdata cdata) (noting_end ends) (rows_of old) (comment_after (standing old InData) x (c ∷ t)) b s (c ∷ t)) (sym is))
+        behind-one step view cdata ends sound number broken errors quiet laws old 45 refl _ _ b s (c ∷ t) (dash-letter (standing old InData) old.comment c t e)
+        ∙ ap (λ x. play (noting step) noting_error (noting_cdata cdata) (noting_end ends) (rows_of old) (comment_after (standing old InData) x (c ∷ t)) b s (c ∷ t)) (sym is))
 
-    pub end-other : IsAt old state.CommentEnd → front ≡ old.comment ++ codes "--" → nat_eq c 62 ≡ false → nat_eq c 33 ≡ false → nat_eq c 45 ≡ false → Keeps step view cdata ends sound number broken old new c result
+    pub end-other : IsAt old state.CommentEnd → front ≡ old.comment ++ codes "--" → nat_eq c 62 ≡ false → nat_eq c 33 ≡ false → nat_eq c 45 ≡ false → Keeps step view cdata ends sound number broken errors old new c result
     unfolding held_at
     end-other from is e f h = goes-on state.CommentEnd from (λ b s t.
-        behind-one step view cdata ends sound number broken quiet laws old 45 refl _ _ b s (45 ∷ c ∷ t) (dashes-letter (standing old InData) old.comment c t e f h)
-        ∙ behind-one step view cdata ends sound number broken quiet laws old 45 refl _ _ b s (c ∷ t) refl
-        ∙ ap (λ x. play (noting step) (noting_cdata cdata) (noting_end ends) (rows_of old) (comment_after (standing old InData) x (c ∷ t)) b s (c ∷ t)) (sym is))
+        behind-one step view cdata ends sound number broken errors quiet laws old 45 refl _ _ b s (45 ∷ c ∷ t) (dashes-letter (standing old InData) old.comment c t e f h)
+        ∙ behind-one step view cdata ends sound number broken errors quiet laws old 45 refl _ _ b s (c ∷ t) refl
+        ∙ ap (λ x. play (noting step) noting_error (noting_cdata cdata) (noting_end ends) (rows_of old) (comment_after (standing old InData) x (c ∷ t)) b s (c ∷ t)) (sym is))
 
-    pub bang-other : IsAt old state.CommentEndBang → front ≡ old.comment ++ codes "--!" → nat_eq c 62 ≡ false → Keeps step view cdata ends sound number broken old new c result
+    pub bang-other : IsAt old state.CommentEndBang → front ≡ old.comment ++ codes "--!" → nat_eq c 62 ≡ false → Keeps step view cdata ends sound number broken errors old new c result
     unfolding held_at
     bang-other from is e = goes-on state.CommentEndBang from (λ b s t.
         let left : Item = comment_after (standing old InData) (old.comment ++ codes "--!") (c ∷ t) in
-        behind-one step view cdata ends sound number broken quiet laws old 45 refl (comment_after (standing old InData) old.comment (45 ∷ 45 ∷ 33 ∷ c ∷ t)) (behind (behind left)) b s (45 ∷ 33 ∷ c ∷ t) (bang-letter (standing old InData) old.comment c t e)
-        ∙ behind-one step view cdata ends sound number broken quiet laws old 45 refl (behind (behind left)) (behind left) b s (33 ∷ c ∷ t) refl
-        ∙ behind-one step view cdata ends sound number broken quiet laws old 33 refl (behind left) left b s (c ∷ t) refl
-        ∙ ap (λ x. play (noting step) (noting_cdata cdata) (noting_end ends) (rows_of old) (comment_after (standing old InData) x (c ∷ t)) b s (c ∷ t)) (sym is))
+        behind-one step view cdata ends sound number broken errors quiet laws old 45 refl (comment_after (standing old InData) old.comment (45 ∷ 45 ∷ 33 ∷ c ∷ t)) (behind (behind left)) b s (45 ∷ 33 ∷ c ∷ t) (bang-letter (standing old InData) old.comment c t e)
+        ∙ behind-one step view cdata ends sound number broken errors quiet laws old 45 refl (behind (behind left)) (behind left) b s (33 ∷ c ∷ t) refl
+        ∙ behind-one step view cdata ends sound number broken errors quiet laws old 33 refl (behind left) left b s (c ∷ t) refl
+        ∙ ap (λ x. play (noting step) noting_error (noting_cdata cdata) (noting_end ends) (rows_of old) (comment_after (standing old InData) x (c ∷ t)) b s (c ∷ t)) (sym is))
 
   -- States within a comment that are never entered are read as those that they stand for.
   module _ (old new : Tokenizer K) (c : ℕ) (result : Result (ProcessResult H) ParseFault) where
-    stands-for : (st st' : State) → IsAt old st → ((b : ℕ) (s : S × List Reply) (t : List ℕ) → at step view cdata ends sound number broken st old b s (c ∷ t) ≡ at step view cdata ends sound number broken st' (record old { state = st' }) b s (c ∷ t))
-        → Keeps step view cdata ends sound number broken (record old { state = st' }) new c result → Keeps step view cdata ends sound number broken old new c result
-    stands-for st st' from law keeps = keeps_silent step view cdata ends sound number broken old (record old { state = st' }) new c st st' result from (record { state = refl; fresh = from.fresh }) refl refl law keeps
+    stands-for : (st st' : State) → IsAt old st → ((b : ℕ) (s : S × Notes ℕ) (t : List ℕ) → at step view cdata ends sound number broken errors st old b s (c ∷ t) ≡ at step view cdata ends sound number broken errors st' (record old { state = st' }) b s (c ∷ t))
+        → Keeps step view cdata ends sound number broken errors (record old { state = st' }) new c result → Keeps step view cdata ends sound number broken errors old new c result
+    stands-for st st' from law keeps = keeps_silent step view cdata ends sound number broken errors old (record old { state = st' }) new c st st' result from (record { state = refl; fresh = from.fresh }) refl refl law keeps
 
-    pub less-than-kept : IsAt old state.CommentLessThanSign → Keeps step view cdata ends sound number broken (record old { state = state.Comment }) new c result → Keeps step view cdata ends sound number broken old new c result
+    pub less-than-kept : IsAt old state.CommentLessThanSign → Keeps step view cdata ends sound number broken errors (record old { state = state.Comment }) new c result → Keeps step view cdata ends sound number broken errors old new c result
     unfolding held_at
     less-than-kept from keeps = stands-for state.CommentLessThanSign state.Comment from (λ b s t. refl) keeps
 
-    pub less-than-bang_kept : IsAt old state.CommentLessThanSignBang → Keeps step view cdata ends sound number broken (record old { state = state.Comment }) new c result → Keeps step view cdata ends sound number broken old new c result
+    pub less-than-bang_kept : IsAt old state.CommentLessThanSignBang → Keeps step view cdata ends sound number broken errors (record old { state = state.Comment }) new c result → Keeps step view cdata ends sound number broken errors old new c result
     unfolding held_at
     less-than-bang_kept from keeps = stands-for state.CommentLessThanSignBang state.Comment from (λ b s t. refl) keeps
 
-    pub less-than-dash_kept : IsAt old state.CommentLessThanSignBangDash → Keeps step view cdata ends sound number broken (record old { state = state.CommentEndDash }) new c result → Keeps step view cdata ends sound number broken old new c result
+    pub less-than-dash_kept : IsAt old state.CommentLessThanSignBangDash → Keeps step view cdata ends sound number broken errors (record old { state = state.CommentEndDash }) new c result → Keeps step view cdata ends sound number broken errors old new c result
     unfolding held_at
     less-than-dash_kept from keeps = stands-for state.CommentLessThanSignBangDash state.CommentEndDash from (λ b s t. refl) keeps
 
-    pub less-than-dashes_kept : IsAt old state.CommentLessThanSignBangDashDash → Keeps step view cdata ends sound number broken (record old { state = state.CommentEnd }) new c result → Keeps step view cdata ends sound number broken old new c result
+    pub less-than-dashes_kept : IsAt old state.CommentLessThanSignBangDashDash → Keeps step view cdata ends sound number broken errors (record old { state = state.CommentEnd }) new c result → Keeps step view cdata ends sound number broken errors old new c result
     unfolding held_at
     less-than-dashes_kept from keeps = stands-for state.CommentLessThanSignBangDashDash state.CommentEnd from (λ b s t. refl) keeps

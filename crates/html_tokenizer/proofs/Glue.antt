@@ -1,5 +1,5 @@
 -- How one state's function keeps what is to come.
-use Rattle.std.proofs.Common.{◌≡◌, ◌∙◌, ℕ, ◌+◌, Bool, true, false, nat_eq, List, ◌∷◌, ◌++◌, Result, Ok, Err, refl, sym, ap}
+use Rattle.std.proofs.Common.{◌≡◌, ◌∙◌, ℕ, ◌+◌, Bool, true, false, nat_eq, List, ◌∷◌, ◌++◌, Result, Ok, Err, refl, sym, ap, arith}
 use Rattle.std.specs.Prelude.{IsErr}
 use Rattle.std.specs.Result.{IsErrAnd}
 use Rattle.std.proofs.lemmas.Result.{err_from_is_err_and}
@@ -11,10 +11,10 @@ use Rattle.html_tokens.specs.declared.states.State.{State}
 use Rattle.html_tokens.specs.declared.token.Token.{Token}
 use Rattle.html_tokens.specs.declared.token.Token.TheVariants.{TagToken}
 use Rattle.html_tokens.specs.Item.{InData}
-use Rattle.html_tokens.specs.Pauses.{noted, noting, noting_cdata, noting_end}
+use Rattle.html_tokens.specs.Notes.{Notes, NotedStep, noted, noting, noting_error, noting_cdata, noting_end, one_if}
 use Rattle.html_tokens.specs.Reading.{◌>>=◌, line_break, line_number, next_stand, reading}
 use Rattle.html_tokens.specs.Sink.{Step, Reply, Refusal}
-use Rattle.html_tokens.specs.Tags.{behind_tag}
+use Rattle.html_tokens.specs.Tags.{behind_tag, is_faulty_tag}
 use Rattle.html_tokens.specs.declared.states.RawKind.TheVariants as raw
 use Rattle.html_tokens.specs.declared.states.ScriptEscapeKind.TheVariants as script
 use Rattle.html_tokens.specs.declared.states.DoctypeIdKind.TheVariants as id
@@ -25,7 +25,8 @@ use Rattle.html_tokenizer.specs.declared.tokenizer.Stream.{Stream}
 use Rattle.html_tokenizer.specs.declared.tokenizer.Tokenizer.{Tokenizer}
 use Rattle.html_tokenizer.specs.Rest.{rows_of, standing, pending, held_at}
 use Rattle.html_tokenizer.proofs.Readings.{sum-zero}
-use Rattle.html_tokenizer.specs.Steps.{IsAt, paused_by, now, Fails, Told, Erred, Took, Keeps, EndsTag}
+use Rattle.html_tokenizer.specs.Steps.{IsAt, paused_by, more, noted_by, Rises, now, Fails, Told, Erred, Took, Keeps, EndsTag}
+use Rattle.html_tokenizer.proofs.Rises.{more-more, rises-same, rises-then, rises-fewer}
 
 -- a character that is no line break ends no line
 pub no-break : (b c : ℕ) → nat_eq c 10 ≡ false → b + line_break (nat_eq c 10) ≡ b
@@ -35,35 +36,41 @@ no-break b c h = rw h (sum-zero b)
 pub told-works : {a b : Bool} → a ≡ false → a ≡ true → b ≡ true
 told-works e h = absurd cc
 
-pub bind-err : {A B : Type 0} (r : Result A Refusal) (f : A → Result B Refusal) → IsErr r → IsErr (r >>= f)
+pub bind-err : {A B F : Type 0} (r : Result A F) (f : A → Result B F) → IsErr r → IsErr (r >>= f)
 bind-err (Ok x) f h = cc
 bind-err (Err e) f h = refl
 
-pub noted-err : {S : Type 0} (pauses : List Reply) (r : Result (S × Reply) Refusal) → IsErr r → IsErr (noted pauses r)
-noted-err pauses (Ok x) h = cc
-noted-err pauses (Err e) h = refl
+pub noted-err : {S : Type 0} (notes : Notes ℕ) (r : Result (S × Reply) Refusal) → IsErr r → IsErr (noted notes r)
+noted-err notes (Ok x) h = cc
+noted-err notes (Err e) h = refl
+
+pub err-noted : {S : Type 0} (notes : Notes ℕ) (r : Result (S × Reply) Refusal) → IsErr (noted notes r) → IsErr r
+err-noted notes (Ok p) h = cc
+err-noted notes (Err e) h = refl
 
 -- where no reference is held, none is held in a state that has none
 pub fits-at : {K : Type 0} (k : Tokenizer K) (st : State) → IsAt k st → fits_in k.char_ref k.state ≡ true
 fits-at k st h = ap (λ r. fits_in r k.state) h.fresh
 
-module _ {K S H : Type 0} (step : Step S) (view : K → S) (cdata : S → Bool) (ends : S → S) (sound : S → Type 0) (number : H → ℕ) (broken : K → Bool) where
-  abbrev pub at : State → Tokenizer K → ℕ → S × List Reply → List ℕ → Result (S × List Reply) Refusal
-  at st k b s t = held_at (noting step) (noting_cdata cdata) (noting_end ends) st k b s t
+module _ {K S H : Type 0} (step : Step S) (view : K → S) (cdata : S → Bool) (ends : S → S) (sound : S → Type 0) (number : H → ℕ) (broken : K → Bool) (errors : K → ℕ) where
+  abbrev pub at : State → Tokenizer K → ℕ → S × Notes ℕ → List ℕ → Result (S × Notes ℕ) (Refusal × ℕ)
+  at st k b s t = held_at (noting step) noting_error (noting_cdata cdata) (noting_end ends) st k b s t
 
-  pub now-at : (k : Tokenizer K) (st : State) (b : ℕ) (s : S × List Reply) (t : List ℕ) → IsAt k st → now step view cdata ends sound number broken k b s t ≡ at st k b s t
-  now-at k st b s t h = ap (λ r. held_at (noting step) (noting_cdata cdata) (noting_end ends) k.state k b s (pending r ++ t)) h.fresh ∙ ap (λ x. held_at (noting step) (noting_cdata cdata) (noting_end ends) x k b s t) h.state
+  pub now-at : (k : Tokenizer K) (st : State) (b : ℕ) (s : S × Notes ℕ) (t : List ℕ) → IsAt k st → now step view cdata ends sound number broken errors k b s t ≡ at st k b s t
+  now-at k st b s t h = ap (λ r. held_at (noting step) noting_error (noting_cdata cdata) (noting_end ends) k.state k b s (pending r ++ t)) h.fresh ∙ ap (λ x. held_at (noting step) noting_error (noting_cdata cdata) (noting_end ends) x k b s t) h.state
 
   -- The character is taken, and the machine stands in st'.
   pub took : (old new : Tokenizer K) (c : ℕ) (st st' : State) → IsAt old st → IsAt new st' → new.stream ≡ old.stream → new.sink ≡ old.sink → sound (view old.sink)
-      → ((b : ℕ) (s : S × List Reply) (t : List ℕ) → at st old b s (c ∷ t) ≡ at st' new (b + line_break (nat_eq c 10)) s t)
-      → Took step view cdata ends sound number broken old new c flow.Continue
+      → ((b : ℕ) (s : S × Notes ℕ) (t : List ℕ) → at st old b s (c ∷ t) ≡ at st' new (b + line_break (nat_eq c 10)) s t)
+      → Took step view cdata ends sound number broken errors old new c flow.Continue
   took old new c st st' from to stream same ok law = record {
-    same = λ pauses t.
-        now-at old st old.stream.breaks (view old.sink, pauses) (c ∷ t) from
-        ∙ law old.stream.breaks (view old.sink, pauses) t
-        ∙ sym (now-at new st' (old.stream.breaks + line_break (nat_eq c 10)) (view old.sink, pauses) t to)
-        ∙ ap (λ k. now step view cdata ends sound number broken new (old.stream.breaks + line_break (nat_eq c 10)) (view k, pauses) t) (sym same);
+    owed = 0;
+    rises = rises-same errors old.sink new.sink same;
+    same = λ notes t.
+        now-at old st old.stream.breaks (view old.sink, notes) (c ∷ t) from
+        ∙ law old.stream.breaks (view old.sink, notes) t
+        ∙ sym (now-at new st' (old.stream.breaks + line_break (nat_eq c 10)) (view old.sink, notes) t to)
+        ∙ ap (λ k. now step view cdata ends sound number broken errors new (old.stream.breaks + line_break (nat_eq c 10)) (view k, notes) t) (sym same);
     stream = stream;
     sound = rw same ok;
     fits = fits-at new st' to;
@@ -72,7 +79,7 @@ module _ {K S H : Type 0} (step : Step S) (view : K → S) (cdata : S → Bool) 
   }
 
   -- What a failed call was to give comes first in this.
-  pub fails-first : (sink : K) {A B : Type 0} (r : Result A Refusal) (given : Result B Refusal) (fault : ParseFault) → (IsErr r → IsErr given) → Fails step view cdata ends sound number broken sink r fault → Fails step view cdata ends sound number broken sink given fault
+  pub fails-first : (sink : K) {A B F G : Type 0} (r : Result A F) (given : Result B G) (fault : ParseFault) → (IsErr r → IsErr given) → Fails step view cdata ends sound number broken errors sink r fault → Fails step view cdata ends sound number broken errors sink given fault
   fails-first sink r given Memory h f = tt
   fails-first sink r given TokenInText h f = (h f.0, f.1)
   fails-first sink r given Ended h f = (h f.0, f.1)
@@ -80,8 +87,8 @@ module _ {K S H : Type 0} (step : Step S) (view : K → S) (cdata : S → Bool) 
   fails-first sink r given Failed h f = f
 
 -- The sink and what is known of the input but the table do not matter to what is held.
-module _ {K T : Type 0} (step : Step T) (cdata : T → Bool) (ends : T → T) where
-  pub held-other : (st : State) (k : Tokenizer K) (sink : K) (stream : Stream) (b : ℕ) (s : T) (t : List ℕ) → stream.table ≡ k.stream.table → held_at step cdata ends st (record k { sink = sink; stream = stream }) b s t ≡ held_at step cdata ends st k b s t
+module _ {K T : Type 0} (step : NotedStep T) (erred : T → T) (cdata : T → Bool) (ends : T → T) where
+  pub held-other : (st : State) (k : Tokenizer K) (sink : K) (stream : Stream) (b : ℕ) (s : T) (t : List ℕ) → stream.table ≡ k.stream.table → held_at step erred cdata ends st (record k { sink = sink; stream = stream }) b s t ≡ held_at step erred cdata ends st k b s t
   unfolding held_at
   held-other state.Data k sink stream b s t e = rw e refl
   held-other state.Plaintext k sink stream b s t e = rw e refl
@@ -143,46 +150,53 @@ module _ {K T : Type 0} (step : Step T) (cdata : T → Bool) (ends : T → T) wh
   held-other state.CdataSectionBracket k sink stream b s t e = rw e refl
   held-other state.CdataSectionEnd k sink stream b s t e = rw e refl
 
-module _ {K S H : Type 0} (step : Step S) (view : K → S) (cdata : S → Bool) (ends : S → S) (sound : S → Type 0) (number : H → ℕ) (broken : K → Bool) where
-  -- What is to come where a token is told next, and what follows then.
-  abbrev pub Says : State → Tokenizer K → ℕ → Token → (ℕ → S × List Reply → List ℕ → Result (S × List Reply) Refusal) → Type 0
-  Says st old c token next = (b : ℕ) (s : S × List Reply) → sound s.0 → (t : List ℕ) → at step view cdata ends sound number broken st old b s (c ∷ t) ≡ (noting step s token (line_number b) >>= λ p. next b p.0 t)
+module _ {K S H : Type 0} (step : Step S) (view : K → S) (cdata : S → Bool) (ends : S → S) (sound : S → Type 0) (number : H → ℕ) (broken : K → Bool) (errors : K → ℕ) where
+  -- What is to come where a token is told next, behind its error if it is faulty, and what follows then.
+  abbrev pub Says : State → Tokenizer K → ℕ → ℕ → Token → (ℕ → S × Notes ℕ → List ℕ → Result (S × Notes ℕ) (Refusal × ℕ)) → Type 0
+  Says st old c owed token next = (b : ℕ) (s : S × Notes ℕ) → sound s.0 → (t : List ℕ) → at step view cdata ends sound number broken errors st old b s (c ∷ t) ≡ (noting step (s.0, more owed s.1) token (line_number b) >>= λ p. next b p.0 t)
 
-  pub fails-along : (sink : K) {A : Type 0} (a b : Result A Refusal) (fault : ParseFault) → a ≡ b → Fails step view cdata ends sound number broken sink b fault → Fails step view cdata ends sound number broken sink a fault
+  pub fails-along : (sink : K) {A F : Type 0} (a b : Result A F) (fault : ParseFault) → a ≡ b → Fails step view cdata ends sound number broken errors sink b fault → Fails step view cdata ends sound number broken errors sink a fault
   fails-along sink a b fault e f = rw e f
 
+  -- What was to be told was refused, and so is all that was to come.
+  pub token-fails : (sink : K) {A : Type 0} (given : Result A (Refusal × ℕ)) (s : S) (notes : Notes ℕ) (token : Token) (line : ℕ) (fault : ParseFault) (next : (S × Notes ℕ) × Reply → Result A (Refusal × ℕ))
+      → Fails step view cdata ends sound number broken errors sink (step s token line) fault → given ≡ (noting step (s, notes) token line >>= next) → Fails step view cdata ends sound number broken errors sink given fault
+  token-fails sink given s notes token line fault next fails e =
+      fails-along sink _ _ fault e (fails-first step view cdata ends sound number broken errors sink (step s token line) _ fault (λ h. bind-err (noting step (s, notes) token line) next (noted-err notes (step s token line) h)) fails)
+
   -- The call that tells a token failed, and it was to be told next.
-  pub failed : (old new : Tokenizer K) (c : ℕ) (st : State) (token : Token) (result : Result (ProcessResult H) ParseFault) (fault : ParseFault) (next : ℕ → S × List Reply → List ℕ → Result (S × List Reply) Refusal)
-      → IsAt old st → sound (view old.sink) → IsErrAnd result (λ y. y ≡ fault) → Fails step view cdata ends sound number broken old.sink (step (view old.sink) token (line_number old.stream.breaks)) fault
-      → Says st old c token next
-      → Keeps step view cdata ends sound number broken old new c result
-  failed old new c st token result fault next from ok is fails law =
+  pub failed : (owed : ℕ) (old new : Tokenizer K) (c : ℕ) (st : State) (token : Token) (result : Result (ProcessResult H) ParseFault) (fault : ParseFault) (next : ℕ → S × Notes ℕ → List ℕ → Result (S × Notes ℕ) (Refusal × ℕ))
+      → IsAt old st → sound (view old.sink) → IsErrAnd result (λ y. y ≡ fault) → Fails step view cdata ends sound number broken errors old.sink (step (view old.sink) token (line_number old.stream.breaks)) fault
+      → Says st old c owed token next
+      → Keeps step view cdata ends sound number broken errors old new c result
+  failed owed old new c st token result fault next from ok is fails law =
       let p = err_from_is_err_and result is in
-      rw (p.1, p.2) (λ pauses t.
-      fails-along old.sink _ _ fault (now-at step view cdata ends sound number broken old st old.stream.breaks (view old.sink, pauses) (c ∷ t) from ∙ law old.stream.breaks (view old.sink, pauses) ok t)
-      (fails-first step view cdata ends sound number broken old.sink (step (view old.sink) token (line_number old.stream.breaks)) _ fault
-      (λ h. bind-err (noting step (view old.sink, pauses) token (line_number old.stream.breaks)) _ (noted-err pauses (step (view old.sink) token (line_number old.stream.breaks)) h)) fails))
+      rw (p.1, p.2) (λ notes t.
+      token-fails old.sink _ (view old.sink) (more owed notes) token (line_number old.stream.breaks) fault _ fails
+      (now-at step view cdata ends sound number broken errors old st old.stream.breaks (view old.sink, notes) (c ∷ t) from ∙ law old.stream.breaks (view old.sink, notes) ok t))
 
   -- what is to come where a token was told
-  pub told-next : (old mid : Tokenizer K) (token : Token) (pauses : List Reply) (next : S × List Reply → Result (S × List Reply) Refusal) → Told step view cdata ends sound number broken token old mid
-      → (noting step (view old.sink, pauses) token (line_number old.stream.breaks) >>= λ p. next p.0) ≡ next (view mid.sink, pauses)
-  told-next old mid token pauses next told = ap (λ r. noted pauses r >>= λ p. next p.0) (told.gives (line_number old.stream.breaks) refl)
+  pub told-next : {owed : ℕ} (old mid : Tokenizer K) (token : Token) (notes : Notes ℕ) (next : S × Notes ℕ → Result (S × Notes ℕ) (Refusal × ℕ)) → Told step view cdata ends sound number broken errors owed token old mid
+      → (noting step (view old.sink, notes) token (line_number old.stream.breaks) >>= λ p. next p.0) ≡ next (view mid.sink, notes)
+  told-next old mid token notes next told = ap (λ r. noted notes r >>= λ p. next p.0) (told.gives (line_number old.stream.breaks) refl)
 
   -- The machine with another sink is where it was.
-  pub now-target : (k : Tokenizer K) (sink : K) (st : State) (b : ℕ) (s : S × List Reply) (t : List ℕ) → IsAt k st → now step view cdata ends sound number broken (record k { sink = sink }) b s t ≡ at step view cdata ends sound number broken st k b s t
-  now-target k sink st b s t h = held-other (noting step) (noting_cdata cdata) (noting_end ends) k.state k sink k.stream b s (pending k.char_ref ++ t) refl ∙ now-at step view cdata ends sound number broken k st b s t h
+  pub now-target : (k : Tokenizer K) (sink : K) (st : State) (b : ℕ) (s : S × Notes ℕ) (t : List ℕ) → IsAt k st → now step view cdata ends sound number broken errors (record k { sink = sink }) b s t ≡ at step view cdata ends sound number broken errors st k b s t
+  now-target k sink st b s t h = held-other (noting step) noting_error (noting_cdata cdata) (noting_end ends) k.state k sink k.stream b s (pending k.char_ref ++ t) refl ∙ now-at step view cdata ends sound number broken errors k st b s t h
 
   -- A token was told, and the machine stands in st'. The target is the machine as it was, with the fields that changed.
-  pub took_told : (old mid new target : Tokenizer K) (c : ℕ) (st st' : State) (token : Token) → IsAt old st → sound (view old.sink) → Told step view cdata ends sound number broken token old mid
+  pub took_told : {owed : ℕ} (old mid new target : Tokenizer K) (c : ℕ) (st st' : State) (token : Token) → IsAt old st → sound (view old.sink) → Told step view cdata ends sound number broken errors owed token old mid
       → new ≡ record target { sink = mid.sink } → IsAt target st' → target.stream ≡ old.stream
-      → Says st old c token (λ b s t. at step view cdata ends sound number broken st' target (b + line_break (nat_eq c 10)) s t)
-      → Took step view cdata ends sound number broken old new c flow.Continue
-  took_told old mid new target c st st' token from ok told is to stream law = rw is (record {
-    same = λ pauses t.
-        now-at step view cdata ends sound number broken old st old.stream.breaks (view old.sink, pauses) (c ∷ t) from
-        ∙ law old.stream.breaks (view old.sink, pauses) ok t
-        ∙ told-next old mid token pauses (λ s. at step view cdata ends sound number broken st' target (old.stream.breaks + line_break (nat_eq c 10)) s t) told
-        ∙ sym (now-target target mid.sink st' (old.stream.breaks + line_break (nat_eq c 10)) (view mid.sink, pauses) t to);
+      → Says st old c owed token (λ b s t. at step view cdata ends sound number broken errors st' target (b + line_break (nat_eq c 10)) s t)
+      → Took step view cdata ends sound number broken errors old new c flow.Continue
+  took_told {owed} old mid new target c st st' token from ok told is to stream law = rw is (record {
+    owed = owed;
+    rises = told.rises;
+    same = λ notes t.
+        now-at step view cdata ends sound number broken errors old st old.stream.breaks (view old.sink, notes) (c ∷ t) from
+        ∙ law old.stream.breaks (view old.sink, notes) ok t
+        ∙ told-next old mid token (more owed notes) (λ s. at step view cdata ends sound number broken errors st' target (old.stream.breaks + line_break (nat_eq c 10)) s t) told
+        ∙ sym (now-target target mid.sink st' (old.stream.breaks + line_break (nat_eq c 10)) (view mid.sink, more owed notes) t to);
     stream = stream;
     sound = told.sound;
     fits = fits-at target st' to;
@@ -191,21 +205,23 @@ module _ {K S H : Type 0} (step : Step S) (view : K → S) (cdata : S → Bool) 
   })
 
   -- A token was told by the machine with other fields, where it stays.
-  pub took_emitted : (old source new : Tokenizer K) (c : ℕ) (st st' : State) (token : Token) → IsAt old st → sound (view old.sink) → source.sink ≡ old.sink → source.stream ≡ old.stream → IsAt source st'
-      → Told step view cdata ends sound number broken token source new
-      → Says st old c token (λ b s t. at step view cdata ends sound number broken st' source (b + line_break (nat_eq c 10)) s t)
-      → Took step view cdata ends sound number broken old new c flow.Continue
-  took_emitted old source new c st st' token from ok same stream to told law =
-      let told' : Told step view cdata ends sound number broken token (record source { sink = old.sink; stream = old.stream }) new = rw (← same, ← stream) told in
+  pub took_emitted : {owed : ℕ} (old source new : Tokenizer K) (c : ℕ) (st st' : State) (token : Token) → IsAt old st → sound (view old.sink) → source.sink ≡ old.sink → source.stream ≡ old.stream → IsAt source st'
+      → Told step view cdata ends sound number broken errors owed token source new
+      → Says st old c owed token (λ b s t. at step view cdata ends sound number broken errors st' source (b + line_break (nat_eq c 10)) s t)
+      → Took step view cdata ends sound number broken errors old new c flow.Continue
+  took_emitted {owed} old source new c st st' token from ok same stream to told law =
+      let told' : Told step view cdata ends sound number broken errors owed token (record source { sink = old.sink; stream = old.stream }) new = rw (← same, ← stream) told in
       let source' : Tokenizer K = record source { sink = old.sink; stream = old.stream } in
       let is : source' ≡ source = rw (← same, ← stream) refl in
       record {
-        same = λ pauses t.
-            now-at step view cdata ends sound number broken old st old.stream.breaks (view old.sink, pauses) (c ∷ t) from
-            ∙ law old.stream.breaks (view old.sink, pauses) ok t
-            ∙ told-next source' new token pauses (λ s. at step view cdata ends sound number broken st' source (old.stream.breaks + line_break (nat_eq c 10)) s t) told'
-            ∙ sym (now-target source new.sink st' (old.stream.breaks + line_break (nat_eq c 10)) (view new.sink, pauses) t to)
-            ∙ sym (ap (λ k. now step view cdata ends sound number broken k (old.stream.breaks + line_break (nat_eq c 10)) (view k.sink, pauses) t) told.changed);
+        owed = owed;
+        rises = told'.rises;
+        same = λ notes t.
+            now-at step view cdata ends sound number broken errors old st old.stream.breaks (view old.sink, notes) (c ∷ t) from
+            ∙ law old.stream.breaks (view old.sink, notes) ok t
+            ∙ told-next source' new token (more owed notes) (λ s. at step view cdata ends sound number broken errors st' source (old.stream.breaks + line_break (nat_eq c 10)) s t) told'
+            ∙ sym (now-target source new.sink st' (old.stream.breaks + line_break (nat_eq c 10)) (view new.sink, more owed notes) t to)
+            ∙ sym (ap (λ k. now step view cdata ends sound number broken errors k (old.stream.breaks + line_break (nat_eq c 10)) (view k.sink, more owed notes) t) told.changed);
         stream = ap (λ k. k.stream) told.changed ∙ stream;
         sound = told.sound;
         fits = ap (λ k. fits_in k.char_ref k.state) told.changed ∙ fits-at source st' to;
@@ -214,86 +230,115 @@ module _ {K S H : Type 0} (step : Step S) (view : K → S) (cdata : S → Bool) 
       }
 
   -- A sink that has failed, if the one before it had, fails as that does.
-  pub fails-before : (after before : K) {A : Type 0} (given : Result A Refusal) (fault : ParseFault) → (broken after ≡ true → broken before ≡ true) → Fails step view cdata ends sound number broken after given fault → Fails step view cdata ends sound number broken before given fault
+  pub fails-before : (after before : K) {A F : Type 0} (given : Result A F) (fault : ParseFault) → (broken after ≡ true → broken before ≡ true) → Fails step view cdata ends sound number broken errors after given fault → Fails step view cdata ends sound number broken errors before given fault
   fails-before after before given Memory works f = f
   fails-before after before given TokenInText works f = f
   fails-before after before given Ended works f = f
   fails-before after before given Shape works f = f
   fails-before after before given Failed works f = works f
 
-  -- The character goes on to where the machine makes of it, and of all that follows, what was to be made.
-  pub keeps-along : (old mid new : Tokenizer K) (c : ℕ) (result : Result (ProcessResult H) ParseFault) → mid.stream ≡ old.stream → (broken mid.sink ≡ true → broken old.sink ≡ true)
-      → ((pauses : List Reply) (t : List ℕ) → now step view cdata ends sound number broken old old.stream.breaks (view old.sink, pauses) (c ∷ t) ≡ now step view cdata ends sound number broken mid old.stream.breaks (view mid.sink, pauses) (c ∷ t))
-      → Keeps step view cdata ends sound number broken mid new c result → Keeps step view cdata ends sound number broken old new c result
-  keeps-along old mid new c (Ok result) stream works e h = record {
-    same = λ pauses t. e pauses t ∙ rw (← stream) (h.same pauses t);
+  -- The character goes on to where the machine makes of it, and of all that follows, what was to be made, with so many faulty items told.
+  pub keeps-behind : (owed : ℕ) (old mid new : Tokenizer K) (c : ℕ) (result : Result (ProcessResult H) ParseFault) → mid.stream ≡ old.stream → (broken mid.sink ≡ true → broken old.sink ≡ true) → Rises errors owed old.sink mid.sink
+      → ((notes : Notes ℕ) (t : List ℕ) → now step view cdata ends sound number broken errors old old.stream.breaks (view old.sink, notes) (c ∷ t) ≡ now step view cdata ends sound number broken errors mid old.stream.breaks (view mid.sink, more owed notes) (c ∷ t))
+      → Keeps step view cdata ends sound number broken errors mid new c result → Keeps step view cdata ends sound number broken errors old new c result
+  keeps-behind owed old mid new c (Ok result) stream works rises e h = record {
+    owed = h.owed + owed;
+    rises = rises-then errors old.sink mid.sink new.sink rises h.rises;
+    same = λ notes t. e notes t ∙ rw (← stream) (h.same (more owed notes) t)
+        ∙ ap (λ n. now step view cdata ends sound number broken errors new (old.stream.breaks + line_break (nat_eq c 10)) (view new.sink, record { pauses = paused_by number notes.pauses result; errors = n }) t) (more-more h.owed owed notes.errors);
     stream = h.stream ∙ stream;
     sound = h.sound;
     fits = h.fits;
     works = λ x. works (h.works x);
     paused = h.paused;
   }
-  keeps-along old mid new c (Err fault) stream works e h = λ pauses t. fails-along old.sink _ _ fault (e pauses t) (rw (← stream) (fails-before mid.sink old.sink _ fault works (h pauses t)))
+  keeps-behind owed old mid new c (Err fault) stream works rises e h = λ notes t. fails-along old.sink _ _ fault (e notes t) (rw (← stream) (fails-before mid.sink old.sink _ fault works (h (more owed notes) t)))
+
+  -- the same with none
+  pub keeps-along : (old mid new : Tokenizer K) (c : ℕ) (result : Result (ProcessResult H) ParseFault) → mid.stream ≡ old.stream → (broken mid.sink ≡ true → broken old.sink ≡ true) → Rises errors 0 old.sink mid.sink
+      → ((notes : Notes ℕ) (t : List ℕ) → now step view cdata ends sound number broken errors old old.stream.breaks (view old.sink, notes) (c ∷ t) ≡ now step view cdata ends sound number broken errors mid old.stream.breaks (view mid.sink, notes) (c ∷ t))
+      → Keeps step view cdata ends sound number broken errors mid new c result → Keeps step view cdata ends sound number broken errors old new c result
+  keeps-along old mid new c result stream works rises e h = keeps-behind 0 old mid new c result stream works rises e h
 
   -- The character is taken by another state, which nothing led to but the machine's own fields.
   pub keeps_silent : (old mid new : Tokenizer K) (c : ℕ) (st st' : State) (result : Result (ProcessResult H) ParseFault) → IsAt old st → IsAt mid st' → mid.stream ≡ old.stream → mid.sink ≡ old.sink
-      → ((b : ℕ) (s : S × List Reply) (t : List ℕ) → at step view cdata ends sound number broken st old b s (c ∷ t) ≡ at step view cdata ends sound number broken st' mid b s (c ∷ t))
-      → Keeps step view cdata ends sound number broken mid new c result → Keeps step view cdata ends sound number broken old new c result
+      → ((b : ℕ) (s : S × Notes ℕ) (t : List ℕ) → at step view cdata ends sound number broken errors st old b s (c ∷ t) ≡ at step view cdata ends sound number broken errors st' mid b s (c ∷ t))
+      → Keeps step view cdata ends sound number broken errors mid new c result → Keeps step view cdata ends sound number broken errors old new c result
   keeps_silent old mid new c st st' result from to stream same law h =
-      keeps-along old mid new c result stream (λ h. ap broken (sym same) ∙ h) (λ pauses t.
-      now-at step view cdata ends sound number broken old st old.stream.breaks (view old.sink, pauses) (c ∷ t) from
-      ∙ law old.stream.breaks (view old.sink, pauses) t
-      ∙ sym (now-at step view cdata ends sound number broken mid st' old.stream.breaks (view old.sink, pauses) (c ∷ t) to)
-      ∙ ap (λ k. now step view cdata ends sound number broken mid old.stream.breaks (view k, pauses) (c ∷ t)) (sym same)) h
+      keeps-along old mid new c result stream (λ h. ap broken (sym same) ∙ h) (rises-same errors old.sink mid.sink same) (λ notes t.
+      now-at step view cdata ends sound number broken errors old st old.stream.breaks (view old.sink, notes) (c ∷ t) from
+      ∙ law old.stream.breaks (view old.sink, notes) t
+      ∙ sym (now-at step view cdata ends sound number broken errors mid st' old.stream.breaks (view old.sink, notes) (c ∷ t) to)
+      ∙ ap (λ k. now step view cdata ends sound number broken errors mid old.stream.breaks (view k, notes) (c ∷ t)) (sym same)) h
 
   -- A token was told, and then the character is taken by another state.
-  pub keeps_told : (old mid on new target : Tokenizer K) (c : ℕ) (st st' : State) (token : Token) (result : Result (ProcessResult H) ParseFault) → IsAt old st → sound (view old.sink) → Told step view cdata ends sound number broken token old mid
+  pub keeps_told : {owed : ℕ} (old mid on new target : Tokenizer K) (c : ℕ) (st st' : State) (token : Token) (result : Result (ProcessResult H) ParseFault) → IsAt old st → sound (view old.sink) → Told step view cdata ends sound number broken errors owed token old mid
       → on ≡ record target { sink = mid.sink } → IsAt target st' → target.stream ≡ old.stream
-      → Says st old c token (λ b s t. at step view cdata ends sound number broken st' target b s (c ∷ t))
-      → Keeps step view cdata ends sound number broken on new c result → Keeps step view cdata ends sound number broken old new c result
-  keeps_told old mid on new target c st st' token result from ok told is to stream law h =
-      keeps-along old on new c result (ap (λ k. k.stream) is ∙ stream) (λ h. told-works told.works (ap (λ k. broken k.sink) (sym is) ∙ h)) (λ pauses t.
-      now-at step view cdata ends sound number broken old st old.stream.breaks (view old.sink, pauses) (c ∷ t) from
-      ∙ law old.stream.breaks (view old.sink, pauses) ok t
-      ∙ told-next old mid token pauses (λ s. at step view cdata ends sound number broken st' target old.stream.breaks s (c ∷ t)) told
-      ∙ sym (now-target target mid.sink st' old.stream.breaks (view mid.sink, pauses) (c ∷ t) to)
-      ∙ sym (ap (λ k. now step view cdata ends sound number broken k old.stream.breaks (view k.sink, pauses) (c ∷ t)) is)) h
+      → Says st old c owed token (λ b s t. at step view cdata ends sound number broken errors st' target b s (c ∷ t))
+      → Keeps step view cdata ends sound number broken errors on new c result → Keeps step view cdata ends sound number broken errors old new c result
+  keeps_told {owed} old mid on new target c st st' token result from ok told is to stream law h =
+      keeps-behind owed old on new c result (ap (λ k. k.stream) is ∙ stream) (λ h. told-works told.works (ap (λ k. broken k.sink) (sym is) ∙ h)) (rw is told.rises) (λ notes t.
+      now-at step view cdata ends sound number broken errors old st old.stream.breaks (view old.sink, notes) (c ∷ t) from
+      ∙ law old.stream.breaks (view old.sink, notes) ok t
+      ∙ told-next old mid token (more owed notes) (λ s. at step view cdata ends sound number broken errors st' target old.stream.breaks s (c ∷ t)) told
+      ∙ sym (now-target target mid.sink st' old.stream.breaks (view mid.sink, more owed notes) (c ∷ t) to)
+      ∙ sym (ap (λ k. now step view cdata ends sound number broken errors k old.stream.breaks (view k.sink, more owed notes) (c ∷ t)) is)) h
 
   -- The tag was told, and the character ended it.
-  pub took_tag : (old new : Tokenizer K) (c : ℕ) (st : State) (result : Result (ProcessResult H) ParseFault) → IsAt old st → c ≡ 62 → EndsTag step view cdata ends sound number broken old new result
-      → ((b : ℕ) (s : S × List Reply) → sound s.0 → (t : List ℕ) → at step view cdata ends sound number broken st old b s (c ∷ t)
-      ≡ (noting step s (TagToken old.tag) (line_number b) >>= λ p. reading (noting step) (noting_cdata cdata) (noting_end ends) (rows_of old) (next_stand (behind_tag (standing old InData) old.tag) p.1) b p.0 t))
-      → sound (view old.sink) → Keeps step view cdata ends sound number broken old new c result
+  pub took_tag : (old new : Tokenizer K) (c : ℕ) (st : State) (result : Result (ProcessResult H) ParseFault) → IsAt old st → c ≡ 62 → EndsTag step view cdata ends sound number broken errors old new result
+      → ((b : ℕ) (s : S × Notes ℕ) → sound s.0 → (t : List ℕ) → at step view cdata ends sound number broken errors st old b s (c ∷ t)
+      ≡ (noting step (s.0, more (one_if (is_faulty_tag old.tag)) s.1) (TagToken old.tag) (line_number b) >>= λ p. reading (noting step) noting_error (noting_cdata cdata) (noting_end ends) (rows_of old) (next_stand (behind_tag (standing old InData) old.tag) p.1) b p.0 t))
+      → sound (view old.sink) → Keeps step view cdata ends sound number broken errors old new c result
   took_tag old new c st (Ok result) from close h law ok = record {
-    same = λ pauses t.
-        now-at step view cdata ends sound number broken old st old.stream.breaks (view old.sink, pauses) (c ∷ t) from
-        ∙ law old.stream.breaks (view old.sink, pauses) ok t
-        ∙ h.same pauses t
-        ∙ ap (λ n. now step view cdata ends sound number broken new n (view new.sink, paused_by number pauses result) t) (sym (no-break old.stream.breaks c (ap (λ x. nat_eq x 10) close)));
+    owed = one_if (is_faulty_tag old.tag);
+    rises = h.rises;
+    same = λ notes t.
+        now-at step view cdata ends sound number broken errors old st old.stream.breaks (view old.sink, notes) (c ∷ t) from
+        ∙ law old.stream.breaks (view old.sink, notes) ok t
+        ∙ h.same notes t
+        ∙ ap (λ n. now step view cdata ends sound number broken errors new n (view new.sink, noted_by number (one_if (is_faulty_tag old.tag)) notes result) t) (sym (no-break old.stream.breaks c (ap (λ x. nat_eq x 10) close)));
     stream = h.stream;
     sound = h.sound;
     fits = h.fits;
     works = λ x. told-works h.works x;
     paused = rw close h.paused;
   }
-  took_tag old new c st (Err fault) from close h law ok = λ pauses t.
-      fails-along old.sink _ _ fault (now-at step view cdata ends sound number broken old st old.stream.breaks (view old.sink, pauses) (c ∷ t) from ∙ law old.stream.breaks (view old.sink, pauses) ok t)
-      (fails-first step view cdata ends sound number broken old.sink (step (view old.sink) (TagToken old.tag) (line_number old.stream.breaks)) _ fault
-      (λ e. bind-err (noting step (view old.sink, pauses) (TagToken old.tag) (line_number old.stream.breaks)) _ (noted-err pauses (step (view old.sink) (TagToken old.tag) (line_number old.stream.breaks)) e)) h)
+  took_tag old new c st (Err fault) from close h law ok = λ notes t.
+      token-fails old.sink _ (view old.sink) (more (one_if (is_faulty_tag old.tag)) notes) (TagToken old.tag) (line_number old.stream.breaks) fault _ h
+      (now-at step view cdata ends sound number broken errors old st old.stream.breaks (view old.sink, notes) (c ∷ t) from ∙ law old.stream.breaks (view old.sink, notes) ok t)
 
   -- An error that was told changes nothing that is to come.
-  erred-now : (old mid : Tokenizer K) (b : ℕ) (pauses : List Reply) (t : List ℕ) → Erred step view cdata ends sound number broken old mid → now step view cdata ends sound number broken old b (view old.sink, pauses) t ≡ now step view cdata ends sound number broken mid b (view mid.sink, pauses) t
-  erred-now old mid b pauses t h =
-      ap (λ s. now step view cdata ends sound number broken old b (s, pauses) t) (sym h.sink)
-      ∙ sym (held-other (noting step) (noting_cdata cdata) (noting_end ends) old.state old mid.sink old.stream b (view mid.sink, pauses) (pending old.char_ref ++ t) refl)
-      ∙ sym (ap (λ k. now step view cdata ends sound number broken k b (view mid.sink, pauses) t) h.changed)
+  erred-now : {owed : ℕ} (old mid : Tokenizer K) (b : ℕ) (notes : Notes ℕ) (t : List ℕ) → Erred step view cdata ends sound number broken errors owed old mid → now step view cdata ends sound number broken errors old b (view old.sink, notes) t ≡ now step view cdata ends sound number broken errors mid b (view mid.sink, notes) t
+  erred-now old mid b notes t h =
+      ap (λ s. now step view cdata ends sound number broken errors old b (s, notes) t) (sym h.sink)
+      ∙ sym (held-other (noting step) noting_error (noting_cdata cdata) (noting_end ends) old.state old mid.sink old.stream b (view mid.sink, notes) (pending old.char_ref ++ t) refl)
+      ∙ sym (ap (λ k. now step view cdata ends sound number broken errors k b (view mid.sink, notes) t) h.changed)
 
-  pub at_erred : (old mid : Tokenizer K) (st : State) → Erred step view cdata ends sound number broken old mid → IsAt old st → IsAt mid st
+  pub at_erred : {owed : ℕ} (old mid : Tokenizer K) (st : State) → Erred step view cdata ends sound number broken errors owed old mid → IsAt old st → IsAt mid st
   at_erred old mid st h at = record { state = ap (λ k. k.state) h.changed ∙ at.state; fresh = ap (λ k. k.char_ref) h.changed ∙ at.fresh }
 
-  pub sound_erred : (old mid : Tokenizer K) → Erred step view cdata ends sound number broken old mid → sound (view old.sink) → sound (view mid.sink)
+  pub sound_erred : {owed : ℕ} (old mid : Tokenizer K) → Erred step view cdata ends sound number broken errors owed old mid → sound (view old.sink) → sound (view mid.sink)
   sound_erred old mid h ok = rw h.sink ok
 
-  pub keeps_erred : (old mid new : Tokenizer K) (c : ℕ) (result : Result (ProcessResult H) ParseFault) → Erred step view cdata ends sound number broken old mid → Keeps step view cdata ends sound number broken mid new c result → Keeps step view cdata ends sound number broken old new c result
+  pub keeps_erred : {owed : ℕ} (old mid new : Tokenizer K) (c : ℕ) (result : Result (ProcessResult H) ParseFault) → Erred step view cdata ends sound number broken errors owed old mid → Keeps step view cdata ends sound number broken errors mid new c result → Keeps step view cdata ends sound number broken errors old new c result
   keeps_erred old mid new c result h k =
-      keeps-along old mid new c result (ap (λ k. k.stream) h.changed) h.works (λ pauses t. erred-now old mid old.stream.breaks pauses (c ∷ t) h) k
+      keeps-along old mid new c result (ap (λ k. k.stream) h.changed) h.works (rises-fewer errors old.sink mid.sink (omega arith) h.rises) (λ notes t. erred-now old mid old.stream.breaks notes (c ∷ t) h) k
+
+  -- An error was told for a faulty item that gives no token, and the character is taken by another state.
+  pub took_faulty : {owed : ℕ} (old mid new : Tokenizer K) (c : ℕ) (st st' : State) → IsAt old st → IsAt new st' → sound (view old.sink) → Erred step view cdata ends sound number broken errors owed old mid → new.stream ≡ mid.stream → new.sink ≡ mid.sink
+      → ((b : ℕ) (s : S × Notes ℕ) (t : List ℕ) → at step view cdata ends sound number broken errors st old b s (c ∷ t) ≡ at step view cdata ends sound number broken errors st' new (b + line_break (nat_eq c 10)) (s.0, more owed s.1) t)
+      → Took step view cdata ends sound number broken errors old new c flow.Continue
+  took_faulty {owed} old mid new c st st' from to ok h stream same law = record {
+    owed = owed;
+    rises = rw same h.rises;
+    same = λ notes t.
+        now-at step view cdata ends sound number broken errors old st old.stream.breaks (view old.sink, notes) (c ∷ t) from
+        ∙ law old.stream.breaks (view old.sink, notes) t
+        ∙ ap (λ s. at step view cdata ends sound number broken errors st' new (old.stream.breaks + line_break (nat_eq c 10)) (s, more owed notes) t) (sym (ap view same ∙ h.sink))
+        ∙ sym (now-at step view cdata ends sound number broken errors new st' (old.stream.breaks + line_break (nat_eq c 10)) (view new.sink, more owed notes) t to);
+    stream = stream ∙ ap (λ k. k.stream) h.changed;
+    sound = rw (ap view same ∙ h.sink) ok;
+    fits = fits-at new st' to;
+    works = λ x. h.works (ap broken (sym same) ∙ x);
+    paused = tt;
+  }

@@ -1,5 +1,5 @@
 -- The end of a reference in text.
-use Rattle.std.proofs.Common.{◌≡◌, ℕ, Bool, true, false, List, [], ◌∷◌, ◌++◌, Some, Result, refl}
+use Rattle.std.proofs.Common.{◌≡◌, ◌∙◌, ℕ, Bool, true, false, List, [], ◌∷◌, ◌++◌, Option, Some, Result, refl, sym, ap}
 use Rattle.std.specs.List.{list_all}
 use Rattle.std.specs.Result.{IsErrAnd}
 use Rattle.markup.specs.declared.fault.ParseFault.{ParseFault}
@@ -9,17 +9,20 @@ use Rattle.html_tokens.specs.declared.states.State.TheVariants as state
 use Rattle.html_tokens.specs.declared.token.Token.{Token}
 use Rattle.html_tokens.specs.declared.token.Token.TheVariants.{CharacterTokens}
 use Rattle.html_tokens.specs.Item.{InData, InRaw}
-use Rattle.html_tokens.specs.Pauses.{noting, noting_cdata, noting_end}
-use Rattle.html_tokens.specs.Reading.{◌>>=◌, line_number}
-use Rattle.html_tokens.specs.Sink.{Step, Reply, SinkLaws}
-use Rattle.html_tokenizer.specs.CharRefs.{IsDecided, is_held, resolved}
+use Rattle.html_tokens.specs.Notes.{Notes, noting, noting_error, noting_cdata, noting_end, one_if}
+use Rattle.html_tokens.specs.Reading.{◌>>=◌, line_number, reading}
+use Rattle.html_tokens.specs.Reference.{Reference, names_no_character}
+use Rattle.html_tokens.specs.Sink.{Step, SinkLaws}
+use Rattle.html_tokenizer.specs.CharRefs.{IsDecided, decided, is_faulty, is_held, resolved, resolved_by}
 use Rattle.html_tokenizer.specs.declared.tokenizer.Tokenizer.{Tokenizer}
 use Rattle.html_tokenizer.specs.Rest.{rows_of, standing, held_at}
-use Rattle.html_tokenizer.specs.Steps.{IsAt, Fails, Told, Keeps}
+use Rattle.html_tokenizer.specs.Steps.{IsAt, more, Fails, Told, Tells, Keeps}
+use Rattle.html_tokenizer.proofs.CharRefs.{none-within}
+use Rattle.html_tokenizer.proofs.Errors.{tells-fewer}
 use Rattle.html_tokenizer.proofs.Glue.{at}
 use Rattle.html_tokenizer.proofs.HeldGlue.{Resolves, keeps-resolved, not-resolved}
 use Rattle.html_tokenizer.proofs.HeldReadings.{ReadsHeld, held-no_null, held-no_open, held-no_reference, reading-at_end, reading-held}
-use Rattle.html_tokenizer.proofs.Lawful.{noting-lawful}
+use Rattle.html_tokenizer.proofs.Lawful.{noting-lawful, erred-sound, erred-more}
 
 module _ {K : Type 0} (k : Tokenizer K) where
   data-reads : ReadsHeld (rows_of k) (standing k InData)
@@ -34,42 +37,54 @@ module _ {K : Type 0} (k : Tokenizer K) where
     plain = λ x c t h. rw (held-no_open c h, held-no_reference c h, held-no_null c h) refl;
   }
 
-module _ {K S H : Type 0} (step : Step S) (view : K → S) (cdata : S → Bool) (ends : S → S) (sound : S → Type 0) (number : H → ℕ) (broken : K → Bool) (quiet : S → Token → Bool) (laws : SinkLaws sound step ends quiet) where
-  data-resolves : (old : Tokenizer K) (cs : List ℕ) (c : ℕ) → IsDecided (rows_of old) cs c → Resolves step view cdata ends sound number broken state.Data old cs c (CharacterTokens (resolved false (rows_of old) cs false))
-  unfolding held_at
-  data-resolves old cs c d b s h t = reading-held (λ p. sound p.0) (noting step) (noting_cdata cdata) (noting_end ends) (rows_of old) (noting-lawful sound step ends quiet laws) (standing old InData) b s h cs c t (data-reads old) d
+module _ {K S H : Type 0} (step : Step S) (view : K → S) (cdata : S → Bool) (ends : S → S) (sound : S → Type 0) (number : H → ℕ) (broken : K → Bool) (errors : K → ℕ) (quiet : S → Token → Bool) (laws : SinkLaws sound step ends quiet) where
+  -- What a reference stands for was told, behind the error that the Standard names, if it names one.
+  pub reference-told : (told has : Bool) (old new : Tokenizer K) (cs front text : List ℕ) (o : Option Reference) (result : Result (Unit {0}) ParseFault) → has ≡ told → has ≡ is_faulty false (rows_of old) cs false → text ≡ front ++ resolved_by o cs → front ≡ [] → o ≡ decided false (rows_of old) cs false
+      → Tells step view cdata ends sound number broken errors (one_if told) (CharacterTokens text) old new result
+      → Tells step view cdata ends sound number broken errors (one_if (names_no_character cs)) (CharacterTokens (resolved false (rows_of old) cs false)) old new result
+  reference-told told has old new cs front text o result e f is none found tells =
+      tells-fewer step view cdata ends sound number broken errors quiet laws (one_if told) (one_if (names_no_character cs)) old new (CharacterTokens (resolved false (rows_of old) cs false)) result (none-within false (rows_of old) cs false told (sym e ∙ f))
+      (rw (is ∙ ap (λ front. front ++ resolved_by o cs) none ∙ ap (λ o. resolved_by o cs) found) at tells)
 
-  rcdata-resolves : (old : Tokenizer K) (cs : List ℕ) (c : ℕ) → IsDecided (rows_of old) cs c → Resolves step view cdata ends sound number broken (state.RawData raw.Rcdata) old cs c (CharacterTokens (resolved false (rows_of old) cs false))
+  data-resolves : (old : Tokenizer K) (cs : List ℕ) (c : ℕ) → IsDecided (rows_of old) cs c → Resolves step view cdata ends sound number broken errors state.Data old cs c (one_if (names_no_character cs)) (CharacterTokens (resolved false (rows_of old) cs false))
   unfolding held_at
-  rcdata-resolves old cs c d b s h t = reading-held (λ p. sound p.0) (noting step) (noting_cdata cdata) (noting_end ends) (rows_of old) (noting-lawful sound step ends quiet laws) (standing old (InRaw raw.Rcdata)) b s h cs c t (rcdata-reads old) d
+  data-resolves old cs c d b s h t = reading-held (λ p. sound p.0) (noting step) noting_error (noting_cdata cdata) (noting_end ends) (rows_of old) (noting-lawful sound step ends quiet laws) (standing old InData) b s cs (erred-sound sound (names_no_character cs) s h) c t (data-reads old) d
+      ∙ ap (λ q. noting step q (CharacterTokens (resolved false (rows_of old) cs false)) (line_number b) >>= λ p. reading (noting step) noting_error (noting_cdata cdata) (noting_end ends) (rows_of old) (standing old InData) b p.0 (c ∷ t)) (erred-more (names_no_character cs) s)
+
+  rcdata-resolves : (old : Tokenizer K) (cs : List ℕ) (c : ℕ) → IsDecided (rows_of old) cs c → Resolves step view cdata ends sound number broken errors (state.RawData raw.Rcdata) old cs c (one_if (names_no_character cs)) (CharacterTokens (resolved false (rows_of old) cs false))
+  unfolding held_at
+  rcdata-resolves old cs c d b s h t = reading-held (λ p. sound p.0) (noting step) noting_error (noting_cdata cdata) (noting_end ends) (rows_of old) (noting-lawful sound step ends quiet laws) (standing old (InRaw raw.Rcdata)) b s cs (erred-sound sound (names_no_character cs) s h) c t (rcdata-reads old) d
+      ∙ ap (λ q. noting step q (CharacterTokens (resolved false (rows_of old) cs false)) (line_number b) >>= λ p. reading (noting step) noting_error (noting_cdata cdata) (noting_end ends) (rows_of old) (standing old (InRaw raw.Rcdata)) b p.0 (c ∷ t)) (erred-more (names_no_character cs) s)
 
   -- the same where the input ends
-  pub data-at_end : (old : Tokenizer K) (cs : List ℕ) → list_all is_held cs ≡ true → (b : ℕ) (s : S × List Reply) → sound s.0
-      → at step view cdata ends sound number broken state.Data old b s (38 ∷ cs ++ []) ≡ (noting step s (CharacterTokens (resolved false (rows_of old) cs false)) (line_number b) >>= λ p. at step view cdata ends sound number broken state.Data old b p.0 [])
+  pub data-at_end : (old : Tokenizer K) (cs : List ℕ) → list_all is_held cs ≡ true → (b : ℕ) (s : S × Notes ℕ) → sound s.0
+      → at step view cdata ends sound number broken errors state.Data old b s (38 ∷ cs ++ []) ≡ (noting step (s.0, more (one_if (names_no_character cs)) s.1) (CharacterTokens (resolved false (rows_of old) cs false)) (line_number b) >>= λ p. at step view cdata ends sound number broken errors state.Data old b p.0 [])
   unfolding held_at
-  data-at_end old cs held b s h = reading-at_end (λ p. sound p.0) (noting step) (noting_cdata cdata) (noting_end ends) (rows_of old) (noting-lawful sound step ends quiet laws) (standing old InData) b s h cs (data-reads old) held
+  data-at_end old cs held b s h = reading-at_end (λ p. sound p.0) (noting step) noting_error (noting_cdata cdata) (noting_end ends) (rows_of old) (noting-lawful sound step ends quiet laws) (standing old InData) b s cs (erred-sound sound (names_no_character cs) s h) (data-reads old) held
+      ∙ ap (λ q. noting step q (CharacterTokens (resolved false (rows_of old) cs false)) (line_number b) >>= λ p. reading (noting step) noting_error (noting_cdata cdata) (noting_end ends) (rows_of old) (standing old InData) b p.0 []) (erred-more (names_no_character cs) s)
 
-  pub rcdata-at_end : (old : Tokenizer K) (cs : List ℕ) → list_all is_held cs ≡ true → (b : ℕ) (s : S × List Reply) → sound s.0
-      → at step view cdata ends sound number broken (state.RawData raw.Rcdata) old b s (38 ∷ cs ++ []) ≡ (noting step s (CharacterTokens (resolved false (rows_of old) cs false)) (line_number b) >>= λ p. at step view cdata ends sound number broken (state.RawData raw.Rcdata) old b p.0 [])
+  pub rcdata-at_end : (old : Tokenizer K) (cs : List ℕ) → list_all is_held cs ≡ true → (b : ℕ) (s : S × Notes ℕ) → sound s.0
+      → at step view cdata ends sound number broken errors (state.RawData raw.Rcdata) old b s (38 ∷ cs ++ []) ≡ (noting step (s.0, more (one_if (names_no_character cs)) s.1) (CharacterTokens (resolved false (rows_of old) cs false)) (line_number b) >>= λ p. at step view cdata ends sound number broken errors (state.RawData raw.Rcdata) old b p.0 [])
   unfolding held_at
-  rcdata-at_end old cs held b s h = reading-at_end (λ p. sound p.0) (noting step) (noting_cdata cdata) (noting_end ends) (rows_of old) (noting-lawful sound step ends quiet laws) (standing old (InRaw raw.Rcdata)) b s h cs (rcdata-reads old) held
+  rcdata-at_end old cs held b s h = reading-at_end (λ p. sound p.0) (noting step) noting_error (noting_cdata cdata) (noting_end ends) (rows_of old) (noting-lawful sound step ends quiet laws) (standing old (InRaw raw.Rcdata)) b s cs (erred-sound sound (names_no_character cs) s h) (rcdata-reads old) held
+      ∙ ap (λ q. noting step q (CharacterTokens (resolved false (rows_of old) cs false)) (line_number b) >>= λ p. reading (noting step) noting_error (noting_cdata cdata) (noting_end ends) (rows_of old) (standing old (InRaw raw.Rcdata)) b p.0 []) (erred-more (names_no_character cs) s)
 
   pub data-ended : (old mid new : Tokenizer K) (cs : List ℕ) (c : ℕ) (result : Result (ProcessResult H) ParseFault) → IsAt old state.Data → sound (view old.sink) → IsDecided (rows_of old) cs c
-      → Told step view cdata ends sound number broken (CharacterTokens (resolved false (rows_of old) cs false)) old mid
-      → Keeps step view cdata ends sound number broken mid new c result → Keeps step view cdata ends sound number broken (record old { char_ref = Some cs }) new c result
-  data-ended old mid new cs c result from ok d told h = keeps-resolved step view cdata ends sound number broken old mid new cs c state.Data (CharacterTokens (resolved false (rows_of old) cs false)) result from refl ok told (data-resolves old cs c d) h
+      → Told step view cdata ends sound number broken errors (one_if (names_no_character cs)) (CharacterTokens (resolved false (rows_of old) cs false)) old mid
+      → Keeps step view cdata ends sound number broken errors mid new c result → Keeps step view cdata ends sound number broken errors (record old { char_ref = Some cs }) new c result
+  data-ended old mid new cs c result from ok d told h = keeps-resolved step view cdata ends sound number broken errors old mid new cs c state.Data (CharacterTokens (resolved false (rows_of old) cs false)) result from refl ok told (data-resolves old cs c d) h
 
   pub data-failed : (old new : Tokenizer K) (cs : List ℕ) (c : ℕ) (result : Result (ProcessResult H) ParseFault) (fault : ParseFault) → IsAt old state.Data → sound (view old.sink) → IsDecided (rows_of old) cs c
-      → IsErrAnd result (λ y. y ≡ fault) → Fails step view cdata ends sound number broken old.sink (step (view old.sink) (CharacterTokens (resolved false (rows_of old) cs false)) (line_number old.stream.breaks)) fault
-      → Keeps step view cdata ends sound number broken (record old { char_ref = Some cs }) new c result
-  data-failed old new cs c result fault from ok d is fails = not-resolved step view cdata ends sound number broken old new cs c state.Data (CharacterTokens (resolved false (rows_of old) cs false)) result fault from refl ok is fails (data-resolves old cs c d)
+      → IsErrAnd result (λ y. y ≡ fault) → Fails step view cdata ends sound number broken errors old.sink (step (view old.sink) (CharacterTokens (resolved false (rows_of old) cs false)) (line_number old.stream.breaks)) fault
+      → Keeps step view cdata ends sound number broken errors (record old { char_ref = Some cs }) new c result
+  data-failed old new cs c result fault from ok d is fails = not-resolved step view cdata ends sound number broken errors (one_if (names_no_character cs)) old new cs c state.Data (CharacterTokens (resolved false (rows_of old) cs false)) result fault from refl ok is fails (data-resolves old cs c d)
 
   pub rcdata-ended : (old mid new : Tokenizer K) (cs : List ℕ) (c : ℕ) (result : Result (ProcessResult H) ParseFault) → IsAt old (state.RawData raw.Rcdata) → sound (view old.sink) → IsDecided (rows_of old) cs c
-      → Told step view cdata ends sound number broken (CharacterTokens (resolved false (rows_of old) cs false)) old mid
-      → Keeps step view cdata ends sound number broken mid new c result → Keeps step view cdata ends sound number broken (record old { char_ref = Some cs }) new c result
-  rcdata-ended old mid new cs c result from ok d told h = keeps-resolved step view cdata ends sound number broken old mid new cs c (state.RawData raw.Rcdata) (CharacterTokens (resolved false (rows_of old) cs false)) result from refl ok told (rcdata-resolves old cs c d) h
+      → Told step view cdata ends sound number broken errors (one_if (names_no_character cs)) (CharacterTokens (resolved false (rows_of old) cs false)) old mid
+      → Keeps step view cdata ends sound number broken errors mid new c result → Keeps step view cdata ends sound number broken errors (record old { char_ref = Some cs }) new c result
+  rcdata-ended old mid new cs c result from ok d told h = keeps-resolved step view cdata ends sound number broken errors old mid new cs c (state.RawData raw.Rcdata) (CharacterTokens (resolved false (rows_of old) cs false)) result from refl ok told (rcdata-resolves old cs c d) h
 
   pub rcdata-failed : (old new : Tokenizer K) (cs : List ℕ) (c : ℕ) (result : Result (ProcessResult H) ParseFault) (fault : ParseFault) → IsAt old (state.RawData raw.Rcdata) → sound (view old.sink) → IsDecided (rows_of old) cs c
-      → IsErrAnd result (λ y. y ≡ fault) → Fails step view cdata ends sound number broken old.sink (step (view old.sink) (CharacterTokens (resolved false (rows_of old) cs false)) (line_number old.stream.breaks)) fault
-      → Keeps step view cdata ends sound number broken (record old { char_ref = Some cs }) new c result
-  rcdata-failed old new cs c result fault from ok d is fails = not-resolved step view cdata ends sound number broken old new cs c (state.RawData raw.Rcdata) (CharacterTokens (resolved false (rows_of old) cs false)) result fault from refl ok is fails (rcdata-resolves old cs c d)
+      → IsErrAnd result (λ y. y ≡ fault) → Fails step view cdata ends sound number broken errors old.sink (step (view old.sink) (CharacterTokens (resolved false (rows_of old) cs false)) (line_number old.stream.breaks)) fault
+      → Keeps step view cdata ends sound number broken errors (record old { char_ref = Some cs }) new c result
+  rcdata-failed old new cs c result fault from ok d is fails = not-resolved step view cdata ends sound number broken errors (one_if (names_no_character cs)) old new cs c (state.RawData raw.Rcdata) (CharacterTokens (resolved false (rows_of old) cs false)) result fault from refl ok is fails (rcdata-resolves old cs c d)

@@ -4,12 +4,12 @@ use Rattle.std.specs.Prelude.{IfSome}
 use Rattle.std.specs.List.{list_all}
 use Rattle.std.proofs.lemmas.Bool.{and_parts}
 use Rattle.std.proofs.lemmas.Bool.Decides.{nat_tests}
+use Rattle.html_tokens.specs.Notes.{NotedStep}
 use Rattle.html_tokens.specs.declared.tags.Tag.{Tag}
 use Rattle.html_tokens.specs.Characters.{ends_word}
 use Rattle.html_tokens.specs.Item.{InTag, Item, Stand, behind, behind_all, moved, silent}
 use Rattle.html_tokens.specs.Reading.{play}
 use Rattle.html_tokens.specs.Reference.{Reference, reference_at}
-use Rattle.html_tokens.specs.Sink.{Step}
 use Rattle.html_tokens.specs.Table.{Row}
 use Rattle.html_tokens.specs.Tags.{Value, later, quote_at, quoted_after, reference_chars, reference_len, unquoted_after, value_from, with_attribute}
 use Rattle.html_tokenizer.specs.CharRefs.{decided, is_held, resolved, resolved_by}
@@ -125,28 +125,28 @@ module _ (rows : List Row) (st : Stand) (tag : Tag) (name front cs u : List ℕ)
       ∙ ap (λ u. quote_at (more (suc (length cs)) v.len) (moved st (InTag (with_attribute tag name ((front ++ told_value) ++ v.chars)))) u) (drop-more (38 ∷ cs) u v.len)
       ∙ quote-more (suc (length cs)) v.len (moved st (InTag (with_attribute tag name ((front ++ told_value) ++ v.chars)))) (drop v.len u)
 
-module _ {T : Type 0} (step : Step T) (cdata : T → Bool) (ends : T → T) (rows : List Row) where
+module _ {T : Type 0} (step : NotedStep T) (erred : T → T) (cdata : T → Bool) (ends : T → T) (rows : List Row) where
   -- an item behind characters that were held
-  play-behind_all : (j : Item) (b : ℕ) (s : T) (xs t : List ℕ) → list_all is_held xs ≡ true → play step cdata ends rows (behind_all (length xs) j) b s (xs ++ t) ≡ play step cdata ends rows j b s t
+  play-behind_all : (j : Item) (b : ℕ) (s : T) (xs t : List ℕ) → list_all is_held xs ≡ true → play step erred cdata ends rows (behind_all (length xs) j) b s (xs ++ t) ≡ play step erred cdata ends rows j b s t
   play-behind_all j b s [] t h = refl
   play-behind_all j b s (x ∷ xs) t h =
       let p = and_parts (is_held x) (list_all is_held xs) h in
-      play-is step cdata ends rows (behind_all (length (x ∷ xs)) j) (behind_all (length xs) j) b s x (xs ++ t) refl
-      ∙ ap (λ n. play step cdata ends rows (behind_all (length xs) j) n s (xs ++ t)) (no-break b x (held-unbroken x p.0))
+      play-is step erred cdata ends rows (behind_all (length (x ∷ xs)) j) (behind_all (length xs) j) b s x (xs ++ t) refl
+      ∙ ap (λ n. play step erred cdata ends rows (behind_all (length xs) j) n s (xs ++ t)) (no-break b x (held-unbroken x p.0))
       ∙ play-behind_all j b s xs t p.1
 
-  play-held : (i j : Item) (b : ℕ) (s : T) (cs t : List ℕ) → list_all is_held cs ≡ true → i ≡ behind_all (suc (length cs)) j → play step cdata ends rows i b s (38 ∷ cs ++ t) ≡ play step cdata ends rows j b s t
+  play-held : (i j : Item) (b : ℕ) (s : T) (cs t : List ℕ) → list_all is_held cs ≡ true → i ≡ behind_all (suc (length cs)) j → play step erred cdata ends rows i b s (38 ∷ cs ++ t) ≡ play step erred cdata ends rows j b s t
   play-held i j b s cs t h e =
-      play-is step cdata ends rows i (behind_all (length cs) j) b s 38 (cs ++ t) e
-      ∙ ap (λ n. play step cdata ends rows (behind_all (length cs) j) n s (cs ++ t)) (no-break b 38 refl)
+      play-is step erred cdata ends rows i (behind_all (length cs) j) b s 38 (cs ++ t) e
+      ∙ ap (λ n. play step erred cdata ends rows (behind_all (length cs) j) n s (cs ++ t)) (no-break b 38 refl)
       ∙ play-behind_all j b s cs t h
 
   module _ (st : Stand) (tag : Tag) (name front cs u : List ℕ) (follows : Bool) (b : ℕ) (s : T) (held : list_all is_held cs ≡ true) (e : reference_at true rows (cs ++ u) ≡ decided true rows cs follows) where
-    pub play-unquoted : play step cdata ends rows (unquoted_after rows st tag name front (38 ∷ cs ++ u)) b s (38 ∷ cs ++ u) ≡ play step cdata ends rows (unquoted_after rows st tag name (front ++ resolved true rows cs follows) u) b s u
+    pub play-unquoted : play step erred cdata ends rows (unquoted_after rows st tag name front (38 ∷ cs ++ u)) b s (38 ∷ cs ++ u) ≡ play step erred cdata ends rows (unquoted_after rows st tag name (front ++ resolved true rows cs follows) u) b s u
     play-unquoted = play-held _ _ b s cs u held (unquoted-held rows st tag name front cs u follows held e)
 
-    pub play-double : play step cdata ends rows (quoted_after rows 34 st tag name front (38 ∷ cs ++ u)) b s (38 ∷ cs ++ u) ≡ play step cdata ends rows (quoted_after rows 34 st tag name (front ++ resolved true rows cs follows) u) b s u
+    pub play-double : play step erred cdata ends rows (quoted_after rows 34 st tag name front (38 ∷ cs ++ u)) b s (38 ∷ cs ++ u) ≡ play step erred cdata ends rows (quoted_after rows 34 st tag name (front ++ resolved true rows cs follows) u) b s u
     play-double = play-held _ _ b s cs u held (quoted-held rows st tag name front cs u follows held e 34 double-goes_on)
 
-    pub play-single : play step cdata ends rows (quoted_after rows 39 st tag name front (38 ∷ cs ++ u)) b s (38 ∷ cs ++ u) ≡ play step cdata ends rows (quoted_after rows 39 st tag name (front ++ resolved true rows cs follows) u) b s u
+    pub play-single : play step erred cdata ends rows (quoted_after rows 39 st tag name front (38 ∷ cs ++ u)) b s (38 ∷ cs ++ u) ≡ play step erred cdata ends rows (quoted_after rows 39 st tag name (front ++ resolved true rows cs follows) u) b s u
     play-single = play-held _ _ b s cs u held (quoted-held rows st tag name front cs u follows held e 39 single-goes_on)

@@ -34,6 +34,7 @@ pub mod Keywords
 pub mod Lawful
 pub mod Lines
 pub mod Opens
+pub mod Owing
 pub mod RawEndTags
 pub mod RawEnds
 pub mod RawKinds
@@ -41,10 +42,12 @@ pub mod RawNames
 pub mod RawStates
 pub mod Readings
 pub mod Refused
+pub mod Rises
 pub mod RunStops
 pub mod Runs
 pub mod ScriptStates
 pub mod Sets
+pub mod ShownTexts
 pub mod TagEnds
 pub mod TagGlue
 pub mod TagReadings

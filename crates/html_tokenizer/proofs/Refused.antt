@@ -1,5 +1,5 @@
 -- Where a sink refuses every token, a reading is refused.
-use Rattle.std.proofs.Common.{◌≡◌, ℕ, zero, suc, ◌+◌, ◌-◌, Bool, List, [], ◌∷◌, take, Option, Some, None, Result}
+use Rattle.std.proofs.Common.{◌≡◌, ℕ, zero, suc, ◌+◌, ◌-◌, Bool, true, false, List, [], ◌∷◌, take, Option, Some, None, Result}
 use Rattle.std.specs.Prelude.{IsErr}
 use Rattle.std.specs.Result.{IsErrAnd}
 use Rattle.std.proofs.lemmas.Result.{err_from_is_err_and}
@@ -10,40 +10,49 @@ use Rattle.html_tokens.specs.declared.replies.TokenSinkResult.TheVariants.{Conti
 use Rattle.html_tokens.specs.declared.states.State.{State}
 use Rattle.html_tokens.specs.declared.token.Token.{Token}
 use Rattle.html_tokens.specs.declared.token.Token.TheVariants.{EOFToken}
-use Rattle.html_tokens.specs.Item.{Stand}
+use Rattle.html_tokens.specs.Item.{Stand, is_cut}
 use Rattle.html_tokens.specs.Items.{item}
-use Rattle.html_tokens.specs.Pauses.{noting}
-use Rattle.html_tokens.specs.Reading.{said, next_stand, line_breaks, reading_from}
+use Rattle.html_tokens.specs.Notes.{Notes, NotedStep, noting, noting_error}
+use Rattle.html_tokens.specs.Reading.{erred_if, said, next_stand, line_breaks, reading_from}
 use Rattle.html_tokens.specs.Sink.{◌>>=◌, Step, Reply, Refusal}
 use Rattle.html_tokens.specs.Table.{Row}
 use Rattle.html_tokenizer.specs.declared.tokenizer.Tokenizer.{Tokenizer}
 use Rattle.html_tokenizer.specs.Steps.{IsAt, Fails, Keeps}
-use Rattle.html_tokenizer.proofs.Glue.{at, now-at, fails-along, bind-err, noted-err}
+use Rattle.html_tokenizer.proofs.Glue.{at, now-at, fails-along, bind-err, noted-err, err-noted}
 
-module _ {T : Type 0} (step : Step T) (cdata : T → Bool) (ends : T → T) (rows : List Row) where
+module _ {T : Type 0} (step : NotedStep T) where
   abbrev pub AllRefused : T → Type 0
   AllRefused s = (token : Token) (line : ℕ) → IsErr (step s token line)
 
-  pub said-refused : (s : T) → AllRefused s → (token : Option Token) (b : ℕ) (next : T × Reply → Result T Refusal) → ((reply : Reply) → IsErr (next (s, reply))) → IsErr (said step token b s >>= next)
-  said-refused s h None b next k = k Continue
-  said-refused s h (Some token) b next k = bind-err _ next (h token _)
+module _ {T : Type 0} (step : NotedStep T) (erred : T → T) (cdata : T → Bool) (ends : T → T) (rows : List Row) (errs : (s : T) → AllRefused step s → AllRefused step (erred s)) where
+  erred-refused : (faulty : Bool) (s : T) → AllRefused step s → AllRefused step (erred_if erred faulty s)
+  erred-refused true s h = errs s h
+  erred-refused false s h = h
 
-  pub reading-refused : (s : T) → AllRefused s → (n : ℕ) (st : Stand) (b : ℕ) (t : List ℕ) → IsErr (reading_from step cdata ends rows n st b s t)
+  pub said-refused : (faulty : Bool) (s : T) → AllRefused step s → (token : Option Token) (b : ℕ) (next : T × Reply → Result T (Refusal × ℕ)) → ((q : T) → AllRefused step q → (reply : Reply) → IsErr (next (q, reply))) → IsErr (said step erred faulty token b s >>= next)
+  said-refused faulty s h None b next k = k (erred_if erred faulty s) (erred-refused faulty s h) Continue
+  said-refused faulty s h (Some token) b next k = bind-err _ next (erred-refused faulty s h token _)
+
+  pub reading-refused : (s : T) → AllRefused step s → (n : ℕ) (st : Stand) (b : ℕ) (t : List ℕ) → IsErr (reading_from step erred cdata ends rows n st b s t)
   unfolding reading_from
-  reading-refused s h n st b [] = bind-err _ _ (h EOFToken _)
+  reading-refused s h n st b [] = bind-err _ _ (erred-refused (is_cut st.place) s h EOFToken _)
   reading-refused s h zero st b (c ∷ t) =
       let i = item rows (cdata s) st c t in
       let read = b + line_breaks (take i.len (c ∷ t)) in
-      said-refused s h i.token read (λ p. reading_from step cdata ends rows (i.len - 1) (next_stand i.next p.1) read p.0 t) (λ reply. reading-refused s h (i.len - 1) (next_stand i.next reply) read t)
+      said-refused i.is_faulty s h i.token read (λ p. reading_from step erred cdata ends rows (i.len - 1) (next_stand i.next p.1) read p.0 t) (λ q g reply. reading-refused q g (i.len - 1) (next_stand i.next reply) read t)
   reading-refused s h (suc n) st b (c ∷ t) = reading-refused s h n st b t
 
-module _ {K S H : Type 0} (step : Step S) (view : K → S) (cdata : S → Bool) (ends : S → S) (sound : S → Type 0) (number : H → ℕ) (broken : K → Bool) where
-  -- a sink that notes its pauses refuses what the sink refuses
-  pub noting-refused : (s : S) (pauses : List Reply) → ((token : Token) (line : ℕ) → IsErr (step s token line)) → (token : Token) (line : ℕ) → IsErr (noting step (s, pauses) token line)
-  noting-refused s pauses h token line = noted-err pauses (step s token line) (h token line)
+module _ {K S H : Type 0} (step : Step S) (view : K → S) (cdata : S → Bool) (ends : S → S) (sound : S → Type 0) (number : H → ℕ) (broken : K → Bool) (errors : K → ℕ) where
+  -- a sink of which something is noted refuses what the sink refuses
+  pub noting-refused : (s : S) (notes : Notes ℕ) → ((token : Token) (line : ℕ) → IsErr (step s token line)) → (token : Token) (line : ℕ) → IsErr (noting step (s, notes) token line)
+  noting-refused s notes h token line = noted-err notes (step s token line) (h token line)
 
-  pub every-fails : (sink : K) (s : S) (fault : ParseFault) {A : Type 0} (given : Result A Refusal) → ((token : Token) (line : ℕ) → Fails step view cdata ends sound number broken sink (step s token line) fault)
-      → (((token : Token) (line : ℕ) → IsErr (step s token line)) → IsErr given) → Fails step view cdata ends sound number broken sink given fault
+  -- the same behind a fault
+  pub noting-errs : (s : S × Notes ℕ) → AllRefused (noting step) s → AllRefused (noting step) (noting_error s)
+  noting-errs s h token line = noted-err (noting_error s).1 (step s.0 token line) (err-noted s.1 (step s.0 token line) (h token line))
+
+  pub every-fails : (sink : K) (s : S) (fault : ParseFault) {A F : Type 0} (given : Result A F) → ((token : Token) (line : ℕ) → Fails step view cdata ends sound number broken errors sink (step s token line) fault)
+      → (((token : Token) (line : ℕ) → IsErr (step s token line)) → IsErr given) → Fails step view cdata ends sound number broken errors sink given fault
   every-fails sink s Memory given h k = tt
   every-fails sink s TokenInText given h k = (k (λ token line. (h token line).0), (h EOFToken 0).1)
   every-fails sink s Ended given h k = (k (λ token line. (h token line).0), (h EOFToken 0).1)
@@ -52,12 +61,12 @@ module _ {K S H : Type 0} (step : Step S) (view : K → S) (cdata : S → Bool) 
 
   -- An error could not be told, and what was to come is refused where every token is.
   pub keeps_failed : (old new : Tokenizer K) (c : ℕ) (st : State) (result : Result (ProcessResult H) ParseFault) (fault : ParseFault) → IsAt old st → IsErrAnd result (λ y. y ≡ fault)
-      → ((token : Token) (line : ℕ) → Fails step view cdata ends sound number broken old.sink (step (view old.sink) token line) fault)
-      → ((b : ℕ) (s : S × List Reply) → ((token : Token) (line : ℕ) → IsErr (noting step s token line)) → (t : List ℕ) → IsErr (at step view cdata ends sound number broken st old b s (c ∷ t)))
-      → Keeps step view cdata ends sound number broken old new c result
+      → ((token : Token) (line : ℕ) → Fails step view cdata ends sound number broken errors old.sink (step (view old.sink) token line) fault)
+      → ((b : ℕ) (s : S × Notes ℕ) → ((token : Token) (line : ℕ) → IsErr (noting step s token line)) → (t : List ℕ) → IsErr (at step view cdata ends sound number broken errors st old b s (c ∷ t)))
+      → Keeps step view cdata ends sound number broken errors old new c result
   keeps_failed old new c st result fault from is fails law =
       let p = err_from_is_err_and result is in
-      rw (p.1, p.2) (λ pauses t.
-      fails-along step view cdata ends sound number broken old.sink _ _ fault (now-at step view cdata ends sound number broken old st old.stream.breaks (view old.sink, pauses) (c ∷ t) from)
-      (every-fails old.sink (view old.sink) fault (at step view cdata ends sound number broken st old old.stream.breaks (view old.sink, pauses) (c ∷ t)) fails
-      (λ h. law old.stream.breaks (view old.sink, pauses) (noting-refused (view old.sink) pauses h) t)))
+      rw (p.1, p.2) (λ notes t.
+      fails-along step view cdata ends sound number broken errors old.sink _ _ fault (now-at step view cdata ends sound number broken errors old st old.stream.breaks (view old.sink, notes) (c ∷ t) from)
+      (every-fails old.sink (view old.sink) fault (at step view cdata ends sound number broken errors st old old.stream.breaks (view old.sink, notes) (c ∷ t)) fails
+      (λ h. law old.stream.breaks (view old.sink, notes) (noting-refused (view old.sink) notes h) t)))

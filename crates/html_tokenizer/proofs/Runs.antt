@@ -1,54 +1,55 @@
 -- How a reading goes on by one character that is no line break, and by a run of text.
 use Rattle.std.proofs.Common.{◌≡◌, ◌∙◌, ℕ, ◌+◌, Bool, false, nat_eq, List, [], ◌∷◌, ◌++◌, Result, Ok, Err, refl, ap}
+use Rattle.html_tokens.specs.Notes.{NotedStep}
 use Rattle.html_tokens.specs.declared.token.Token.{Token}
 use Rattle.html_tokens.specs.declared.token.Token.TheVariants.{CharacterTokens}
-use Rattle.html_tokens.specs.Item.{Stand, told, character}
+use Rattle.html_tokens.specs.Item.{Stand, told_as, character}
 use Rattle.html_tokens.specs.Items.{item}
-use Rattle.html_tokens.specs.Reading.{◌>>=◌, line_number, line_break, reading}
-use Rattle.html_tokens.specs.Sink.{Step, Refusal}
+use Rattle.html_tokens.specs.Reading.{◌>>=◌, erred_if, line_number, line_break, reading}
 use Rattle.html_tokens.specs.Table.{Row}
 use Rattle.html_tokens.proofs.Readings.{bind_where}
 use Rattle.std.proofs.lemmas.Result.{IfOk-weaker}
 use Rattle.html_tokenizer.specs.Steps.{IsNoTag}
 use Rattle.html_tokenizer.proofs.Lawful.{Lawful}
-use Rattle.html_tokenizer.proofs.Readings.{reading-char, reading-is, play-told, sum-zero}
+use Rattle.html_tokenizer.proofs.Readings.{reading-char, reading-is, play-told_as, sum-zero}
 use Rattle.html_tokenizer.proofs.Glue.{no-break}
 
-bind-again : {A B C : Type 0} (r : Result A Refusal) (f : A → Result B Refusal) (g : B → Result C Refusal) → (r >>= λ x. f x >>= g) ≡ ((r >>= f) >>= g)
+bind-again : {A B C F : Type 0} (r : Result A F) (f : A → Result B F) (g : B → Result C F) → (r >>= λ x. f x >>= g) ≡ ((r >>= f) >>= g)
 bind-again (Ok x) f g = refl
 bind-again (Err e) f g = refl
 
-module _ {T : Type 0} (sound : T → Type 0) (step : Step T) (cdata : T → Bool) (ends : T → T) (rows : List Row) (laws : Lawful sound step) where
+module _ {T : Type 0} (sound : T → Type 0) (step : NotedStep T) (erred : T → T) (cdata : T → Bool) (ends : T → T) (rows : List Row) (laws : Lawful sound step) where
   -- a character that is read as a token that is no tag, and is no line break
-  pub reading-token : (st next : Stand) (b : ℕ) (s : T) → sound s → (c : ℕ) (t : List ℕ) (token : Token) → IsNoTag token → nat_eq c 10 ≡ false → item rows (cdata s) st c t ≡ told token 1 next
-      → reading step cdata ends rows st b s (c ∷ t) ≡ (step s token (line_number b) >>= λ p. reading step cdata ends rows next (b + line_break (nat_eq c 10)) p.0 t)
-  reading-token st next b s h c t token none unbroken e =
+  pub reading-token : (faulty : Bool) (st next : Stand) (b : ℕ) (s : T) → sound (erred_if erred faulty s) → (c : ℕ) (t : List ℕ) (token : Token) → IsNoTag token → nat_eq c 10 ≡ false → item rows (cdata s) st c t ≡ told_as faulty token 1 next
+      → reading step erred cdata ends rows st b s (c ∷ t) ≡ (step (erred_if erred faulty s) token (line_number b) >>= λ p. reading step erred cdata ends rows next (b + line_break (nat_eq c 10)) p.0 t)
+  reading-token faulty st next b s h c t token none unbroken e =
       let read = b + line_break (nat_eq c 10) in
-      reading-is step cdata ends rows st b s c t (told token 0 next) e
-      ∙ play-told sound step cdata ends rows laws token 0 next read s h t none
-      ∙ ap (λ n. step s token (line_number n) >>= λ p. reading step cdata ends rows next n p.0 t) (sum-zero read)
-      ∙ ap (λ n. step s token (line_number n) >>= λ p. reading step cdata ends rows next read p.0 t) (no-break b c unbroken)
+      let q = erred_if erred faulty s in
+      reading-is step erred cdata ends rows st b s c t (told_as faulty token 0 next) e
+      ∙ play-told_as sound step erred cdata ends rows laws faulty token 0 next read s h t none
+      ∙ ap (λ n. step q token (line_number n) >>= λ p. reading step erred cdata ends rows next n p.0 t) (sum-zero read)
+      ∙ ap (λ n. step q token (line_number n) >>= λ p. reading step erred cdata ends rows next read p.0 t) (no-break b c unbroken)
 
   -- a character that is read as one of text, and is no line break
   pub reading-text : (st next : Stand) (b : ℕ) (s : T) → sound s → (c : ℕ) (t : List ℕ) (l : ℕ) → nat_eq c 10 ≡ false → item rows (cdata s) st c t ≡ character c next
-      → reading step cdata ends rows st b s (c ∷ t) ≡ (step s (CharacterTokens (c ∷ [])) l >>= λ p. reading step cdata ends rows next b p.0 t)
+      → reading step erred cdata ends rows st b s (c ∷ t) ≡ (step s (CharacterTokens (c ∷ [])) l >>= λ p. reading step erred cdata ends rows next b p.0 t)
   reading-text st next b s h c t l unbroken e =
-      reading-char sound step cdata ends rows laws st next b s h c c t l e
-      ∙ ap (λ n. step s (CharacterTokens (c ∷ [])) l >>= λ p. reading step cdata ends rows next n p.0 t) (no-break b c unbroken)
+      reading-char sound step erred cdata ends rows laws st next b s h c c t l e
+      ∙ ap (λ n. step s (CharacterTokens (c ∷ [])) l >>= λ p. reading step erred cdata ends rows next n p.0 t) (no-break b c unbroken)
 
   -- text, and then one character more of it
   pub told-more : (st next : Stand) (b : ℕ) (s : T) → sound s → (a : List ℕ) (c : ℕ) (t : List ℕ) (l : ℕ)
-      → ((s : T) → sound s → reading step cdata ends rows st b s (c ∷ t) ≡ (step s (CharacterTokens (c ∷ [])) l >>= λ p. reading step cdata ends rows next b p.0 t))
-      → (step s (CharacterTokens a) l >>= λ p. reading step cdata ends rows st b p.0 (c ∷ t)) ≡ (step s (CharacterTokens (a ++ c ∷ [])) l >>= λ p. reading step cdata ends rows next b p.0 t)
+      → ((s : T) → sound s → reading step erred cdata ends rows st b s (c ∷ t) ≡ (step s (CharacterTokens (c ∷ [])) l >>= λ p. reading step erred cdata ends rows next b p.0 t))
+      → (step s (CharacterTokens a) l >>= λ p. reading step erred cdata ends rows st b p.0 (c ∷ t)) ≡ (step s (CharacterTokens (a ++ c ∷ [])) l >>= λ p. reading step erred cdata ends rows next b p.0 t)
   told-more st next b s h a c t l each =
       bind_where (step s (CharacterTokens a) l) _ _ (IfOk-weaker (step s (CharacterTokens a) l) _ _ (λ p ok. each p.0 ok) (laws.keeps s h (CharacterTokens a) l))
-      ∙ bind-again (step s (CharacterTokens a) l) (λ p. step p.0 (CharacterTokens (c ∷ [])) l) (λ p. reading step cdata ends rows next b p.0 t)
-      ∙ ap (λ r. r >>= λ p. reading step cdata ends rows next b p.0 t) (laws.pieces s h a (c ∷ []) l l l)
+      ∙ bind-again (step s (CharacterTokens a) l) (λ p. step p.0 (CharacterTokens (c ∷ [])) l) (λ p. reading step erred cdata ends rows next b p.0 t)
+      ∙ ap (λ r. r >>= λ p. reading step erred cdata ends rows next b p.0 t) (laws.pieces s h a (c ∷ []) l l l)
 
   -- two characters that are read as text, and are no line breaks
   pub reading-two : (st mid next : Stand) (b : ℕ) (s : T) → sound s → (c d : ℕ) (t : List ℕ) (l : ℕ) → nat_eq c 10 ≡ false → nat_eq d 10 ≡ false
       → ((x : Bool) → item rows x st c (d ∷ t) ≡ character c mid) → ((x : Bool) → item rows x mid d t ≡ character d next)
-      → reading step cdata ends rows st b s (c ∷ d ∷ t) ≡ (step s (CharacterTokens (c ∷ d ∷ [])) l >>= λ p. reading step cdata ends rows next b p.0 t)
+      → reading step erred cdata ends rows st b s (c ∷ d ∷ t) ≡ (step s (CharacterTokens (c ∷ d ∷ [])) l >>= λ p. reading step erred cdata ends rows next b p.0 t)
   reading-two st mid next b s h c d t l first second e f =
       reading-text st mid b s h c (d ∷ t) l first (e (cdata s))
       ∙ told-more mid next b s h (c ∷ []) d t l (λ s h. reading-text mid next b s h d t l second (f (cdata s)))

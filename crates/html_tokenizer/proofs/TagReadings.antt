@@ -1,14 +1,14 @@
 -- How a tag is read, character by character.
 use Rattle.std.proofs.Common.{◌≡◌, ◌∙◌, ℕ, suc, ◌+◌, Bool, true, false, nat_eq, List, [], ◌∷◌, ◌++◌, take, drop, refl, ap, append-nil, append_assoc}
 use Rattle.std.specs.Prelude.{codes}
+use Rattle.html_tokens.specs.Notes.{NotedStep}
 use Rattle.html_tokens.specs.declared.tags.Tag.{Tag}
 use Rattle.html_tokens.specs.declared.token.Token.TheVariants.{TagToken}
 use Rattle.html_tokens.specs.Characters.{is_white_space, ends_tag_name, ends_attribute_name, lowered, all_lowered, run, white, begins}
-use Rattle.html_tokens.specs.Item.{Place, InTag, Stand, moved, behind, behind_all, told, silent}
-use Rattle.html_tokens.specs.Reading.{◌>>=◌, next_stand, line_number, line_break, reading, play}
-use Rattle.html_tokens.specs.Sink.{Step}
+use Rattle.html_tokens.specs.Item.{Place, InTag, Stand, moved, behind, behind_all, silent, told_as}
+use Rattle.html_tokens.specs.Reading.{◌>>=◌, next_stand, line_number, line_break, reading, play, erred_if}
 use Rattle.html_tokens.specs.Table.{Row}
-use Rattle.html_tokens.specs.Tags.{name_after, attribute_after, behind_tag, Opening, Quote, Close, Other, opening, opened_by, opened_at, equals_by}
+use Rattle.html_tokens.specs.Tags.{name_after, attribute_after, behind_tag, Opening, Quote, Close, Other, opening, opened_by, opened_at, equals_by, is_faulty_tag}
 use Rattle.html_tokenizer.proofs.Readings.{sum-zero, play-is, play-nothing, reading-is}
 
 -- Where an attribute's reading stands does not matter, but for the last start tag.
@@ -33,47 +33,47 @@ attribute_after-moved rows st p tag front t =
     let u = drop n t in
     ap (behind_all n) (equals_by-moved (begins (codes "=") (drop (white u) u)) rows st p tag (front ++ all_lowered (take n t)) u)
 
-module _ {T : Type 0} (step : Step T) (cdata : T → Bool) (ends : T → T) (rows : List Row) where
+module _ {T : Type 0} (step : NotedStep T) (erred : T → T) (cdata : T → Bool) (ends : T → T) (rows : List Row) where
   -- a character of a tag's name, and the name's end
   pub name-more : (st : Stand) (tag : Tag) (b : ℕ) (s : T) (c : ℕ) (t : List ℕ) → ends_tag_name c ≡ false
-      → play step cdata ends rows (name_after st tag (c ∷ t)) b s (c ∷ t) ≡ play step cdata ends rows (name_after st (record tag { name = tag.name ++ lowered c ∷ [] }) t) (b + line_break (nat_eq c 10)) s t
-  name-more st tag b s c t e = play-is step cdata ends rows (name_after st tag (c ∷ t)) (name_after st (record tag { name = tag.name ++ lowered c ∷ [] }) t) b s c t (rw e (rw append_assoc refl))
+      → play step erred cdata ends rows (name_after st tag (c ∷ t)) b s (c ∷ t) ≡ play step erred cdata ends rows (name_after st (record tag { name = tag.name ++ lowered c ∷ [] }) t) (b + line_break (nat_eq c 10)) s t
+  name-more st tag b s c t e = play-is step erred cdata ends rows (name_after st tag (c ∷ t)) (name_after st (record tag { name = tag.name ++ lowered c ∷ [] }) t) b s c t (rw e (rw append_assoc refl))
 
   pub name-end : (st : Stand) (tag : Tag) (b : ℕ) (s : T) (c : ℕ) (t : List ℕ) → ends_tag_name c ≡ true
-      → play step cdata ends rows (name_after st tag (c ∷ t)) b s (c ∷ t) ≡ reading step cdata ends rows (moved st (InTag tag)) b s (c ∷ t)
-  name-end st tag b s c t e = rw e (rw append-nil (play-nothing step cdata ends rows (moved st (InTag tag)) b s (c ∷ t)))
+      → play step erred cdata ends rows (name_after st tag (c ∷ t)) b s (c ∷ t) ≡ reading step erred cdata ends rows (moved st (InTag tag)) b s (c ∷ t)
+  name-end st tag b s c t e = rw e (rw append-nil (play-nothing step erred cdata ends rows (moved st (InTag tag)) b s (c ∷ t)))
 
   -- in a tag: white space, "/" before anything but ">", the end, an attribute
   pub tag-space : (st : Stand) (tag : Tag) (b : ℕ) (s : T) (c : ℕ) (t : List ℕ) → is_white_space c ≡ true
-      → reading step cdata ends rows (moved st (InTag tag)) b s (c ∷ t) ≡ reading step cdata ends rows (moved st (InTag tag)) (b + line_break (nat_eq c 10)) s t
+      → reading step erred cdata ends rows (moved st (InTag tag)) b s (c ∷ t) ≡ reading step erred cdata ends rows (moved st (InTag tag)) (b + line_break (nat_eq c 10)) s t
   tag-space st tag b s c t e =
-      reading-is step cdata ends rows (moved st (InTag tag)) b s c t (silent 0 (moved st (InTag tag))) (rw e refl)
-      ∙ play-nothing step cdata ends rows (moved st (InTag tag)) (b + line_break (nat_eq c 10)) s t
+      reading-is step erred cdata ends rows (moved st (InTag tag)) b s c t (silent 0 (moved st (InTag tag))) (rw e refl)
+      ∙ play-nothing step erred cdata ends rows (moved st (InTag tag)) (b + line_break (nat_eq c 10)) s t
 
   pub tag-slash : (st : Stand) (tag : Tag) (b : ℕ) (s : T) (c : ℕ) (t : List ℕ) → nat_eq 62 c ≡ false
-      → reading step cdata ends rows (moved st (InTag tag)) b s (47 ∷ c ∷ t) ≡ reading step cdata ends rows (moved st (InTag tag)) b s (c ∷ t)
+      → reading step erred cdata ends rows (moved st (InTag tag)) b s (47 ∷ c ∷ t) ≡ reading step erred cdata ends rows (moved st (InTag tag)) b s (c ∷ t)
   tag-slash st tag b s c t e =
-      reading-is step cdata ends rows (moved st (InTag tag)) b s 47 (c ∷ t) (silent 0 (moved st (InTag tag))) (rw e refl)
-      ∙ play-nothing step cdata ends rows (moved st (InTag tag)) (b + 0) s (c ∷ t)
-      ∙ ap (λ n. reading step cdata ends rows (moved st (InTag tag)) n s (c ∷ t)) (sum-zero b)
+      reading-is step erred cdata ends rows (moved st (InTag tag)) b s 47 (c ∷ t) (silent 0 (moved st (InTag tag))) (rw e refl)
+      ∙ play-nothing step erred cdata ends rows (moved st (InTag tag)) (b + 0) s (c ∷ t)
+      ∙ ap (λ n. reading step erred cdata ends rows (moved st (InTag tag)) n s (c ∷ t)) (sum-zero b)
 
   told-tag : (st : Stand) (tag : Tag) (n b : ℕ) (s : T) (t : List ℕ) → n ≡ b
-      → (step s (TagToken tag) (line_number n) >>= λ p. reading step cdata ends rows (next_stand (behind_tag st tag) p.1) n p.0 t) ≡ (step s (TagToken tag) (line_number b) >>= λ p. reading step cdata ends rows (next_stand (behind_tag st tag) p.1) b p.0 t)
-  told-tag st tag n b s t e = ap (λ n. step s (TagToken tag) (line_number n) >>= λ p. reading step cdata ends rows (next_stand (behind_tag st tag) p.1) n p.0 t) e
+      → (step (erred_if erred (is_faulty_tag tag) s) (TagToken tag) (line_number n) >>= λ p. reading step erred cdata ends rows (next_stand (behind_tag st tag) p.1) n p.0 t) ≡ (step (erred_if erred (is_faulty_tag tag) s) (TagToken tag) (line_number b) >>= λ p. reading step erred cdata ends rows (next_stand (behind_tag st tag) p.1) b p.0 t)
+  told-tag st tag n b s t e = ap (λ n. step (erred_if erred (is_faulty_tag tag) s) (TagToken tag) (line_number n) >>= λ p. reading step erred cdata ends rows (next_stand (behind_tag st tag) p.1) n p.0 t) e
 
   pub tag-end : (st : Stand) (tag : Tag) (b : ℕ) (s : T) (t : List ℕ)
-      → reading step cdata ends rows (moved st (InTag tag)) b s (62 ∷ t) ≡ (step s (TagToken tag) (line_number b) >>= λ p. reading step cdata ends rows (next_stand (behind_tag st tag) p.1) b p.0 t)
+      → reading step erred cdata ends rows (moved st (InTag tag)) b s (62 ∷ t) ≡ (step (erred_if erred (is_faulty_tag tag) s) (TagToken tag) (line_number b) >>= λ p. reading step erred cdata ends rows (next_stand (behind_tag st tag) p.1) b p.0 t)
   tag-end st tag b s t =
-      reading-is step cdata ends rows (moved st (InTag tag)) b s 62 t (told (TagToken tag) 0 (behind_tag st tag)) refl
+      reading-is step erred cdata ends rows (moved st (InTag tag)) b s 62 t (told_as (is_faulty_tag tag) (TagToken tag) 0 (behind_tag st tag)) refl
       ∙ told-tag st tag ((b + 0) + 0) b s t (sum-zero (b + 0) ∙ sum-zero b)
 
   pub tag-slash_end : (st : Stand) (tag : Tag) (b : ℕ) (s : T) (t : List ℕ)
-      → reading step cdata ends rows (moved st (InTag tag)) b s (47 ∷ 62 ∷ t)
-      ≡ (step s (TagToken (record tag { self_closing = true })) (line_number b) >>= λ p. reading step cdata ends rows (next_stand (behind_tag st tag) p.1) b p.0 t)
+      → reading step erred cdata ends rows (moved st (InTag tag)) b s (47 ∷ 62 ∷ t)
+      ≡ (step (erred_if erred (is_faulty_tag (record tag { self_closing = true })) s) (TagToken (record tag { self_closing = true })) (line_number b) >>= λ p. reading step erred cdata ends rows (next_stand (behind_tag st tag) p.1) b p.0 t)
   tag-slash_end st tag b s t =
-      reading-is step cdata ends rows (moved st (InTag tag)) b s 47 (62 ∷ t) (told (TagToken (record tag { self_closing = true })) 1 (behind_tag st tag)) refl
+      reading-is step erred cdata ends rows (moved st (InTag tag)) b s 47 (62 ∷ t) (told_as (is_faulty_tag (record tag { self_closing = true })) (TagToken (record tag { self_closing = true })) 1 (behind_tag st tag)) refl
       ∙ told-tag st (record tag { self_closing = true }) ((b + 0) + 0) b s t (sum-zero (b + 0) ∙ sum-zero b)
 
   pub tag-attribute : (st : Stand) (tag : Tag) (b : ℕ) (s : T) (c : ℕ) (t : List ℕ) → is_white_space c ≡ false → nat_eq c 47 ≡ false → nat_eq c 62 ≡ false
-      → reading step cdata ends rows (moved st (InTag tag)) b s (c ∷ t) ≡ play step cdata ends rows (attribute_after rows st tag (lowered c ∷ []) t) (b + line_break (nat_eq c 10)) s t
-  tag-attribute st tag b s c t e f g = reading-is step cdata ends rows (moved st (InTag tag)) b s c t (attribute_after rows st tag (lowered c ∷ []) t) (rw (e, f, g) (ap behind (attribute_after-moved rows st (InTag tag) tag (lowered c ∷ []) t)))
+      → reading step erred cdata ends rows (moved st (InTag tag)) b s (c ∷ t) ≡ play step erred cdata ends rows (attribute_after rows st tag (lowered c ∷ []) t) (b + line_break (nat_eq c 10)) s t
+  tag-attribute st tag b s c t e f g = reading-is step erred cdata ends rows (moved st (InTag tag)) b s c t (attribute_after rows st tag (lowered c ∷ []) t) (rw (e, f, g) (ap behind (attribute_after-moved rows st (InTag tag) tag (lowered c ∷ []) t)))

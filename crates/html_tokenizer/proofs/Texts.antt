@@ -4,7 +4,7 @@ use Rattle.std.specs.Prelude.{is_none}
 use Rattle.html_tokens.specs.declared.options.TokenizerOpts.{TokenizerOpts}
 use Rattle.html_tokens.specs.declared.states.State.{State}
 use Rattle.html_tokens.specs.declared.states.State.TheVariants as state
-use Rattle.html_tokens.specs.Pauses.{noting, noting_cdata, noting_end}
+use Rattle.html_tokens.specs.Notes.{NotedStep, noting, noting_error, noting_cdata, noting_end}
 use Rattle.html_tokens.specs.Reading.{first_place, reading}
 use Rattle.html_tokens.specs.Sink.{Step}
 use Rattle.html_tokens.specs.TextState.{is_text_state}
@@ -12,8 +12,8 @@ use Rattle.html_tokenizer.specs.Calls.{IsNew, ReadsAt}
 use Rattle.html_tokenizer.specs.declared.tokenizer.Tokenizer.{Tokenizer}
 use Rattle.html_tokenizer.specs.Rest.{rows_of, standing, coming, pending, held_at}
 
-module _ {K T : Type 0} (step : Step T) (cdata : T → Bool) (ends : T → T) where
-  text-reads : (st : State) (k : Tokenizer K) (b : ℕ) (s : T) (t : List ℕ) → is_text_state st ≡ true → held_at step cdata ends st k b s t ≡ reading step cdata ends (rows_of k) (standing k (first_place (Some st))) b s t
+module _ {K T : Type 0} (step : NotedStep T) (erred : T → T) (cdata : T → Bool) (ends : T → T) where
+  text-reads : (st : State) (k : Tokenizer K) (b : ℕ) (s : T) (t : List ℕ) → is_text_state st ≡ true → held_at step erred cdata ends st k b s t ≡ reading step erred cdata ends (rows_of k) (standing k (first_place (Some st))) b s t
   unfolding held_at
   text-reads state.Data k b s t h = refl
   text-reads state.Plaintext k b s t h = refl
@@ -24,20 +24,20 @@ none-held : (r : Option (List ℕ)) → is_none r ≡ true → pending r ≡ []
 none-held None h = refl
 none-held (Some cs) h = absurd cc
 
-module _ {K S H : Type 0} (step : Step S) (view : K → S) (cdata : S → Bool) (ends : S → S) (sound : S → Type 0) (number : H → ℕ) (broken : K → Bool) where
-  pub reads-text : (k : Tokenizer K) → is_none k.char_ref ≡ true → is_text_state k.state ≡ true → ReadsAt step view cdata ends sound number broken (first_place (Some k.state)) k
-  reads-text k none text = λ pauses t.
-      ap (λ u. held_at (noting step) (noting_cdata cdata) (noting_end ends) k.state k k.stream.breaks (view k.sink, pauses) (u ++ coming k t)) (none-held k.char_ref none)
-      ∙ text-reads (noting step) (noting_cdata cdata) (noting_end ends) k.state k k.stream.breaks (view k.sink, pauses) (coming k t) text
+module _ {K S H : Type 0} (step : Step S) (view : K → S) (cdata : S → Bool) (ends : S → S) (sound : S → Type 0) (number : H → ℕ) (broken : K → Bool) (errors : K → ℕ) where
+  pub reads-text : (k : Tokenizer K) → is_none k.char_ref ≡ true → is_text_state k.state ≡ true → ReadsAt step view cdata ends sound number broken errors (first_place (Some k.state)) k
+  reads-text k none text = λ notes t.
+      ap (λ u. held_at (noting step) noting_error (noting_cdata cdata) (noting_end ends) k.state k k.stream.breaks (view k.sink, notes) (u ++ coming k t)) (none-held k.char_ref none)
+      ∙ text-reads (noting step) noting_error (noting_cdata cdata) (noting_end ends) k.state k k.stream.breaks (view k.sink, notes) (coming k t) text
 
   -- the same of a new tokenizer, from where its options have it
   pub is-new : (k : Tokenizer K) (sink : K) (opts : TokenizerOpts) → k.sink ≡ sink → k.stream.breaks ≡ 0 → k.stream.ignore_lf ≡ false → k.stream.discard_bom ≡ opts.discard_bom → k.stream.has_ended ≡ false → k.stream.has_failed ≡ false
       → k.char_ref ≡ None → k.last_start_tag ≡ opts.last_start_tag_name → is_text_state k.state ≡ true → first_place opts.initial_state ≡ first_place (Some k.state) → sound (view sink)
-      → IsNew step view cdata ends sound number broken k sink opts k.stream.table
+      → IsNew step view cdata ends sound number broken errors k sink opts k.stream.table
   is-new k sink opts over breaks unread marked begun works none last text place ok = record {
     over = over;
-    same = λ pauses t.
-        reads-text k (rw none refl) text pauses t
+    same = λ notes t.
+        reads-text k (rw none refl) text notes t
         ∙ rw (over, breaks, unread, marked, last, place) refl;
     ready = record { sound = rw over ok; fits = rw none refl };
     begun = rw (begun, works) refl;

@@ -1,14 +1,18 @@
 -- What the calls of a tokenizer come to, in whatever pieces the text came.
-use Rattle.std.specs.Prelude.{◌≡◌, ℕ, Bool, List, [], ◌∷◌, ◌++◌}
+use Rattle.std.specs.Prelude.{◌≡◌, ℕ, ◌+◌, Bool, List, [], ◌∷◌, ◌++◌}
 use Rattle.markup.specs.declared.tokenizer_result.TokenizerResult.{TokenizerResult}
 use Rattle.html_queue.specs.Queue.{Queue}
+use Rattle.html_tokens.specs.Notes.{Notes, no_notes, errors_of, owed}
 use Rattle.html_tokens.specs.declared.options.TokenizerOpts.{TokenizerOpts}
-use Rattle.html_tokens.specs.Sink.{Step, Reply}
+use Rattle.html_tokens.specs.Sink.{Step}
 use Rattle.html_tokens.specs.Table.{Row}
+use Rattle.html_tokens.specs.NormalText.{normal_text}
+use Rattle.html_tokens.specs.Reading.{first_stand}
 use Rattle.html_tokenizer.specs.declared.tokenizer.Tokenizer.{Tokenizer}
-use Rattle.html_tokenizer.specs.Calls.{to_come, paused_with, Fed, HasEnded, IsNew}
+use Rattle.html_tokenizer.specs.Calls.{to_come, noted_with, Fed, HasEnded, IsNew}
+use Rattle.html_tokenizer.specs.Steps.{Rises}
 
-module _ {K S H : Type 0} (step : Step S) (view : K → S) (cdata : S → Bool) (ends : S → S) (is_sound : S → Type 0) (number : H → ℕ) (broken : K → Bool) where
+module _ {K S H : Type 0} (step : Step S) (view : K → S) (cdata : S → Bool) (ends : S → S) (is_sound : S → Type 0) (number : H → ℕ) (broken : K → Bool) (errors : K → ℕ) where
   -- a call of `feed` that succeeded, over whatever queue
   pub record Call : Type 0 where
     pub before : Tokenizer K
@@ -16,7 +20,7 @@ module _ {K S H : Type 0} (step : Step S) (view : K → S) (cdata : S → Bool) 
     pub from : Queue
     pub to : Queue
     pub result : TokenizerResult H
-    pub fed : Fed step view cdata ends is_sound number broken before after from to result
+    pub fed : Fed step view cdata ends is_sound number broken errors before after from to result
 
   -- calls of one tokenizer, one after the other
   abbrev pub IsChain : Tokenizer K → List Call → Tokenizer K → Type 0
@@ -28,26 +32,44 @@ module _ {K S H : Type 0} (step : Step S) (view : K → S) (cdata : S → Bool) 
   taken_by [] = []
   taken_by (c ∷ cs) = c.fed.taken ++ taken_by cs
 
-  -- the pauses so far, and then those with which the calls handed back control
-  abbrev pub paused_behind : List Reply → List Call → List Reply
-  paused_behind pauses [] = pauses
-  paused_behind pauses (c ∷ cs) = paused_behind (paused_with number pauses c.result) cs
+  -- what was noted, and then the faulty items of the calls and the pauses with which they handed back control
+  abbrev pub noted_behind : Notes ℕ → List Call → Notes ℕ
+  noted_behind notes [] = notes
+  noted_behind notes (c ∷ cs) = noted_behind (noted_with number c.fed.owed notes c.result) cs
 
   -- Whatever follows, two tokenizers make the same of it.
   abbrev pub HaveSameRests : Tokenizer K → Tokenizer K → Type 0
-  HaveSameRests k other = (pauses : List Reply) (t : List ℕ) → to_come step view cdata ends is_sound number broken k pauses t ≡ to_come step view cdata ends is_sound number broken other pauses t
+  HaveSameRests k other = (notes : Notes ℕ) (t : List ℕ) → to_come step view cdata ends is_sound number broken errors k notes t ≡ to_come step view cdata ends is_sound number broken errors other notes t
 
   -- Two tokenizers that make the same of whatever follows, and that take the same text, in whatever pieces, put in at pauses too,
   -- leave the same state of the sink behind their ends, and the same pauses.
   abbrev pub IsAnyPieces : Type 0
   IsAnyPieces = (k new ended other new' ended' : Tokenizer K) (cs cs' : List Call)
       → HaveSameRests k other → IsChain k cs new → IsChain other cs' new' → taken_by cs ≡ taken_by cs'
-      → HasEnded step view cdata ends is_sound number broken new ended → HasEnded step view cdata ends is_sound number broken new' ended'
-      → (view ended.sink ≡ view ended'.sink) × (paused_behind [] cs ≡ paused_behind [] cs')
+      → HasEnded step view cdata ends is_sound number broken errors new ended → HasEnded step view cdata ends is_sound number broken errors new' ended'
+      → (view ended.sink ≡ view ended'.sink) × ((noted_behind no_notes cs).pauses ≡ (noted_behind no_notes cs').pauses)
 
   -- New tokenizers over sinks of one state, with one table and options that differ at most in whether control characters are
   -- told, make the same of whatever follows.
   abbrev pub IsSameRoad : Type 0
   IsSameRoad = (k other : Tokenizer K) (sink sink' : K) (opts : TokenizerOpts) (exact_errors : Bool) (table : List Row)
-      → IsNew step view cdata ends is_sound number broken k sink opts table → IsNew step view cdata ends is_sound number broken other sink' (record opts { exact_errors = exact_errors }) table
+      → IsNew step view cdata ends is_sound number broken errors k sink opts table → IsNew step view cdata ends is_sound number broken errors other sink' (record opts { exact_errors = exact_errors }) table
       → view sink ≡ view sink' → HaveSameRests k other
+
+  -- From a new tokenizer to the end of all that it took, the number of errors rises by as many as the text has faulty items at
+  -- least, or is at u64::MAX.
+  abbrev pub IsEachFaultTold : Type 0
+  IsEachFaultTold = (k new ended : Tokenizer K) (cs : List Call) (sink : K) (opts : TokenizerOpts) (table : List Row)
+      → IsNew step view cdata ends is_sound number broken errors k sink opts table → IsChain k cs new → HasEnded step view cdata ends is_sound number broken errors new ended
+      → Rises errors (owed step cdata ends table (first_stand opts.initial_state opts.last_start_tag_name) 0 (view sink) (normal_text opts.discard_bom (taken_by cs))) sink ended.sink
+
+  -- how many errors a tokenizer owes for a further text: as many as what is to come has faulty items, up to a refusal
+  abbrev pub owes : Tokenizer K → List ℕ → ℕ
+  owes k t = errors_of (to_come step view cdata ends is_sound number broken errors k no_notes t)
+
+  -- What was owed for the characters that a call took and those that follow was owed for items that ended, so many of which errors
+  -- were told, or is owed behind the call. What was owed at the end was told.
+  abbrev pub IsOwing : Type 0
+  IsOwing =
+      ((c : Call) (t : List ℕ) → owes c.before (c.fed.taken ++ t) ≡ c.fed.owed + owes c.after t)
+      × ((old new : Tokenizer K) (e : HasEnded step view cdata ends is_sound number broken errors old new) → owes old [] ≡ e.owed)

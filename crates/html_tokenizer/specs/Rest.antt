@@ -1,5 +1,6 @@
 -- What a tokenizer still makes of its sink, for each further text.
 use Rattle.std.specs.Prelude.{ℕ, Bool, List, [], ◌∷◌, ◌++◌, codes, Option, Some, None, Result}
+use Rattle.html_tokens.specs.Notes.{NotedStep}
 use Rattle.html_tokens.specs.declared.states.RawKind.{RawKind}
 use Rattle.html_tokens.specs.declared.states.RawKind.TheVariants as raw
 use Rattle.html_tokens.specs.declared.states.ScriptEscapeKind.TheVariants as script
@@ -15,7 +16,7 @@ use Rattle.html_tokens.specs.Item.{Place, InData, InRaw, InPlaintext, InCdata, I
 use Rattle.html_tokens.specs.NormalText.{newlines_behind, without_mark}
 use Rattle.html_tokens.specs.RawText.{kind_behind}
 use Rattle.html_tokens.specs.Reading.{reading, play}
-use Rattle.html_tokens.specs.Sink.{Step, Refusal}
+use Rattle.html_tokens.specs.Sink.{Refusal}
 use Rattle.html_tokens.specs.Table.{Row}
 use Rattle.html_tokens.specs.Tags.{name_after, attribute_after, equals_at, value_at, unquoted_after, quoted_after}
 use Rattle.html_tokenizer.specs.declared.tokenizer.Tokenizer.{Tokenizer}
@@ -47,17 +48,17 @@ kind_after kind (c ∷ cs) t = kind_after (kind_behind kind c (cs ++ t)) cs t
 abbrev pub coming : {K : Type 0} → Tokenizer K → List ℕ → List ℕ
 coming k t = newlines_behind k.stream.ignore_lf (without_mark k.stream.discard_bom t)
 
-module _ {K T : Type 0} (step : Step T) (cdata : T → Bool) (ends : T → T) where
+module _ {K T : Type 0} (step : NotedStep T) (erred : T → T) (cdata : T → Bool) (ends : T → T) where
   -- what a text makes of the sink, where a reading stands at this place
-  abbrev pub read_at : Place → Tokenizer K → ℕ → T → List ℕ → Result T Refusal
-  read_at place k b s t = reading step cdata ends (rows_of k) (standing k place) b s t
+  abbrev pub read_at : Place → Tokenizer K → ℕ → T → List ℕ → Result T (Refusal × ℕ)
+  read_at place k b s t = reading step erred cdata ends (rows_of k) (standing k place) b s t
 
   -- an item, and then what follows it
-  abbrev pub played : Item → Tokenizer K → ℕ → T → List ℕ → Result T Refusal
-  played i k b s t = play step cdata ends (rows_of k) i b s t
+  abbrev pub played : Item → Tokenizer K → ℕ → T → List ℕ → Result T (Refusal × ℕ)
+  played i k b s t = play step erred cdata ends (rows_of k) i b s t
 
   -- What the characters t make of the sink s behind b line breaks, where the machine is in this state.
-  unfoldable pub held_at : State → Tokenizer K → ℕ → T → List ℕ → Result T Refusal
+  unfoldable pub held_at : State → Tokenizer K → ℕ → T → List ℕ → Result T (Refusal × ℕ)
   held_at state.Data k b s t = read_at InData k b s t
   held_at state.Plaintext k b s t = read_at InPlaintext k b s t
   held_at state.TagOpen k b s t = read_at InData k b s (60 ∷ t)
@@ -121,9 +122,9 @@ module _ {K T : Type 0} (step : Step T) (cdata : T → Bool) (ends : T → T) wh
   held_at state.CdataSectionEnd k b s t = read_at InCdata k b s (93 ∷ 93 ∷ t)
 
   -- the same where the machine is, with the reference that is held
-  abbrev pub held : Tokenizer K → ℕ → T → List ℕ → Result T Refusal
+  abbrev pub held : Tokenizer K → ℕ → T → List ℕ → Result T (Refusal × ℕ)
   held k b s t = held_at k.state k b s (pending k.char_ref ++ t)
 
   -- what a further text of the input makes of the sink
-  abbrev pub rest : Tokenizer K → T → List ℕ → Result T Refusal
+  abbrev pub rest : Tokenizer K → T → List ℕ → Result T (Refusal × ℕ)
   rest k s t = held k k.stream.breaks s (coming k t)

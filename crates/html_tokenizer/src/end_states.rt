@@ -36,7 +36,7 @@ impl<Sink: TokenSink> Tokenizer<Sink> {
         requires at { is_told_text self.old.state ≡ true }
         requires fresh { self.old.char_ref ≡ None }
         requires sound { Sink.is_sound (Sink.view self.old.sink) }
-        ensures { Closes Sink.step Sink.view Sink.asks_cdata Sink.ended Sink.is_sound Sink.number Sink.has_failed self.old self.new result }
+        ensures { Closes Sink.step Sink.view Sink.asks_cdata Sink.ended Sink.is_sound Sink.number Sink.has_failed Sink.errors self.old self.new result }
     {
         Ok(())
     }
@@ -45,7 +45,7 @@ impl<Sink: TokenSink> Tokenizer<Sink> {
     fn end_tag_open(&mut self) -> Result<(), ParseFault>
         requires at { IsAt self.old state.TagOpen }
         requires sound { Sink.is_sound (Sink.view self.old.sink) }
-        ensures { Closes Sink.step Sink.view Sink.asks_cdata Sink.ended Sink.is_sound Sink.number Sink.has_failed self.old self.new result }
+        ensures { Closes Sink.step Sink.view Sink.asks_cdata Sink.ended Sink.is_sound Sink.number Sink.has_failed Sink.errors self.old self.new result }
     {
         self.tell_unopened("end of input before tag name")
     }
@@ -54,7 +54,7 @@ impl<Sink: TokenSink> Tokenizer<Sink> {
     fn end_end_tag_open(&mut self) -> Result<(), ParseFault>
         requires at { IsAt self.old state.EndTagOpen }
         requires sound { Sink.is_sound (Sink.view self.old.sink) }
-        ensures { Closes Sink.step Sink.view Sink.asks_cdata Sink.ended Sink.is_sound Sink.number Sink.has_failed self.old self.new result }
+        ensures { Closes Sink.step Sink.view Sink.asks_cdata Sink.ended Sink.is_sound Sink.number Sink.has_failed Sink.errors self.old self.new result }
     {
         self.tell_unopened_end("end of input before tag name")
     }
@@ -63,7 +63,7 @@ impl<Sink: TokenSink> Tokenizer<Sink> {
     fn end_raw_less_than_sign(&mut self, kind: RawKind) -> Result<(), ParseFault>
         requires at { IsAt self.old (state.RawLessThanSign kind) }
         requires sound { Sink.is_sound (Sink.view self.old.sink) }
-        ensures { Closes Sink.step Sink.view Sink.asks_cdata Sink.ended Sink.is_sound Sink.number Sink.has_failed self.old self.new result }
+        ensures { Closes Sink.step Sink.view Sink.asks_cdata Sink.ended Sink.is_sound Sink.number Sink.has_failed Sink.errors self.old self.new result }
     {
         if ends_at_tag(kind) {
             return self.tell_char('<');
@@ -75,7 +75,7 @@ impl<Sink: TokenSink> Tokenizer<Sink> {
     fn end_raw_end_tag_open(&mut self, kind: RawKind) -> Result<(), ParseFault>
         requires at { IsAt self.old (state.RawEndTagOpen kind) }
         requires sound { Sink.is_sound (Sink.view self.old.sink) }
-        ensures { Closes Sink.step Sink.view Sink.asks_cdata Sink.ended Sink.is_sound Sink.number Sink.has_failed self.old self.new result }
+        ensures { Closes Sink.step Sink.view Sink.asks_cdata Sink.ended Sink.is_sound Sink.number Sink.has_failed Sink.errors self.old self.new result }
     {
         self.tell_two('<', '/')
     }
@@ -84,7 +84,7 @@ impl<Sink: TokenSink> Tokenizer<Sink> {
     fn end_raw_end_tag_name(&mut self, kind: RawKind) -> Result<(), ParseFault>
         requires at { IsAt self.old (state.RawEndTagName kind) }
         requires sound { Sink.is_sound (Sink.view self.old.sink) }
-        ensures { Closes Sink.step Sink.view Sink.asks_cdata Sink.ended Sink.is_sound Sink.number Sink.has_failed self.old self.new result }
+        ensures { Closes Sink.step Sink.view Sink.asks_cdata Sink.ended Sink.is_sound Sink.number Sink.has_failed Sink.errors self.old self.new result }
     {
         self.tell_end_tag()
     }
@@ -93,7 +93,7 @@ impl<Sink: TokenSink> Tokenizer<Sink> {
     fn end_cdata_section(&mut self) -> Result<(), ParseFault>
         requires at { IsAt self.old state.CdataSection }
         requires sound { Sink.is_sound (Sink.view self.old.sink) }
-        ensures { Closes Sink.step Sink.view Sink.asks_cdata Sink.ended Sink.is_sound Sink.number Sink.has_failed self.old self.new result }
+        ensures { Closes Sink.step Sink.view Sink.asks_cdata Sink.ended Sink.is_sound Sink.number Sink.has_failed Sink.errors self.old self.new result }
     {
         self.tell_error("end of input in a CDATA section")
     }
@@ -102,7 +102,7 @@ impl<Sink: TokenSink> Tokenizer<Sink> {
     fn end_cdata_section_bracket(&mut self) -> Result<(), ParseFault>
         requires at { IsAt self.old state.CdataSectionBracket }
         requires sound { Sink.is_sound (Sink.view self.old.sink) }
-        ensures { Closes Sink.step Sink.view Sink.asks_cdata Sink.ended Sink.is_sound Sink.number Sink.has_failed self.old self.new result }
+        ensures { Closes Sink.step Sink.view Sink.asks_cdata Sink.ended Sink.is_sound Sink.number Sink.has_failed Sink.errors self.old self.new result }
     {
         self.tell_error("end of input in a CDATA section")?;
         self.tell_char(']')
@@ -112,7 +112,7 @@ impl<Sink: TokenSink> Tokenizer<Sink> {
     fn end_cdata_section_end(&mut self) -> Result<(), ParseFault>
         requires at { IsAt self.old state.CdataSectionEnd }
         requires sound { Sink.is_sound (Sink.view self.old.sink) }
-        ensures { Closes Sink.step Sink.view Sink.asks_cdata Sink.ended Sink.is_sound Sink.number Sink.has_failed self.old self.new result }
+        ensures { Closes Sink.step Sink.view Sink.asks_cdata Sink.ended Sink.is_sound Sink.number Sink.has_failed Sink.errors self.old self.new result }
     {
         self.tell_error("end of input in a CDATA section")?;
         self.tell_two(']', ']')
@@ -123,7 +123,7 @@ impl<Sink: TokenSink> Tokenizer<Sink> {
         requires at { is_tag_part self.old.state ≡ true }
         requires fresh { self.old.char_ref ≡ None }
         requires sound { Sink.is_sound (Sink.view self.old.sink) }
-        ensures { Closes Sink.step Sink.view Sink.asks_cdata Sink.ended Sink.is_sound Sink.number Sink.has_failed self.old self.new result }
+        ensures { Closes Sink.step Sink.view Sink.asks_cdata Sink.ended Sink.is_sound Sink.number Sink.has_failed Sink.errors self.old self.new result }
     {
         self.tell_error("end of input in a tag")
     }
@@ -132,7 +132,7 @@ impl<Sink: TokenSink> Tokenizer<Sink> {
     fn end_state(&mut self) -> Result<(), ParseFault>
         requires fresh { self.old.char_ref ≡ None }
         requires sound { Sink.is_sound (Sink.view self.old.sink) }
-        ensures { Closes Sink.step Sink.view Sink.asks_cdata Sink.ended Sink.is_sound Sink.number Sink.has_failed self.old self.new result }
+        ensures { Closes Sink.step Sink.view Sink.asks_cdata Sink.ended Sink.is_sound Sink.number Sink.has_failed Sink.errors self.old self.new result }
     {
         self.tell_if(
             is_escaped(self.state),
@@ -145,7 +145,7 @@ impl<Sink: TokenSink> Tokenizer<Sink> {
     fn end_told_state(&mut self) -> Result<(), ParseFault>
         requires fresh { self.old.char_ref ≡ None }
         requires sound { Sink.is_sound (Sink.view self.old.sink) }
-        ensures { Closes Sink.step Sink.view Sink.asks_cdata Sink.ended Sink.is_sound Sink.number Sink.has_failed self.old self.new result }
+        ensures { Closes Sink.step Sink.view Sink.asks_cdata Sink.ended Sink.is_sound Sink.number Sink.has_failed Sink.errors self.old self.new result }
     {
         match self.state {
             State::Data
@@ -203,7 +203,7 @@ impl<Sink: TokenSink> Tokenizer<Sink> {
         requires at { IsAt self.old state.Data }
         requires held { list_all is_held held.now ≡ true }
         requires sound { Sink.is_sound (Sink.view self.old.sink) }
-        ensures { Closes Sink.step Sink.view Sink.asks_cdata Sink.ended Sink.is_sound Sink.number Sink.has_failed (record self.old { char_ref = Some held.now }) self.new result }
+        ensures { Closes Sink.step Sink.view Sink.asks_cdata Sink.ended Sink.is_sound Sink.number Sink.has_failed Sink.errors (record self.old { char_ref = Some held.now }) self.new result }
     {
         self.tell_reference(held)
     }
@@ -213,7 +213,7 @@ impl<Sink: TokenSink> Tokenizer<Sink> {
         requires at { IsAt self.old (state.RawData raw.Rcdata) }
         requires held { list_all is_held held.now ≡ true }
         requires sound { Sink.is_sound (Sink.view self.old.sink) }
-        ensures { Closes Sink.step Sink.view Sink.asks_cdata Sink.ended Sink.is_sound Sink.number Sink.has_failed (record self.old { char_ref = Some held.now }) self.new result }
+        ensures { Closes Sink.step Sink.view Sink.asks_cdata Sink.ended Sink.is_sound Sink.number Sink.has_failed Sink.errors (record self.old { char_ref = Some held.now }) self.new result }
     {
         self.tell_reference(held)
     }
@@ -227,7 +227,7 @@ impl<Sink: TokenSink> Tokenizer<Sink> {
         requires at { IsAt self.old (state.AttributeValue kind) }
         requires held { list_all is_held held.now ≡ true }
         requires sound { Sink.is_sound (Sink.view self.old.sink) }
-        ensures { Closes Sink.step Sink.view Sink.asks_cdata Sink.ended Sink.is_sound Sink.number Sink.has_failed (record self.old { char_ref = Some held.now }) self.new result }
+        ensures { Closes Sink.step Sink.view Sink.asks_cdata Sink.ended Sink.is_sound Sink.number Sink.has_failed Sink.errors (record self.old { char_ref = Some held.now }) self.new result }
     {
         self.tell_error("end of input in a tag")
     }
@@ -238,7 +238,7 @@ impl<Sink: TokenSink> Tokenizer<Sink> {
         requires fits { may_hold self.old.state ≡ true }
         requires held { list_all is_held held.now ≡ true }
         requires sound { Sink.is_sound (Sink.view self.old.sink) }
-        ensures { Closes Sink.step Sink.view Sink.asks_cdata Sink.ended Sink.is_sound Sink.number Sink.has_failed (record self.old { char_ref = Some held.now }) self.new result }
+        ensures { Closes Sink.step Sink.view Sink.asks_cdata Sink.ended Sink.is_sound Sink.number Sink.has_failed Sink.errors (record self.old { char_ref = Some held.now }) self.new result }
     {
         match self.state {
             State::Data => self.end_data_reference(held),
@@ -252,7 +252,7 @@ impl<Sink: TokenSink> Tokenizer<Sink> {
     pub(crate) fn tell_held(&mut self) -> Result<(), ParseFault>
         requires fits { fits_in self.old.char_ref self.old.state ≡ true }
         requires sound { Sink.is_sound (Sink.view self.old.sink) }
-        ensures { Closes Sink.step Sink.view Sink.asks_cdata Sink.ended Sink.is_sound Sink.number Sink.has_failed self.old self.new result }
+        ensures { Closes Sink.step Sink.view Sink.asks_cdata Sink.ended Sink.is_sound Sink.number Sink.has_failed Sink.errors self.old self.new result }
     {
         match self.char_ref.take() {
             Some(held) => self.end_reference(&held),

@@ -18,7 +18,7 @@ impl<Sink: TokenSink> Tokenizer<Sink> {
     /// Hands out `<` as text, since it opened nothing, which is a parse error.
     pub(crate) fn tell_unopened(&mut self, message: &'static str) -> Result<(), ParseFault>
         requires sound { Sink.is_sound (Sink.view self.old.sink) }
-        ensures { Tells Sink.step Sink.view Sink.asks_cdata Sink.ended Sink.is_sound Sink.number Sink.has_failed (CharacterTokens (60 ∷ [])) self.old self.new result }
+        ensures { Tells Sink.step Sink.view Sink.asks_cdata Sink.ended Sink.is_sound Sink.number Sink.has_failed Sink.errors 0 (CharacterTokens (60 ∷ [])) self.old self.new result }
     {
         self.tell_error(message)?;
         self.tell_char('<')
@@ -27,7 +27,7 @@ impl<Sink: TokenSink> Tokenizer<Sink> {
     /// Hands out `</` as text, since it opened nothing, which is a parse error.
     pub(crate) fn tell_unopened_end(&mut self, message: &'static str) -> Result<(), ParseFault>
         requires sound { Sink.is_sound (Sink.view self.old.sink) }
-        ensures { Tells Sink.step Sink.view Sink.asks_cdata Sink.ended Sink.is_sound Sink.number Sink.has_failed (CharacterTokens (60 ∷ 47 ∷ [])) self.old self.new result }
+        ensures { Tells Sink.step Sink.view Sink.asks_cdata Sink.ended Sink.is_sound Sink.number Sink.has_failed Sink.errors 0 (CharacterTokens (60 ∷ 47 ∷ [])) self.old self.new result }
     {
         self.tell_error(message)?;
         self.tell_two('<', '/')
@@ -40,7 +40,7 @@ impl<Sink: TokenSink> Tokenizer<Sink> {
     ) -> Result<ProcessResult<Sink::Handle>, ParseFault>
         requires at { IsAt self.old state.TagOpen }
         requires sound { Sink.is_sound (Sink.view self.old.sink) }
-        ensures { Keeps Sink.step Sink.view Sink.asks_cdata Sink.ended Sink.is_sound Sink.number Sink.has_failed self.old self.new c result }
+        ensures { Keeps Sink.step Sink.view Sink.asks_cdata Sink.ended Sink.is_sound Sink.number Sink.has_failed Sink.errors self.old self.new c result }
     {
         if c == '/' {
             self.state = State::EndTagOpen;
@@ -73,7 +73,7 @@ impl<Sink: TokenSink> Tokenizer<Sink> {
     ) -> Result<ProcessResult<Sink::Handle>, ParseFault>
         requires at { IsAt self.old state.EndTagOpen }
         requires sound { Sink.is_sound (Sink.view self.old.sink) }
-        ensures { Keeps Sink.step Sink.view Sink.asks_cdata Sink.ended Sink.is_sound Sink.number Sink.has_failed self.old self.new c result }
+        ensures { Keeps Sink.step Sink.view Sink.asks_cdata Sink.ended Sink.is_sound Sink.number Sink.has_failed Sink.errors self.old self.new c result }
     {
         if c.is_ascii_alphabetic() {
             self.tag = nameless(self.stream.alloc);

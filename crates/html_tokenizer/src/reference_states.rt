@@ -1,5 +1,7 @@
 //! Character references in text and in attributes' values (HTML Standard, sections 13.2.5.72 to 13.2.5.80).
 ghost use Rattle.std.specs.Prelude.{◌≡◌, Some, None, true, false};
+ghost use Rattle.html_tokens.specs.Notes.{one_if};
+ghost use Rattle.html_tokens.specs.Reference.{names_no_character};
 ghost use Rattle.html_tokens.specs.declared.states.RawKind.TheVariants as raw;
 ghost use Rattle.html_tokens.specs.declared.states.State.TheVariants as state;
 ghost use Rattle.html_tokens.specs.declared.token.Token.TheVariants.{CharacterTokens};
@@ -20,7 +22,7 @@ impl<Sink: TokenSink> Tokenizer<Sink> {
     /// Hands out what a reference in text stands for.
     pub(crate) fn tell_reference(&mut self, held: &HeldReference) -> Result<(), ParseFault>
         requires sound { Sink.is_sound (Sink.view self.old.sink) }
-        ensures { Tells Sink.step Sink.view Sink.asks_cdata Sink.ended Sink.is_sound Sink.number Sink.has_failed (CharacterTokens (resolved false (rows_of self.old) held.now false)) self.old self.new result }
+        ensures { Tells Sink.step Sink.view Sink.asks_cdata Sink.ended Sink.is_sound Sink.number Sink.has_failed Sink.errors (one_if (names_no_character held.now)) (CharacterTokens (resolved false (rows_of self.old) held.now false)) self.old self.new result }
     {
         let decision = decided(&self.stream.table, false, held, false);
         let mut text = empty(self.stream.alloc);
@@ -41,7 +43,7 @@ impl<Sink: TokenSink> Tokenizer<Sink> {
         requires at { IsAt self.old state.Data }
         requires decided { IsDecided (rows_of self.old) held.now c }
         requires sound { Sink.is_sound (Sink.view self.old.sink) }
-        ensures { Keeps Sink.step Sink.view Sink.asks_cdata Sink.ended Sink.is_sound Sink.number Sink.has_failed (record self.old { char_ref = Some held.now }) self.new c result }
+        ensures { Keeps Sink.step Sink.view Sink.asks_cdata Sink.ended Sink.is_sound Sink.number Sink.has_failed Sink.errors (record self.old { char_ref = Some held.now }) self.new c result }
     {
         self.tell_reference(held)?;
         self.data_state(c)
@@ -56,7 +58,7 @@ impl<Sink: TokenSink> Tokenizer<Sink> {
         requires at { IsAt self.old (state.RawData raw.Rcdata) }
         requires decided { IsDecided (rows_of self.old) held.now c }
         requires sound { Sink.is_sound (Sink.view self.old.sink) }
-        ensures { Keeps Sink.step Sink.view Sink.asks_cdata Sink.ended Sink.is_sound Sink.number Sink.has_failed (record self.old { char_ref = Some held.now }) self.new c result }
+        ensures { Keeps Sink.step Sink.view Sink.asks_cdata Sink.ended Sink.is_sound Sink.number Sink.has_failed Sink.errors (record self.old { char_ref = Some held.now }) self.new c result }
     {
         self.tell_reference(held)?;
         self.raw_data_state(RawKind::Rcdata, c)
@@ -72,7 +74,7 @@ impl<Sink: TokenSink> Tokenizer<Sink> {
         requires at { IsAt self.old (state.AttributeValue kind) }
         requires decided { IsDecided (rows_of self.old) held.now c }
         requires sound { Sink.is_sound (Sink.view self.old.sink) }
-        ensures { Keeps Sink.step Sink.view Sink.asks_cdata Sink.ended Sink.is_sound Sink.number Sink.has_failed (record self.old { char_ref = Some held.now }) self.new c result }
+        ensures { Keeps Sink.step Sink.view Sink.asks_cdata Sink.ended Sink.is_sound Sink.number Sink.has_failed Sink.errors (record self.old { char_ref = Some held.now }) self.new c result }
     {
         let decision = decided(&self.stream.table, true, held, goes_on_at(c));
         self.tell_fault(decision.fault)?;
@@ -89,7 +91,7 @@ impl<Sink: TokenSink> Tokenizer<Sink> {
         requires fresh { self.old.char_ref ≡ None }
         requires fits { may_hold self.old.state ≡ true }
         requires sound { Sink.is_sound (Sink.view self.old.sink) }
-        ensures { Keeps Sink.step Sink.view Sink.asks_cdata Sink.ended Sink.is_sound Sink.number Sink.has_failed (record self.old { char_ref = Some held }) self.new c result }
+        ensures { Keeps Sink.step Sink.view Sink.asks_cdata Sink.ended Sink.is_sound Sink.number Sink.has_failed Sink.errors (record self.old { char_ref = Some held }) self.new c result }
     {
         if may_go_on(&self.stream.table, &held, c) {
             held.push(c)?;

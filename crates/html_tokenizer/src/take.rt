@@ -26,7 +26,7 @@ impl<Sink: TokenSink> Tokenizer<Sink> {
     /// Tells of a control character or a noncharacter, where such are told.
     fn tell_forbidden(&mut self, c: char) -> Result<(), ParseFault>
         requires sound { Sink.is_sound (Sink.view self.old.sink) }
-        ensures { Errs Sink.step Sink.view Sink.asks_cdata Sink.ended Sink.is_sound Sink.number Sink.has_failed self.old self.new result }
+        ensures { Errs Sink.step Sink.view Sink.asks_cdata Sink.ended Sink.is_sound Sink.number Sink.has_failed Sink.errors 0 self.old self.new result }
     {
         if self.stream.exact_errors && is_forbidden(c) {
             return self.tell_error("control character or noncharacter");
@@ -38,7 +38,7 @@ impl<Sink: TokenSink> Tokenizer<Sink> {
     fn advance(&mut self, c: char) -> Result<ProcessResult<Sink::Handle>, ParseFault>
         requires sound { Sink.is_sound (Sink.view self.old.sink) }
         requires fits { fits_in self.old.char_ref self.old.state ≡ true }
-        ensures { Keeps Sink.step Sink.view Sink.asks_cdata Sink.ended Sink.is_sound Sink.number Sink.has_failed self.old self.new c result }
+        ensures { Keeps Sink.step Sink.view Sink.asks_cdata Sink.ended Sink.is_sound Sink.number Sink.has_failed Sink.errors self.old self.new c result }
     {
         match self.char_ref.take() {
             Some(held) => self.reference_state(held, c),
@@ -50,7 +50,7 @@ impl<Sink: TokenSink> Tokenizer<Sink> {
     pub(crate) fn take(&mut self, c: char) -> Result<ProcessResult<Sink::Handle>, ParseFault>
         requires sound { Sink.is_sound (Sink.view self.old.sink) }
         requires fits { fits_in self.old.char_ref self.old.state ≡ true }
-        ensures { Passes Sink.step Sink.view Sink.asks_cdata Sink.ended Sink.is_sound Sink.number Sink.has_failed self.old self.new c result }
+        ensures { Passes Sink.step Sink.view Sink.asks_cdata Sink.ended Sink.is_sound Sink.number Sink.has_failed Sink.errors self.old self.new c result }
     {
         self.tell_forbidden(c)?;
         let result = self.advance(c)?;

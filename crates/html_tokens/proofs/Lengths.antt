@@ -77,13 +77,13 @@ comment_end-≤ (a ∷ b ∷ c ∷ d ∷ t) =
     if-AtMost (nat_eq a 45 && nat_eq b 45 && nat_eq c 62) (Some 3) (if nat_eq a 45 && nat_eq b 45 && nat_eq c 33 && nat_eq d 62 then Some 4 else None) m (omega arith)
     (if-AtMost (nat_eq a 45 && nat_eq b 45 && nat_eq c 33 && nat_eq d 62) (Some 4) None m (omega arith) tt)
 
-comment_by-≤ : (o : Option ℕ) (st : Stand) (front : List ℕ) (go : Unit {0} → Item) (m : ℕ) → AtMost o (suc m) → (go tt).len ≤ m → (Comments.comment_by o st front go).len ≤ suc m
-comment_by-≤ (Some n) st front go m h k = h
-comment_by-≤ None st front go m h k = omega arith
+comment_by-≤ : (o : Option ℕ) (faulty : Bool) (st : Stand) (front : List ℕ) (go : Unit {0} → Item) (m : ℕ) → AtMost o (suc m) → (go tt).len ≤ m → (Comments.comment_by o faulty st front go).len ≤ suc m
+comment_by-≤ (Some n) faulty st front go m h k = h
+comment_by-≤ None faulty st front go m h k = omega arith
 
 comment_after-≤ : (st : Stand) (front t : List ℕ) → Within (Comments.comment_after st front t) t
 comment_after-≤ st front [] = omega arith
-comment_after-≤ st front (c ∷ t) = comment_by-≤ (Comments.comment_end (c ∷ t)) st front _ (length t) (comment_end-≤ (c ∷ t)) (comment_after-≤ st (front ++ Characters.shown c ∷ []) t)
+comment_after-≤ st front (c ∷ t) = comment_by-≤ (Comments.comment_end (c ∷ t)) _ st front _ (length t) (comment_end-≤ (c ∷ t)) (comment_after-≤ st (front ++ Characters.shown c ∷ []) t)
 
 empty_by-≤ : (a b : Bool) (st : Stand) (t : List ℕ) → (a ≡ true → 1 ≤ length t) → (b ≡ true → 2 ≤ length t) → Within (Comments.empty_by a b st t) t
 empty_by-≤ true b st t h k = h refl
@@ -267,9 +267,9 @@ reference-≤ : (v : Bool) (rows : List Row) (t : List ℕ) → ReferenceFits (R
 reference-≤ v rows [] = tt
 reference-≤ v rows (c ∷ t) = reference_by-≤ (nat_eq c 35) v rows c t
 
-reference_item-≤ : (o : Option Reference.Reference) (st : Stand) (m : ℕ) → ReferenceFits o m → (reference_item o st).len ≤ suc m
-reference_item-≤ None st m h = omega arith
-reference_item-≤ (Some r) st m h = omega arith
+reference_item-≤ : (faulty : Bool) (o : Option Reference.Reference) (st : Stand) (m : ℕ) → ReferenceFits o m → (reference_item faulty o st).len ≤ suc m
+reference_item-≤ faulty None st m h = omega arith
+reference_item-≤ faulty (Some r) st m h = omega arith
 
 -- TAGS
 
@@ -348,12 +348,12 @@ fits-≤ None t h = absurd (true≢false (sym h))
 fits-≤ (Some name) [] h = absurd (true≢false (sym (and_parts _ _ h).1))
 fits-≤ (Some name) (c ∷ t) h = omega arith
 
-some_reference : (o : Option Reference.Reference) (st : Stand) → 1 ≤ (reference_item o st).len
-some_reference None st = omega arith
-some_reference (Some r) st = omega arith
+some_reference : (faulty : Bool) (o : Option Reference.Reference) (st : Stand) → 1 ≤ (reference_item faulty o st).len
+some_reference faulty None st = omega arith
+some_reference faulty (Some r) st = omega arith
 
-reference-takes : (rows : List Row) (st : Stand) (c : ℕ) (t : List ℕ) → Takes (reference_item (Reference.reference_at false rows t) st) (c ∷ t)
-reference-takes rows st c t = record { some = some_reference (Reference.reference_at false rows t) st; within = reference_item-≤ _ st _ (reference-≤ false rows t) }
+reference-takes : (rows : List Row) (st : Stand) (c : ℕ) (t : List ℕ) → Takes (reference_item (Reference.names_no_character t) (Reference.reference_at false rows t) st) (c ∷ t)
+reference-takes rows st c t = record { some = some_reference (Reference.names_no_character t) (Reference.reference_at false rows t) st; within = reference_item-≤ _ _ st _ (reference-≤ false rows t) }
 
 raw_by-≤ : (a b : Bool) (rows : List Row) (st : Stand) (kind : RawKind) (c : ℕ) (t : List ℕ) → (a ≡ true → 1 ≤ length t) → Takes (RawText.raw_by a b rows st kind c t) (c ∷ t)
 raw_by-≤ true b rows st kind c t h = more 1 _ (c ∷ t) (let k = h refl in omega arith) (name_after-≤ st (Tags.named EndTag []) (drop 1 t))

@@ -1,3 +1,4 @@
+pub mod CleanItems
 pub mod Lengths
 pub mod ListingLaws
 pub mod NewlineLaws

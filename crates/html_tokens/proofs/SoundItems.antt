@@ -34,13 +34,13 @@ all (suc n) i h = all n i h
 
 -- COMMENTS
 
-comment_by : (o : Option ℕ) (st : Stand) (front : List ℕ) (go : Unit {0} → Item) → IsSoundPlace st.place → IsSoundItem (go tt) → IsSoundItem (Comments.comment_by o st front go)
-comment_by (Some n) st front go p h = (tt, p)
-comment_by None st front go p h = h
+comment_by : (o : Option ℕ) (faulty : Bool) (st : Stand) (front : List ℕ) (go : Unit {0} → Item) → IsSoundPlace st.place → IsSoundItem (go tt) → IsSoundItem (Comments.comment_by o faulty st front go)
+comment_by (Some n) faulty st front go p h = (tt, p)
+comment_by None faulty st front go p h = h
 
 comment_after : (st : Stand) (p : IsSoundPlace st.place) (t front : List ℕ) → IsSoundItem (Comments.comment_after st front t)
 comment_after st p [] front = (tt, p)
-comment_after st p (c ∷ t) front = comment_by (Comments.comment_end (c ∷ t)) st front (λ _. Comments.comment_after st (front ++ Characters.shown c ∷ []) t) p (comment_after st p t (front ++ Characters.shown c ∷ []))
+comment_after st p (c ∷ t) front = comment_by (Comments.comment_end (c ∷ t)) _ st front (λ _. Comments.comment_after st (front ++ Characters.shown c ∷ []) t) p (comment_after st p t (front ++ Characters.shown c ∷ []))
 
 empty_by : (a b : Bool) (st : Stand) (t : List ℕ) → IsSoundPlace st.place → IsSoundItem (Comments.empty_by a b st t)
 empty_by true b st t p = (tt, p)
@@ -232,10 +232,10 @@ unfolding ReferenceSound
 reference v rows [] h = tt
 reference v rows (c ∷ t) h = reference_by (nat_eq c 35) v rows c t h
 
-reference-item : (o : Option Reference.Reference) (st : Stand) → IsSoundPlace st.place → ReferenceSound o → IsSoundItem (reference_item o st)
+reference-item : (faulty : Bool) (o : Option Reference.Reference) (st : Stand) → IsSoundPlace st.place → ReferenceSound o → IsSoundItem (reference_item faulty o st)
 unfolding ReferenceSound
-reference-item None st p h = (refl, p)
-reference-item (Some r) st p h = (h, p)
+reference-item faulty None st p h = (refl, p)
+reference-item faulty (Some r) st p h = (h, p)
 
 -- NAMES
 
@@ -384,7 +384,7 @@ fitting_name st (Some (n ∷ ns)) (c ∷ d ∷ t) h =
 
 raw_by : (a b : Bool) (rows : List Row) (st : Stand) (kind : RawKind) (c : ℕ) (t : List ℕ) → (a ≡ true → RawText.is_fitting_end st.last_start_tag t ≡ true) → has_values rows ≡ true → IsSoundPlace st.place → IsSoundItem (RawText.raw_by a b rows st kind c t)
 raw_by true b rows st kind c t f h p = fitting_name st st.last_start_tag t (f refl)
-raw_by false true rows st kind c t f h p = reference-item _ st p (reference false rows t h)
+raw_by false true rows st kind c t f h p = reference-item _ _ st p (reference false rows t h)
 raw_by false false rows st kind c t f h p = (shown c, tt)
 
 declaration_by : (a b e : Bool) (st : Stand) (t : List ℕ) → IsSoundPlace st.place → IsSoundItem (Items.declaration_by a b e st t)
@@ -430,7 +430,7 @@ open_at cdata st (c ∷ t) p = open_by (Items.opening c) cdata st c t refl p
 
 data_by : (a b : Bool) (rows : List Row) (cdata : Bool) (st : Stand) (c : ℕ) (t : List ℕ) → has_values rows ≡ true → IsSoundPlace st.place → IsSoundItem (Items.data_by a b rows cdata st c t)
 data_by true b rows cdata st c t h p = open_at cdata st t p
-data_by false true rows cdata st c t h p = reference-item _ st p (reference false rows t h)
+data_by false true rows cdata st c t h p = reference-item _ _ st p (reference false rows t h)
 data_by false false rows cdata st c t h p = null_by-sound (nat_eq c 0) c st refl p
 
 cdata_by : (b : Bool) (st : Stand) (c : ℕ) → IsSoundPlace st.place → IsSoundItem (Items.cdata_by b st c)

@@ -27,21 +27,21 @@ bind-assoc : {A B C F : Type 0} (r : Result A F) (f : A → Result B F) (g : B �
 bind-assoc (Ok x) f g = refl
 bind-assoc (Err e) f g = refl
 
-module _ {S H F : Type 0} (step : S → Token → ℕ → Result (S × TokenSinkResult H) F) (cdata : S → Bool) (ends : S → S) (rows : List Row) (is_sound : S → Type 0) (joins : JoinsText is_sound step) where
+module _ {S H F : Type 0} (step : S → Token → ℕ → Result (S × TokenSinkResult H) F) (erred : S → S) (cdata : S → Bool) (ends : S → S) (rows : List Row) (is_sound : S → Type 0) (joins : JoinsText is_sound step) where
   -- behind text the reading stands where it stood
   stays : (st : Stand) (breaks : ℕ) (r : Result (S × TokenSinkResult H) F) (t : List ℕ) → IfOk r (λ p. p.1 ≡ Continue)
-      → (r >>= λ p. reading step cdata ends rows (next_stand st p.1) breaks p.0 t) ≡ (r >>= λ p. reading step cdata ends rows st breaks p.0 t)
-  stays st breaks (Ok p) t h = ap (λ reply. reading step cdata ends rows (next_stand st reply) breaks p.0 t) h
+      → (r >>= λ p. reading step erred cdata ends rows (next_stand st p.1) breaks p.0 t) ≡ (r >>= λ p. reading step erred cdata ends rows st breaks p.0 t)
+  stays st breaks (Ok p) t h = ap (λ reply. reading step erred cdata ends rows (next_stand st reply) breaks p.0 t) h
   stays st breaks (Err e) t h = refl
 
   -- a text, and what follows it told as one text, are told as one
   pub joined : (st : Stand) (a b t : List ℕ) (breaks : ℕ) (s : S) → is_sound s → (k l m : ℕ) (go : S → Result S F)
-      → ((q : S) → is_sound q → go q ≡ (step q (CharacterTokens b) l >>= λ p. reading step cdata ends rows st breaks p.0 t))
-      → (step s (CharacterTokens a) k >>= λ p. go p.0) ≡ (step s (CharacterTokens (a ++ b)) m >>= λ p. reading step cdata ends rows st breaks p.0 t)
+      → ((q : S) → is_sound q → go q ≡ (step q (CharacterTokens b) l >>= λ p. reading step erred cdata ends rows st breaks p.0 t))
+      → (step s (CharacterTokens a) k >>= λ p. go p.0) ≡ (step s (CharacterTokens (a ++ b)) m >>= λ p. reading step erred cdata ends rows st breaks p.0 t)
   joined st a b t breaks s sound k l m go h =
       bind_where (step s (CharacterTokens a) k) _ _ (IfOk-weaker (step s (CharacterTokens a) k) _ _ (λ p q. h p.0 q) (joins.keeps s sound a k))
-      ∙ sym (bind-assoc (step s (CharacterTokens a) k) (λ p. step p.0 (CharacterTokens b) l) (λ p. reading step cdata ends rows st breaks p.0 t))
-      ∙ ap (λ r. r >>= λ p. reading step cdata ends rows st breaks p.0 t) (joins.pieces s sound a b k l m)
+      ∙ sym (bind-assoc (step s (CharacterTokens a) k) (λ p. step p.0 (CharacterTokens b) l) (λ p. reading step erred cdata ends rows st breaks p.0 t))
+      ∙ ap (λ r. r >>= λ p. reading step erred cdata ends rows st breaks p.0 t) (joins.pieces s sound a b k l m)
 
   line_free : (s : S) → is_sound s → (a : List ℕ) (k m : ℕ) → step s (CharacterTokens a) k ≡ step s (CharacterTokens a) m
   line_free s sound a k m =
@@ -49,50 +49,50 @@ module _ {S H F : Type 0} (step : S → Token → ℕ → Result (S × TokenSink
       rw append-nil at e
 
   -- on whatever line a text is told
-  any_line : (st : Stand) (a t : List ℕ) (breaks : ℕ) (s : S) → is_sound s → (k m : ℕ) → (step s (CharacterTokens a) k >>= λ p. reading step cdata ends rows st breaks p.0 t) ≡ (step s (CharacterTokens a) m >>= λ p. reading step cdata ends rows st breaks p.0 t)
-  any_line st a t breaks s sound k m = ap (λ r. r >>= λ p. reading step cdata ends rows st breaks p.0 t) (line_free s sound a k m)
+  any_line : (st : Stand) (a t : List ℕ) (breaks : ℕ) (s : S) → is_sound s → (k m : ℕ) → (step s (CharacterTokens a) k >>= λ p. reading step erred cdata ends rows st breaks p.0 t) ≡ (step s (CharacterTokens a) m >>= λ p. reading step erred cdata ends rows st breaks p.0 t)
+  any_line st a t breaks s sound k m = ap (λ r. r >>= λ p. reading step erred cdata ends rows st breaks p.0 t) (line_free s sound a k m)
 
   -- an item that is text
   told_text : (st : Stand) (breaks : ℕ) (s : S) → is_sound s → (c : ℕ) (u a : List ℕ) (n l : ℕ) → item rows (cdata s) st c u ≡ told (CharacterTokens a) n st
-      → reading step cdata ends rows st breaks s (c ∷ u) ≡ (step s (CharacterTokens a) l >>= λ p. reading step cdata ends rows st (breaks + line_breaks (take n (c ∷ u))) p.0 (drop n (c ∷ u)))
+      → reading step erred cdata ends rows st breaks s (c ∷ u) ≡ (step s (CharacterTokens a) l >>= λ p. reading step erred cdata ends rows st (breaks + line_breaks (take n (c ∷ u))) p.0 (drop n (c ∷ u)))
   told_text st breaks s sound c u a n l e =
       let read = breaks + line_breaks (take n (c ∷ u)) in
-      reading-item step cdata ends rows st breaks s c u
-      ∙ (ap (λ i. play step cdata ends rows i breaks s (c ∷ u)) e
+      reading-item step erred cdata ends rows st breaks s c u
+      ∙ (ap (λ i. play step erred cdata ends rows i breaks s (c ∷ u)) e
       ∙ (stays st read (step s (CharacterTokens a) (line_number read)) (drop n (c ∷ u)) (joins.goes_on s sound a (line_number read))
       ∙ any_line st a (drop n (c ∷ u)) read s sound (line_number read) l))
 
   -- a character, and what follows it told as one text
   grown : (st : Stand) (breaks : ℕ) (s : S) → is_sound s → (c : ℕ) (b t : List ℕ) (line : ℕ) (go : S → Result S F)
-      → ((q : S) → is_sound q → go q ≡ (step q (CharacterTokens b) 0 >>= λ p. reading step cdata ends rows st ((breaks + line_breaks (c ∷ [])) + line_breaks b) p.0 t))
-      → (step s (CharacterTokens (c ∷ [])) 0 >>= λ p. go p.0) ≡ (step s (CharacterTokens (c ∷ b)) line >>= λ p. reading step cdata ends rows st (breaks + line_breaks (c ∷ b)) p.0 t)
+      → ((q : S) → is_sound q → go q ≡ (step q (CharacterTokens b) 0 >>= λ p. reading step erred cdata ends rows st ((breaks + line_breaks (c ∷ [])) + line_breaks b) p.0 t))
+      → (step s (CharacterTokens (c ∷ [])) 0 >>= λ p. go p.0) ≡ (step s (CharacterTokens (c ∷ b)) line >>= λ p. reading step erred cdata ends rows st (breaks + line_breaks (c ∷ b)) p.0 t)
   grown st breaks s sound c b t line go h =
       let sum : (breaks + line_breaks (c ∷ [])) + line_breaks b ≡ breaks + line_breaks (c ∷ b) = omega arith in
       joined st (c ∷ []) b t (breaks + line_breaks (c ∷ b)) s sound 0 0 line go
-      (λ q k. h q k ∙ ap (λ n. step q (CharacterTokens b) 0 >>= λ p. reading step cdata ends rows st n p.0 t) sum)
+      (λ q k. h q k ∙ ap (λ n. step q (CharacterTokens b) 0 >>= λ p. reading step erred cdata ends rows st n p.0 t) sum)
 
   plain_item : (last : Option (List ℕ)) (asked : Bool) (c : ℕ) (u : List ℕ) → nat_eq c 60 ≡ false → nat_eq c 38 ≡ false → nat_eq c 0 ≡ false → item rows asked (in_data last) c u ≡ character c (in_data last)
   plain_item last asked c u e f g = rw (e, f, g) refl
 
   pub itself-one : (last : Option (List ℕ)) (breaks : ℕ) (s : S) → is_sound s → (c : ℕ) (u : List ℕ) (l : ℕ) → is_itself c ≡ true
-      → reading step cdata ends rows (in_data last) breaks s (c ∷ u) ≡ (step s (CharacterTokens (c ∷ [])) l >>= λ p. reading step cdata ends rows (in_data last) (breaks + line_breaks (c ∷ [])) p.0 u)
+      → reading step erred cdata ends rows (in_data last) breaks s (c ∷ u) ≡ (step s (CharacterTokens (c ∷ [])) l >>= λ p. reading step erred cdata ends rows (in_data last) (breaks + line_breaks (c ∷ [])) p.0 u)
   itself-one last breaks s sound c u l h =
       let parts = and_parts _ _ h in
       let firsts = and_parts _ _ parts.0 in
       told_text (in_data last) breaks s sound c u (c ∷ []) 1 l (plain_item last (cdata s) c u (not-false _ firsts.0) (not-false _ firsts.1) (not-false _ parts.1))
 
   pub run-one_text : (last : Option (List ℕ)) (breaks : ℕ) (s : S) → is_sound s → (c : ℕ) (front t : List ℕ) (line : ℕ) → list_all is_itself (c ∷ front) ≡ true
-      → reading step cdata ends rows (in_data last) breaks s ((c ∷ front) ++ t) ≡ (step s (CharacterTokens (c ∷ front)) line >>= λ p. reading step cdata ends rows (in_data last) (breaks + line_breaks (c ∷ front)) p.0 t)
+      → reading step erred cdata ends rows (in_data last) breaks s ((c ∷ front) ++ t) ≡ (step s (CharacterTokens (c ∷ front)) line >>= λ p. reading step erred cdata ends rows (in_data last) (breaks + line_breaks (c ∷ front)) p.0 t)
   run-one_text last breaks s sound c [] t line h = itself-one last breaks s sound c t line (and_parts _ _ h).0
   run-one_text last breaks s sound c (d ∷ front) t line h =
       let parts = and_parts (is_itself c) (list_all is_itself (d ∷ front)) h in
       itself-one last breaks s sound c ((d ∷ front) ++ t) 0 parts.0
-      ∙ grown (in_data last) breaks s sound c (d ∷ front) t line (λ q. reading step cdata ends rows (in_data last) (breaks + line_breaks (c ∷ [])) q ((d ∷ front) ++ t))
+      ∙ grown (in_data last) breaks s sound c (d ∷ front) t line (λ q. reading step erred cdata ends rows (in_data last) (breaks + line_breaks (c ∷ [])) q ((d ∷ front) ++ t))
       (λ q k. run-one_text last (breaks + line_breaks (c ∷ [])) q k d front t 0 parts.1)
 
   module _ (reads : ReadsEscapes rows) where
     escaped_by-one : (last : Option (List ℕ)) (breaks : ℕ) (s : S) → is_sound s → (c : ℕ) (u : List ℕ) (l : ℕ) (a b d e : Bool) → nat_eq c 38 ≡ a → nat_eq c 60 ≡ b → nat_eq c 62 ≡ d → nat_eq c 0xA0 ≡ e → nat_eq c 0 ≡ false
-        → reading step cdata ends rows (in_data last) breaks s (escaped_by a b d e c ++ u) ≡ (step s (CharacterTokens (c ∷ [])) l >>= λ p. reading step cdata ends rows (in_data last) (breaks + line_breaks (c ∷ [])) p.0 u)
+        → reading step erred cdata ends rows (in_data last) breaks s (escaped_by a b d e c ++ u) ≡ (step s (CharacterTokens (c ∷ [])) l >>= λ p. reading step erred cdata ends rows (in_data last) (breaks + line_breaks (c ∷ [])) p.0 u)
     escaped_by-one last breaks s sound c u l true b d e ea eb ed ee z =
         rw (eqb-true c 38 ea) (told_text (in_data last) breaks s sound 38 (codes "amp;" ++ u) (38 ∷ []) 5 l (rw (reads.amp u) refl))
     escaped_by-one last breaks s sound c u l false true d e ea eb ed ee z =
@@ -105,15 +105,15 @@ module _ {S H F : Type 0} (step : S → Token → ℕ → Result (S × TokenSink
         told_text (in_data last) breaks s sound c u (c ∷ []) 1 l (plain_item last (cdata s) c u eb ea z)
 
     escaped-one : (last : Option (List ℕ)) (breaks : ℕ) (s : S) → is_sound s → (c : ℕ) (u : List ℕ) (l : ℕ) → is_not_null c ≡ true
-        → reading step cdata ends rows (in_data last) breaks s (escaped c ++ u) ≡ (step s (CharacterTokens (c ∷ [])) l >>= λ p. reading step cdata ends rows (in_data last) (breaks + line_breaks (c ∷ [])) p.0 u)
+        → reading step erred cdata ends rows (in_data last) breaks s (escaped c ++ u) ≡ (step s (CharacterTokens (c ∷ [])) l >>= λ p. reading step erred cdata ends rows (in_data last) (breaks + line_breaks (c ∷ [])) p.0 u)
     escaped-one last breaks s sound c u l h = escaped_by-one last breaks s sound c u l _ _ _ _ refl refl refl refl (not-false _ h)
 
     pub escape-read : (last : Option (List ℕ)) (breaks : ℕ) (s : S) → is_sound s → (c : ℕ) (cs t : List ℕ) (line : ℕ) → list_all is_not_null (c ∷ cs) ≡ true
-        → reading step cdata ends rows (in_data last) breaks s (escape (c ∷ cs) ++ t) ≡ (step s (CharacterTokens (c ∷ cs)) line >>= λ p. reading step cdata ends rows (in_data last) (breaks + line_breaks (c ∷ cs)) p.0 t)
+        → reading step erred cdata ends rows (in_data last) breaks s (escape (c ∷ cs) ++ t) ≡ (step s (CharacterTokens (c ∷ cs)) line >>= λ p. reading step erred cdata ends rows (in_data last) (breaks + line_breaks (c ∷ cs)) p.0 t)
     escape-read last breaks s sound c [] t line h = rw append-nil (escaped-one last breaks s sound c t line (and_parts _ _ h).0)
     escape-read last breaks s sound c (d ∷ cs) t line h =
         let parts = and_parts (is_not_null c) (list_all is_not_null (d ∷ cs)) h in
-        ap (λ w. reading step cdata ends rows (in_data last) breaks s w) (append_assoc (escaped c) (escape (d ∷ cs)) t)
+        ap (λ w. reading step erred cdata ends rows (in_data last) breaks s w) (append_assoc (escaped c) (escape (d ∷ cs)) t)
         ∙ (escaped-one last breaks s sound c (escape (d ∷ cs) ++ t) 0 parts.0
-        ∙ grown (in_data last) breaks s sound c (d ∷ cs) t line (λ q. reading step cdata ends rows (in_data last) (breaks + line_breaks (c ∷ [])) q (escape (d ∷ cs) ++ t))
+        ∙ grown (in_data last) breaks s sound c (d ∷ cs) t line (λ q. reading step erred cdata ends rows (in_data last) (breaks + line_breaks (c ∷ [])) q (escape (d ∷ cs) ++ t))
         (λ q k. escape-read last (breaks + line_breaks (c ∷ [])) q k d cs t 0 parts.1))

@@ -1,8 +1,8 @@
 -- Comments (HTML Standard, sections 13.2.5.41 and 13.2.5.43 to 13.2.5.52).
-use Rattle.std.specs.Prelude.{ℕ, Bool, true, false, ◌&&◌, nat_eq, List, [], ◌∷◌, ◌++◌, codes, Option, Some, None, if◌then◌else◌}
+use Rattle.std.specs.Prelude.{ℕ, Bool, true, false, ◌&&◌, not, nat_eq, List, [], ◌∷◌, ◌++◌, codes, Option, Some, None, if◌then◌else◌}
 use Rattle.html_tokens.specs.declared.token.Token.TheVariants.{CommentToken}
 use Rattle.html_tokens.specs.Characters.{shown, begins}
-use Rattle.html_tokens.specs.Item.{Stand, Item, behind, told}
+use Rattle.html_tokens.specs.Item.{Stand, Item, behind, told_as}
 
 -- whether a comment ends here, and the characters of that end: "-->" or "--!>", and at the end of input also "--!", "--" or "-"
 abbrev pub comment_end : List ℕ → Option ℕ
@@ -16,29 +16,29 @@ comment_end (a ∷ b ∷ c ∷ d ∷ t) =
     if nat_eq a 45 && nat_eq b 45 && nat_eq c 62 then Some 3
     else if nat_eq a 45 && nat_eq b 45 && nat_eq c 33 && nat_eq d 62 then Some 4 else None
 
-abbrev pub comment_by : Option ℕ → Stand → List ℕ → (Unit {0} → Item) → Item
-comment_by (Some n) st front go = told (CommentToken front) n st
-comment_by None st front go = behind (go tt)
+abbrev pub comment_by : Option ℕ → Bool → Stand → List ℕ → (Unit {0} → Item) → Item
+comment_by (Some n) faulty st front go = told_as faulty (CommentToken front) n st
+comment_by None faulty st front go = behind (go tt)
 
--- the rest of a comment, behind what was read of it
+-- the rest of a comment, behind what was read of it; any end but "-->" is a fault
 abbrev pub comment_after : Stand → List ℕ → List ℕ → Item
-comment_after st front [] = told (CommentToken front) 0 st
-comment_after st front (c ∷ t) = comment_by (comment_end (c ∷ t)) st front (λ _. comment_after st (front ++ shown c ∷ []) t)
+comment_after st front [] = told_as true (CommentToken front) 0 st
+comment_after st front (c ∷ t) = comment_by (comment_end (c ∷ t)) (not (begins (codes "-->") (c ∷ t))) st front (λ _. comment_after st (front ++ shown c ∷ []) t)
 
 abbrev pub empty_by : Bool → Bool → Stand → List ℕ → Item
-empty_by true dashed st t = told (CommentToken []) 1 st
-empty_by false true st t = told (CommentToken []) 2 st
+empty_by true dashed st t = told_as true (CommentToken []) 1 st
+empty_by false true st t = told_as true (CommentToken []) 2 st
 empty_by false false st t = comment_after st [] t
 
--- behind "<!--": a rest that begins with ">" or "->" gives the empty comment
+-- behind "<!--": a rest that begins with ">" or "->" gives the empty comment, which is a fault
 abbrev pub comment_at : Stand → List ℕ → Item
 comment_at st t = empty_by (begins (codes ">") t) (begins (codes "->") t) st t
 
 abbrev pub bogus_by : Bool → Stand → List ℕ → (Unit {0} → Item) → Item
-bogus_by true st front go = told (CommentToken front) 1 st
+bogus_by true st front go = told_as true (CommentToken front) 1 st
 bogus_by false st front go = behind (go tt)
 
--- the rest of a bogus comment, up to ">" or the end of input
+-- the rest of a bogus comment, which is a fault, up to ">" or the end of input
 abbrev pub bogus_comment_after : Stand → List ℕ → List ℕ → Item
-bogus_comment_after st front [] = told (CommentToken front) 0 st
+bogus_comment_after st front [] = told_as true (CommentToken front) 0 st
 bogus_comment_after st front (c ∷ t) = bogus_by (nat_eq c 62) st front (λ _. bogus_comment_after st (front ++ shown c ∷ []) t)

@@ -3,7 +3,7 @@ use Rattle.std.specs.Prelude.{ℕ, Bool, true, false, ◌||◌, nat_eq, List, []
 use Rattle.html_tokens.specs.declared.token.Doctype.{Doctype}
 use Rattle.html_tokens.specs.declared.token.Token.TheVariants.{DoctypeToken}
 use Rattle.html_tokens.specs.Characters.{shown, all_lowered, ends_word, run, white, begins_any_case}
-use Rattle.html_tokens.specs.Item.{Stand, Item, behind, behind_all, told}
+use Rattle.html_tokens.specs.Item.{Stand, Item, behind, behind_all, told_as}
 
 -- a doctype of which nothing was read
 abbrev pub no_doctype : Doctype
@@ -12,8 +12,9 @@ no_doctype = record { name = None; public_id = None; system_id = None; force_qui
 abbrev pub forced : Doctype → Doctype
 forced d = record d { force_quirks = true }
 
+-- a doctype that sets quirks is a fault
 abbrev pub given : Stand → Doctype → ℕ → Item
-given st d n = told (DoctypeToken d) n st
+given st d n = told_as d.force_quirks (DoctypeToken d) n st
 
 abbrev pub junk_by : Bool → Stand → Doctype → (Unit {0} → Item) → Item
 junk_by true st d go = given st d 1

@@ -2,10 +2,10 @@
 use Rattle.std.specs.Prelude.{ℕ, Bool, true, false, ◌&&◌, nat_eq, List, [], ◌∷◌, drop, codes, if◌then◌else◌}
 use Rattle.std.specs.Char.{is_ascii_alphabetic}
 use Rattle.html_tokens.specs.declared.tags.TagKind.TheVariants.{StartTag, EndTag}
-use Rattle.html_tokens.specs.Characters.{shown, begins, begins_any_case}
+use Rattle.html_tokens.specs.Characters.{begins, begins_any_case}
 use Rattle.html_tokens.specs.Table.{Row}
-use Rattle.html_tokens.specs.Reference.{reference_at}
-use Rattle.html_tokens.specs.Item.{Place, InData, InRaw, InPlaintext, InCdata, InTag, Stand, moved, Item, behind, behind_all, silent, character, character_or_null, reference_item}
+use Rattle.html_tokens.specs.Reference.{reference_at, names_no_character}
+use Rattle.html_tokens.specs.Item.{Place, InData, InRaw, InPlaintext, InCdata, InTag, Stand, moved, Item, behind, behind_all, silent, character, shown_character, character_or_null, reference_item}
 use Rattle.html_tokens.specs.Comments.{comment_at, bogus_comment_after}
 use Rattle.html_tokens.specs.Doctypes.{doctype_at}
 use Rattle.html_tokens.specs.Tags.{named, name_after, tag_at}
@@ -41,13 +41,13 @@ opening c =
 
 abbrev pub end_by : Opening → Stand → ℕ → List ℕ → Item
 end_by Letter st c t = behind_all 2 (name_after st (named EndTag []) (c ∷ t))
-end_by Close st c t = silent 3 st
+end_by Close st c t = record (silent 3 st) { is_faulty = true }
 end_by Slash st c t = behind_all 2 (bogus_comment_after st [] (c ∷ t))
 end_by Mark st c t = behind_all 2 (bogus_comment_after st [] (c ∷ t))
 end_by Question st c t = behind_all 2 (bogus_comment_after st [] (c ∷ t))
 end_by Other st c t = behind_all 2 (bogus_comment_after st [] (c ∷ t))
 
--- behind "</" (section 13.2.5.7)
+-- behind "</"; "</>" gives nothing and is a fault (section 13.2.5.7)
 abbrev pub end_at : Stand → List ℕ → Item
 end_at st [] = character 60 st
 end_at st (c ∷ t) = end_by (opening c) st c t
@@ -67,7 +67,7 @@ open_at cdata st (c ∷ t) = open_by (opening c) cdata st c t
 
 abbrev pub data_by : Bool → Bool → List Row → Bool → Stand → ℕ → List ℕ → Item
 data_by true amp rows cdata st c t = open_at cdata st t
-data_by false true rows cdata st c t = reference_item (reference_at false rows t) st
+data_by false true rows cdata st c t = reference_item (names_no_character t) (reference_at false rows t) st
 data_by false false rows cdata st c t = character_or_null c st
 
 abbrev pub cdata_by : Bool → Stand → ℕ → Item
@@ -77,7 +77,7 @@ cdata_by false st c = character_or_null c st
 abbrev pub item_in : Place → List Row → Bool → Stand → ℕ → List ℕ → Item
 item_in InData rows cdata st c t = data_by (nat_eq c 60) (nat_eq c 38) rows cdata st c t
 item_in (InRaw kind) rows cdata st c t = raw_at rows st kind c t
-item_in InPlaintext rows cdata st c t = character (shown c) st
+item_in InPlaintext rows cdata st c t = shown_character c st
 item_in InCdata rows cdata st c t = cdata_by (begins (codes "]]>") (c ∷ t)) st c
 item_in (InTag tag) rows cdata st c t = tag_at rows st tag c t
 

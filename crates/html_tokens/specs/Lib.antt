@@ -1,15 +1,15 @@
 pub mod Characters
+pub mod Clean
 pub mod Comments
 pub mod Counting
 pub mod Doctypes
-pub mod Errors
 pub mod Item
 pub mod Items
 pub mod Laws
 pub mod Listed
 pub mod Listing
 pub mod NormalText
-pub mod Pauses
+pub mod Notes
 pub mod Pieces
 pub mod RawText
 pub mod Reading

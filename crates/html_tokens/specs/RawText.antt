@@ -6,10 +6,10 @@ use Rattle.html_tokens.specs.declared.states.RawKind.{RawKind}
 use Rattle.html_tokens.specs.declared.states.RawKind.TheVariants.{Rcdata, Rawtext, ScriptData, ScriptDataEscaped}
 use Rattle.html_tokens.specs.declared.states.ScriptEscapeKind.TheVariants.{Escaped, DoubleEscaped}
 use Rattle.html_tokens.specs.declared.tags.TagKind.TheVariants.{EndTag}
-use Rattle.html_tokens.specs.Characters.{shown, begins, begins_name}
+use Rattle.html_tokens.specs.Characters.{begins, begins_name}
 use Rattle.html_tokens.specs.Table.{Row}
-use Rattle.html_tokens.specs.Reference.{reference_at}
-use Rattle.html_tokens.specs.Item.{InRaw, Stand, moved, Item, behind, character, reference_item}
+use Rattle.html_tokens.specs.Reference.{reference_at, names_no_character}
+use Rattle.html_tokens.specs.Item.{InRaw, Stand, moved, Item, behind, shown_character, reference_item}
 use Rattle.html_tokens.specs.Tags.{named, name_after}
 
 -- one or more ASCII letters
@@ -57,8 +57,8 @@ kind_behind (ScriptDataEscaped DoubleEscaped) c t =
 
 abbrev pub raw_by : Bool → Bool → List Row → Stand → RawKind → ℕ → List ℕ → Item
 raw_by true amp rows st kind c t = behind (behind (name_after st (named EndTag []) (drop 1 t)))
-raw_by false true rows st kind c t = reference_item (reference_at false rows t) st
-raw_by false false rows st kind c t = character (shown c) (moved st (InRaw (kind_behind kind c t)))
+raw_by false true rows st kind c t = reference_item (names_no_character t) (reference_at false rows t) st
+raw_by false false rows st kind c t = shown_character c (moved st (InRaw (kind_behind kind c t)))
 
 -- the item at the front of raw text
 abbrev pub raw_at : List Row → Stand → RawKind → ℕ → List ℕ → Item

@@ -66,6 +66,19 @@ abbrev pub numeric : List ℕ → Option Number
 numeric [] = None
 numeric (c ∷ t) = numeric_by (nat_eq c 120 || nat_eq c 88) c t
 
+abbrev pub is_none_number : Option Number → Bool
+is_none_number None = false
+is_none_number (Some n) = is_no_character n.value
+
+abbrev pub names_none_by : Bool → List ℕ → Bool
+names_none_by true t = is_none_number (numeric t)
+names_none_by false t = false
+
+-- whether a numeric reference to no character stands behind "&"
+abbrev pub names_no_character : List ℕ → Bool
+names_no_character [] = false
+names_no_character (c ∷ t) = names_none_by (nat_eq c 35) t
+
 abbrev pub numbered_reference : Option Number → Option Reference
 numbered_reference None = None
 numbered_reference (Some n) = Some (record { chars = numbered n.value ∷ []; len = n.len })

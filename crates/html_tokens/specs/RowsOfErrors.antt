@@ -1,8 +1,9 @@
 -- Worked rows: how many errors a text owes, and whether it is clean.
 use Prim.Native.String.{String}
 use Rattle.std.specs.Prelude.{◌≡◌, ℕ, Bool, true, false, List, [], ◌∷◌, ◌++◌, codes, map}
-use Rattle.html_tokens.specs.Errors.{owed, is_clean_reading}
-use Rattle.html_tokens.specs.Listing.{step, empty}
+use Rattle.html_tokens.specs.Clean.{is_clean_reading}
+use Rattle.html_tokens.specs.Notes.{owed}
+use Rattle.html_tokens.specs.Listing.{step, end as finished, empty}
 use Rattle.html_tokens.specs.NormalText.{normal_text}
 use Rattle.html_tokens.specs.RowForms.{raw_text, data_stand, five}
 
@@ -37,7 +38,7 @@ owed_rows =
     ∷ []
 
 abbrev pub owed_of : Bool → List ℕ → ℕ
-owed_of cdata t = owed (step raw_text) (λ s. s.cdata) five data_stand 0 (empty cdata) (normal_text true t)
+owed_of cdata t = owed (step raw_text) (λ s. s.cdata) finished five data_stand 0 (empty cdata) (normal_text true t)
 
 abbrev pub AreErrorRowsRead : Type 0
 AreErrorRowsRead =

@@ -7,7 +7,7 @@ use Rattle.html_tokens.specs.declared.replies.TokenSinkResult.TheVariants.{Conti
 use Rattle.html_tokens.specs.declared.tags.Tag.{Tag}
 use Rattle.html_tokens.specs.declared.token.Token.{Token}
 use Rattle.html_tokens.specs.Listing.{step, end as finished, empty, lined}
-use Rattle.html_tokens.specs.Pauses.{pauses}
+use Rattle.html_tokens.specs.Notes.{pauses}
 use Rattle.html_tokens.specs.Reading.{reading}
 use Rattle.html_tokens.specs.RowForms.{text, text_of, null, comment, comment_of, doctype, no, yes, at_of, start, start_of, end, goes_on, data_stand, five, AreRead, row}
 
@@ -43,7 +43,7 @@ AreLineRowsRead = map (λ r. lines_of r.0) line_rows ≡ map (λ r. r.1) line_ro
 abbrev pub pausing : Tag → TokenSinkResult ℕ
 pausing tag = if bytes_eq tag.name (codes "a") then Script 7 else if bytes_eq tag.name (codes "m") then EncodingIndicator (codes "utf8") else Continue
 
-abbrev pub pauses_of : List ℕ → Result (List (TokenSinkResult ℕ)) ParseFault
+abbrev pub pauses_of : List ℕ → Result (List (TokenSinkResult ℕ)) (ParseFault × ℕ)
 pauses_of t = pauses (step pausing) (λ s. s.cdata) finished five data_stand 0 (empty false) t
 
 -- a pause comes behind its tag, and the reading goes on behind it as it would with no pause
@@ -57,4 +57,4 @@ ArePauseRowsRead =
 -- at the end of input the sink is told the end once, and `end` is called behind it
 abbrev pub IsEndRowRead : Type 0
 IsEndRowRead =
-    reading (step goes_on) (λ s. s.cdata) finished five data_stand 0 (empty false) (codes "a" ++ 10 ∷ codes "<b") ≡ Ok (record { told = (text_of (codes "a" ++ 10 ∷ []), 0) ∷ []; cdata = false; ended_at = Some 2; ended = true })
+    reading (step goes_on) (λ s. s) (λ s. s.cdata) finished five data_stand 0 (empty false) (codes "a" ++ 10 ∷ codes "<b") ≡ Ok (record { told = (text_of (codes "a" ++ 10 ∷ []), 0) ∷ []; cdata = false; ended_at = Some 2; ended = true })

@@ -1,5 +1,5 @@
 -- Tags and their attributes (HTML Standard, sections 13.2.5.8 and 13.2.5.32 to 13.2.5.40).
-use Rattle.std.specs.Prelude.{ℕ, zero, suc, Bool, true, false, ◌||◌, nat_eq, List, [], ◌∷◌, ◌++◌, take, drop, codes, Option, Some, None, if◌then◌else◌}
+use Rattle.std.specs.Prelude.{ℕ, zero, suc, Bool, true, false, ◌||◌, not, nat_eq, List, [], ◌∷◌, ◌++◌, take, drop, codes, Option, Some, None, if◌then◌else◌}
 use Rattle.std.specs.List.{list_any}
 use Rattle.std.specs.Str.{bytes_eq}
 use Rattle.markup.specs.declared.attributes.Attribute.{Attribute}
@@ -10,7 +10,7 @@ use Rattle.html_tokens.specs.declared.token.Token.TheVariants.{TagToken}
 use Rattle.html_tokens.specs.Characters.{is_white_space, ends_tag_name, ends_attribute_name, ends_word, shown, lowered, all_lowered, run, white, begins}
 use Rattle.html_tokens.specs.Table.{Row}
 use Rattle.html_tokens.specs.Reference.{Reference, reference_at}
-use Rattle.html_tokens.specs.Item.{InData, InTag, Stand, moved, Item, behind, behind_all, silent, told}
+use Rattle.html_tokens.specs.Item.{InData, InTag, Stand, moved, Item, behind, behind_all, silent, told_as}
 
 abbrev pub named : TagKind → List ℕ → Tag
 named kind name = record { kind = kind; name = name; self_closing = false; attrs = []; had_duplicate_attributes = false }
@@ -126,8 +126,20 @@ last_name EndTag name last = last
 abbrev pub behind_tag : Stand → Tag → Stand
 behind_tag st tag = record { place = InData; last_start_tag = last_name tag.kind tag.name st.last_start_tag }
 
+abbrev pub is_empty : {A : Type 0} → List A → Bool
+is_empty [] = true
+is_empty (x ∷ xs) = false
+
+abbrev pub is_faulty_end : TagKind → Tag → Bool
+is_faulty_end StartTag tag = false
+is_faulty_end EndTag tag = tag.self_closing || not (is_empty tag.attrs)
+
+-- a repeated attribute, or an end tag that has more than its name (sections 13.2.5.33 and 13.2.5)
+abbrev pub is_faulty_tag : Tag → Bool
+is_faulty_tag tag = tag.had_duplicate_attributes || is_faulty_end tag.kind tag
+
 abbrev pub tag_end : Stand → Tag → ℕ → Item
-tag_end st tag n = told (TagToken tag) n (behind_tag st tag)
+tag_end st tag n = told_as (is_faulty_tag tag) (TagToken tag) n (behind_tag st tag)
 
 abbrev pub slash_by : Bool → Stand → Tag → Item
 slash_by true st tag = tag_end st (record tag { self_closing = true }) 2

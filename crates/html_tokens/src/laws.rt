@@ -1,6 +1,6 @@
 //! Laws over the definitions of tokenizing. Each function's contract is one law.
 ghost use Rattle.std.specs.Prelude.{⊤};
-ghost use Rattle.html_tokens.specs.Laws.{IsItemInText, IsReadByItems, IsSkipped, AreNewlinesJoined, IsCutAnywhere, IsRunOneText, IsEscapeRead, IsOwnNormalText, IsFirstKept, IsEachTokenSound, ReadsEscapes, AreLinesCounted, JoinsText};
+ghost use Rattle.html_tokens.specs.Laws.{IsCleanOwingNone, IsItemInText, IsReadByItems, IsSkipped, AreNewlinesJoined, IsCutAnywhere, IsRunOneText, IsEscapeRead, IsOwnNormalText, IsFirstKept, IsEachTokenSound, ReadsEscapes, AreLinesCounted, JoinsText};
 ghost use Rattle.html_tokens.specs.RowForms.{five, raw_text};
 ghost use Rattle.html_tokens.specs.Listing;
 ghost use Rattle.html_tokens.specs.TagEquality.{IsTagEquivalence};
@@ -55,6 +55,11 @@ pub fn plain_text_is_normal()
 /// No text holds U+0000, a tag's name is lowered and not empty, and its attributes have distinct names.
 pub fn tokens_are_sound()
     ensures { IsEachTokenSound }
+{}
+
+/// A text that is read without anything that is not clean owes no error.
+pub fn clean_texts_owe_no_error<S: TokenSink>()
+    ensures { IsCleanOwingNone S.step S.asks_cdata S.ended }
 {}
 
 /// The table of five names reads what escaping writes.

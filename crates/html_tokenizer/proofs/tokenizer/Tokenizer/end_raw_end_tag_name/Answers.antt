@@ -4,4 +4,4 @@ use Rattle.html_tokenizer.proofs.tokenizer.Tokenizer.end_raw_end_tag_name.Goals 
 pub returns : goal.returns
 returns g c =
     let m = g.Sink.TokenSink in
-    raw_name-closes m.step m.view m.asks_cdata m.ended m.is_sound m.number m.has_failed m.is_quiet g.met.Sink.TokenSink.laws _ _ _ _ c.requires.at c.requires.sound c.tell_end_tag.ensures.letters c.tell_end_tag.ensures.is
+    raw_name-closes m.step m.view m.asks_cdata m.ended m.is_sound m.number m.has_failed m.errors m.is_quiet g.met.Sink.TokenSink.laws _ _ _ _ c.requires.at c.requires.sound c.tell_end_tag.ensures.letters c.tell_end_tag.ensures.is

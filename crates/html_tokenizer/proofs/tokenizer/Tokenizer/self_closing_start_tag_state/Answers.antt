@@ -5,9 +5,9 @@ use Rattle.html_tokenizer.proofs.tokenizer.Tokenizer.self_closing_start_tag_stat
 pub returns-in_err-tell_if : goal.returns-in_err-tell_if
 returns-in_err-tell_if g c =
     let m = g.Sink.TokenSink in
-    keeps_refused m.step m.view m.asks_cdata m.ended m.is_sound m.number m.has_failed c.args.self.now _ c.args.self.now.char_ref c.args.c _ _ c.in_err-tell_if.ensures c.from_residual.ensures.1
+    keeps_refused m.step m.view m.asks_cdata m.ended m.is_sound m.number m.has_failed m.errors c.args.self.now _ c.args.self.now.char_ref c.args.c _ _ c.in_err-tell_if.ensures c.from_residual.ensures.1
 
 pub returns : goal.returns
 returns g c =
     let m = g.Sink.TokenSink in
-    keeps_erred m.step m.view m.asks_cdata m.ended m.is_sound m.number m.has_failed c.args.self.now c.tell_if.new.self _ c.args.c _ c.in_ok-tell_if.ensures c.take_behind_solidus.ensures
+    keeps_erred m.step m.view m.asks_cdata m.ended m.is_sound m.number m.has_failed m.errors c.args.self.now c.tell_if.new.self _ c.args.c _ c.in_ok-tell_if.ensures c.take_behind_solidus.ensures

@@ -1,78 +1,19 @@
--- Which items the Standard names an error for, which give none, and how many errors a reading owes.
-use Rattle.std.specs.Prelude.{ℕ, zero, suc, ◌+◌, ◌-◌, Bool, true, false, ◌||◌, ◌&&◌, not, nat_eq, nat_le, List, [], ◌∷◌, length, take, drop, codes, Option, Some, None, Result, Ok, Err}
+-- Which items tell no error under the default options.
+use Rattle.std.specs.Prelude.{ℕ, zero, suc, ◌+◌, ◌-◌, Bool, true, false, ◌||◌, ◌&&◌, not, nat_eq, nat_le, List, [], ◌∷◌, take, drop, codes, Option, Some, None, Result, Ok, Err}
 use Rattle.std.specs.Char.{is_ascii_lowercase, is_ascii_digit}
 use Rattle.std.specs.List.{ends_with}
-use Rattle.std.specs.Str.{bytes_eq}
 use Rattle.html_tokens.specs.declared.replies.TokenSinkResult.{TokenSinkResult}
 use Rattle.html_tokens.specs.declared.tags.Tag.{Tag}
 use Rattle.html_tokens.specs.declared.tags.TagKind.{TagKind}
 use Rattle.html_tokens.specs.declared.tags.TagKind.TheVariants.{StartTag, EndTag}
 use Rattle.html_tokens.specs.declared.token.Token.{Token}
-use Rattle.html_tokens.specs.declared.token.Token.TheVariants.{DoctypeToken, TagToken, CommentToken, CharacterTokens, NullCharacterToken, EOFToken, ParseError}
 use Rattle.html_tokens.specs.Characters.{ends_word, run, begins}
 use Rattle.html_tokens.specs.Table.{Row, longest}
-use Rattle.html_tokens.specs.Reference.{Number, numeric, is_no_character}
-use Rattle.html_tokens.specs.Item.{Place, InData, InRaw, InPlaintext, InCdata, InTag, Stand}
+use Rattle.html_tokens.specs.Item.{Place, InData, InRaw, InPlaintext, InCdata, InTag, Stand, is_cut}
 use Rattle.html_tokens.specs.Items.{item, Opening as Markup, Letter, Slash, Mark, Question, Close, Other, opening}
-use Rattle.html_tokens.specs.Tags.{Part, Space, Solidus, End, Attributes, part, has_attribute}
+use Rattle.html_tokens.specs.Tags.{Part, Space, Solidus, End, Attributes, part, has_attribute, is_faulty_tag}
 use Rattle.html_tokens.specs.RawText.{is_fitting_end, ends_at_tag}
 use Rattle.html_tokens.specs.Reading.{said, next_stand, line_breaks}
-
--- FAULTY ITEMS
-
-abbrev pub is_empty : {A : Type 0} → List A → Bool
-is_empty [] = true
-is_empty (x ∷ xs) = false
-
-abbrev pub is_faulty_end : TagKind → Tag → Bool
-is_faulty_end StartTag tag = false
-is_faulty_end EndTag tag = tag.self_closing || not (is_empty tag.attrs)
-
--- a repeated attribute, or an end tag that has more than its name (sections 13.2.5.33 and 13.2.5)
-abbrev pub is_faulty_tag : Tag → Bool
-is_faulty_tag tag = tag.had_duplicate_attributes || is_faulty_end tag.kind tag
-
--- a bogus comment, "<!-->", "<!--->", or one that "--!>" or the end of input ends
-abbrev pub is_faulty_comment : List ℕ → Bool
-is_faulty_comment slice = not (begins (codes "<!--") slice && ends_with nat_eq slice (codes "-->") && nat_le 7 (length slice))
-
-abbrev pub is_faulty_number : Option Number → Bool
-is_faulty_number None = false
-is_faulty_number (Some n) = is_no_character n.value
-
--- U+0000, or a numeric reference to no character
-abbrev pub is_faulty_text : List ℕ → Bool
-is_faulty_text [] = false
-is_faulty_text (c ∷ t) = nat_eq c 0 || (begins (codes "&#") (c ∷ t) && is_faulty_number (numeric (drop 1 t)))
-
--- whether the Standard names an error for a token with this slice
-abbrev pub is_faulty_token : Token → List ℕ → Bool
-is_faulty_token (DoctypeToken d) slice = d.force_quirks
-is_faulty_token (TagToken tag) slice = is_faulty_tag tag
-is_faulty_token (CommentToken cs) slice = is_faulty_comment slice
-is_faulty_token (CharacterTokens cs) slice = is_faulty_text slice
-is_faulty_token NullCharacterToken slice = true
-is_faulty_token EOFToken slice = false
-is_faulty_token (ParseError message) slice = false
-
--- the same of an item by its slice; of those without token "</>" alone is faulty
-abbrev pub is_faulty_slice : Option Token → List ℕ → Bool
-is_faulty_slice None slice = bytes_eq slice (codes "</>")
-is_faulty_slice (Some token) slice = is_faulty_token token slice
-
--- whether the end of input cuts off what was begun: a tag or a CDATA section
-abbrev pub is_cut : Place → Bool
-is_cut InData = false
-is_cut (InRaw kind) = false
-is_cut InPlaintext = false
-is_cut InCdata = true
-is_cut (InTag tag) = true
-
-abbrev pub one_if : Bool → ℕ
-one_if true = 1
-one_if false = 0
-
--- CLEAN ITEMS
 
 -- a lower-case ASCII letter, a digit or a hyphen
 abbrev pub is_clean_in_name : ℕ → Bool
@@ -94,9 +35,14 @@ abbrev pub ends_in_semicolon : Option Row → Bool
 ends_in_semicolon None = false
 ends_in_semicolon (Some row) = ends_with nat_eq row.name (codes ";")
 
+-- a named reference with ";" behind "&"
+abbrev pub is_named : List Row → List ℕ → Bool
+is_named rows [] = false
+is_named rows (c ∷ t) = not (nat_eq c 35) && ends_in_semicolon (longest rows (c ∷ t))
+
 -- a character of text or of a value that tells nothing: no "<", no U+0000, and "&" only as the beginning of a named reference with ";"
 abbrev pub is_clean_text : List Row → ℕ → List ℕ → Bool
-is_clean_text rows c t = not (nat_eq c 60) && not (nat_eq c 0) && (not (nat_eq c 38) || ends_in_semicolon (longest rows t))
+is_clean_text rows c t = not (nat_eq c 60) && not (nat_eq c 0) && (not (nat_eq c 38) || is_named rows t)
 
 abbrev pub clean_value_by : Bool → Bool → List ℕ → (Unit {0} → Bool) → Bool
 clean_value_by true clean t go = is_word_end t
@@ -150,24 +96,6 @@ abbrev pub is_clean : List Row → Stand → ℕ → List ℕ → Bool
 is_clean rows st c t = is_clean_in st.place rows st c t
 
 module _ {S H F : Type 0} (step : S → Token → ℕ → Result (S × TokenSinkResult H) F) (cdata : S → Bool) (rows : List Row) where
-  abbrev pub owed_by : Result (S × TokenSinkResult H) F → (S × TokenSinkResult H → ℕ) → ℕ
-  owed_by (Ok p) go = go p
-  owed_by (Err e) go = 0
-
-  -- how many faulty items a reading has behind n characters, up to a refusal
-  unfoldable pub owed_from : ℕ → Stand → ℕ → S → List ℕ → ℕ
-  owed_from n st breaks s [] = one_if (is_cut st.place)
-  owed_from zero st breaks s (c ∷ t) =
-      let i = item rows (cdata s) st c t in
-      let read = breaks + line_breaks (take i.len (c ∷ t)) in
-      one_if (is_faulty_slice i.token (take i.len (c ∷ t)))
-      + owed_by (said step i.token read s) (λ p. owed_from (i.len - 1) (next_stand i.next p.1) read p.0 t)
-  owed_from (suc n) st breaks s (c ∷ t) = owed_from n st breaks s t
-
-  -- how many errors a text owes at least
-  abbrev pub owed : Stand → ℕ → S → List ℕ → ℕ
-  owed st breaks s t = owed_from 0 st breaks s t
-
   abbrev pub clean_by : Bool → Result (S × TokenSinkResult H) F → (S × TokenSinkResult H → Bool) → Bool
   clean_by false r go = false
   clean_by true (Ok p) go = go p
@@ -179,7 +107,7 @@ module _ {S H F : Type 0} (step : S → Token → ℕ → Result (S × TokenSink
   clean_from zero st breaks s (c ∷ t) =
       let i = item rows (cdata s) st c t in
       let read = breaks + line_breaks (take i.len (c ∷ t)) in
-      clean_by (is_clean rows st c t) (said step i.token read s) (λ p. clean_from (i.len - 1) (next_stand i.next p.1) read p.0 t)
+      clean_by (is_clean rows st c t) (said step (λ s. s) i.is_faulty i.token read s) (λ p. clean_from (i.len - 1) (next_stand i.next p.1) read p.0 t)
   clean_from (suc n) st breaks s (c ∷ t) = clean_from n st breaks s t
 
   -- whether a text is read without a fault and without anything that is not clean
