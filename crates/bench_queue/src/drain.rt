@@ -1,4 +1,5 @@
-ghost use Rattle.std.specs.Prelude.{◌≡◌, ◌+◌, ◌^◌, ◌<◌, [], length, OnOk};
+ghost use Rattle.std.specs.Prelude.{◌≡◌, ◌+◌, ◌^◌, ◌<◌, [], length, min, OnOk, IfOk};
+ghost use Rattle.bench_queue.specs.Runs.{runs_and_members};
 
 use html_queue::{BufferQueue, SmallCharSet};
 use markup::ParseFault;
@@ -8,26 +9,29 @@ const STOPS: SmallCharSet = SmallCharSet {
     bits: 1 | 1 << 10 | 1 << 13 | 1 << 38 | 1 << 60,
 };
 
-/// Takes all characters one by one, and counts them.
+/// Takes all characters one by one, and counts them, up to the greatest number of 64 bits.
 pub(crate) fn characters_by_next(queue: &mut BufferQueue) -> u64
     ensures all { queue.new.characters ≡ [] }
     ensures counted { queue.new.taken ≡ queue.old.taken + length queue.old.characters }
+    ensures number { result ≡ min (length queue.old.characters) 0xffff_ffff_ffff_ffff }
 {
     let mut count: u64 = 0;
     while queue.next().is_some() {
-        count = count.wrapping_add(1);
+        count = count.saturating_add(1);
     }
     count
 }
 
-/// Takes all characters up to each stop, and counts the steps.
+/// Takes all characters, each stop and each run between stops in one step, and counts the steps, up
+/// to the greatest number of 64 bits.
 pub(crate) fn runs_by_pop_except_from(queue: &mut BufferQueue) -> Result<u64, ParseFault>
     ensures all { OnOk result (queue.new.characters ≡ []) }
     ensures counted { OnOk result (queue.new.taken ≡ queue.old.taken + length queue.old.characters) }
+    ensures number { IfOk result (λ n. n ≡ min (runs_and_members STOPS.bits queue.old.characters) 0xffff_ffff_ffff_ffff) }
 {
     let mut count: u64 = 0;
     while queue.pop_except_from(STOPS)?.is_some() {
-        count = count.wrapping_add(1);
+        count = count.saturating_add(1);
     }
     Ok(count)
 }
