@@ -1,3 +1,4 @@
+-- How many runs and members a text has for a set of characters.
 use Rattle.std.specs.Prelude.{ℕ, ◌+◌, Bool, true, ◌||◌, if◌then◌else◌, List, [], ◌∷◌}
 use Rattle.html_queue.specs.Set.{has}
 
