@@ -7,11 +7,12 @@ use Rattle.std.proofs.lemmas.Bool.{eqb-true}
 use Rattle.std.proofs.lemmas.Str.{chars-append, chars-nil}
 use Rattle.html_tokenizer.specs.Calls.{EndGives, refusal}
 use Rattle.html_tokenizer.specs.Steps.{and_more}
+use Rattle.html_tokenizer.specs.Steps as steps
 use Rattle.html_tokenizer.specs.declared.tokenizer.Tokenizer.{Tokenizer}
 use Rattle.html_tokenizer.proofs.Rises.{more-sum}
-use Rattle.html_tokens.specs.Notes.{errors_of}
-use Rattle.bench_tokenizer.specs.Counts.{IsWithin, counted_by, step, ended, asks_cdata, number, has_failed, errors}
-use Rattle.bench_tokenizer.specs.Readings.{HasRead, Reads, IsCounted, page_reading, to_come}
+use Rattle.html_tokens.specs.Notes.{errors_of, was_quiet}
+use Rattle.bench_tokenizer.specs.Counts.{IsWithin, counted_by, step, ended, asks_cdata, number, has_failed, errors, is_quiet}
+use Rattle.bench_tokenizer.specs.Readings.{HasRead, Reads, Begins, IsCounted, page_reading, page_owes, noted, owed_behind, to_come}
 use Rattle.bench_tokenizer.specs.declared.counts.Counts.{Counts}
 
 -- the characters of a text that is cut are those of both parts
@@ -26,26 +27,34 @@ no-bytes rest b e t = nil_from_length rest (eqb-true (length rest) 0 (sym e ∙ 
 told-all : (before rise m n : ℕ) → min before 0xffff_ffff_ffff_ffff ≤ m → min (m + rise) 0xffff_ffff_ffff_ffff ≤ n → min (and_more rise before) 0xffff_ffff_ffff_ffff ≤ n
 told-all before rise m n h k = let sum = more-sum rise before in omega (arith, sum, h, k)
 
+still-told : (owed m n : ℕ) → min owed 0xffff_ffff_ffff_ffff ≤ m → m ≤ n → min owed 0xffff_ffff_ffff_ffff ≤ n
+still-told owed m n h k = omega arith
+
+-- a tokenizer that begins has read nothing of a page
+pub begun : (page : List ℕ) (k : Tokenizer Counts) → Begins k → HasRead page k page
+begun page k begins = record { owed = steps.nothing; told = omega arith; same = sym (begins.same page); takes = begins.takes }
+
 -- behind a text that a tokenizer read, what follows that text is the rest of the page
 pub read-on : (page text behind : List ℕ) (old new : Tokenizer Counts) → HasRead page old (text ++ behind) → Reads old new text → HasRead page new behind
 read-on page text behind old new read reads = record {
-  owed = and_more reads.owed read.owed;
-  told = told-all read.owed reads.owed old.sink.errors new.sink.errors read.told reads.rises.enough;
+  owed = owed_behind reads.owed read.owed;
+  told = told-all read.owed.faults reads.owed.faults old.sink.errors new.sink.errors read.told reads.rises.enough;
   same = read.same ∙ reads.same read.owed behind;
   takes = reads.takes;
 }
 
 -- where nothing of a page is left and the end is told, the numbers are those of the page
 pub whole-page : (k new : Tokenizer Counts) (page : List ℕ) (rest : List ℕ) → HasRead page k (chars rest) → rest ≡ []
-    → EndGives step counted_by asks_cdata ended IsWithin number has_failed errors (refusal k.stream) k new (Ok tt) → IsCounted page new.sink
+    → EndGives step counted_by asks_cdata ended IsWithin number has_failed errors is_quiet (refusal k.stream) k new (Ok tt) → IsCounted page new.sink
 whole-page k new page rest read none gives =
     let has_ended = rw read.takes.begun at gives in
-    let owed = and_more has_ended.owed read.owed in
-    let told = told-all read.owed has_ended.owed k.sink.errors new.sink.errors read.told has_ended.rises.enough in
-    let whole : page_reading page ≡ Ok (counted_by new.sink, record { pauses = []; errors = owed }) =
-    read.same ∙ ap (λ r. to_come k read.owed (chars r)) none ∙ ap (to_come k read.owed) chars-nil ∙ has_ended.same (record { pauses = []; errors = read.owed }) in
-    let is_owed : errors_of (page_reading page) ≡ owed = ap errors_of whole in
+    let owed = owed_behind has_ended.owed read.owed in
+    let told = still-told (and_more has_ended.owed.faults read.owed.faults) has_ended.told.errors new.sink.errors (told-all read.owed.faults has_ended.owed.faults k.sink.errors has_ended.told.errors read.told has_ended.rises.enough) has_ended.kept in
+    let whole : page_reading page ≡ Ok (counted_by new.sink, noted owed) =
+    read.same ∙ ap (λ r. to_come k read.owed (chars r)) none ∙ ap (to_come k read.owed) chars-nil ∙ has_ended.same (noted read.owed) in
+    let is_owed : errors_of (page_reading page) ≡ owed.faults = ap errors_of whole in
+    let is_heard : was_quiet (page_reading page) ≡ owed.is_quiet = ap was_quiet whole in
     record {
-      read = whole ∙ ap (λ n. Ok (counted_by new.sink, record { pauses = []; errors = n })) (sym is_owed);
+      read = whole ∙ (ap (λ n. Ok (counted_by new.sink, record { pauses = []; errors = n; is_quiet = owed.is_quiet })) (sym is_owed) ∙ ap (λ q. Ok (counted_by new.sink, record { pauses = []; errors = page_owes page; is_quiet = q })) (sym is_heard));
       told = subst (λ n. min n 0xffff_ffff_ffff_ffff ≤ new.sink.errors) (sym is_owed) told;
     }

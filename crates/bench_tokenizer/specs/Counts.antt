@@ -59,6 +59,10 @@ has_failed c = false
 abbrev pub errors : Counts → ℕ
 errors c = c.errors
 
+-- it finds no error of its own
+abbrev pub is_quiet : Counted → Token → Bool
+is_quiet s token = true
+
 -- a number of errors after a token
 abbrev pub error_counted : Token → ℕ → ℕ
 error_counted (ParseError _) errors = one_more errors
@@ -113,7 +117,7 @@ replies : (t : Token) → IsReplyTo t (reply_to t)
 replies (TagToken tag) = IsTagReply-kind tag.kind tag.name
 replies _ = refl
 
-pub counts_laws : SinkLaws IsWithin step ended (λ _ _. true)
+pub counts_laws : SinkLaws IsWithin step ended is_quiet
 counts_laws = record {
   keeps = λ s h t line. keeps s h t;
   ends = λ s h. h;

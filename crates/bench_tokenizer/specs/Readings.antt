@@ -1,15 +1,16 @@
 -- What a tokenizer over a counting sink makes of a page.
-use Rattle.std.specs.Prelude.{◌≡◌, ◌≤◌, ℕ, min, true, false, List, [], ◌++◌, None, Result, Ok}
-use Rattle.html_tokens.specs.Notes.{Notes, no_notes, noted_reading, errors_of}
+use Rattle.std.specs.Prelude.{◌≡◌, ◌≤◌, ℕ, min, true, false, ◌&&◌, List, [], ◌++◌, None, Result, Ok}
+use Rattle.html_tokens.specs.Notes.{Notes, no_notes, noted_reading, errors_of, was_quiet}
 use Rattle.html_tokens.specs.NormalText.{normal_text}
 use Rattle.html_tokens.specs.Reading.{first_stand}
 use Rattle.html_tokens.specs.Sink.{Refusal}
 use Rattle.html_references.specs.References.{five_rows}
-use Rattle.html_tokenizer.specs.Calls.{IsReady, refusal}
+use Rattle.html_tokenizer.specs.Calls.{IsReady, refusal, and_own}
 use Rattle.html_tokenizer.specs.Calls as calls
-use Rattle.html_tokenizer.specs.Steps.{Rises, more}
+use Rattle.html_tokenizer.specs.Steps.{Owed, Rises, and_more}
+use Rattle.html_tokenizer.specs.Steps as steps
 use Rattle.html_tokenizer.specs.declared.tokenizer.Tokenizer.{Tokenizer}
-use Rattle.bench_tokenizer.specs.Counts.{Counted, IsWithin, counted_by, step, ended, asks_cdata, number, has_failed, errors}
+use Rattle.bench_tokenizer.specs.Counts.{Counted, IsWithin, counted_by, step, ended, asks_cdata, number, has_failed, errors, is_quiet}
 use Rattle.bench_tokenizer.specs.declared.counts.Counts.{Counts}
 
 -- nothing was told yet
@@ -18,7 +19,7 @@ nothing = record { characters = 0; tags = 0; attributes = 0; comments = 0; has_e
 
 -- what the definitions make of a whole page, with the five names of references that a written text needs
 abbrev pub page_reading : List ℕ → Result (Counted × Notes ℕ) (Refusal × ℕ)
-page_reading page = noted_reading step asks_cdata ended five_rows (first_stand None None) 0 (nothing, no_notes) (normal_text true page)
+page_reading page = noted_reading step is_quiet asks_cdata ended five_rows (first_stand None None) 0 (nothing, no_notes) (normal_text true page)
 
 -- how many errors a page owes
 abbrev pub page_owes : List ℕ → ℕ
@@ -26,34 +27,42 @@ page_owes page = errors_of (page_reading page)
 
 -- What is counted of a page is what the definitions make of it: no pause, and an error at least for each faulty item, up to u64::MAX.
 pub record IsCounted (page : List ℕ) (counts : Counts) : Type 0 where
-  pub read : page_reading page ≡ Ok (counted_by counts, record { pauses = []; errors = page_owes page })
+  pub read : page_reading page ≡ Ok (counted_by counts, record { pauses = []; errors = page_owes page; is_quiet = was_quiet (page_reading page) })
   pub told : min (page_owes page) 0xffff_ffff_ffff_ffff ≤ counts.errors
 
--- what a further text makes of the numbers, behind so many faulty items
-abbrev pub to_come : Tokenizer Counts → ℕ → List ℕ → Result (Counted × Notes ℕ) (Refusal × ℕ)
-to_come k owed t = calls.to_come step counted_by asks_cdata ended IsWithin number has_failed errors k (record { pauses = []; errors = owed }) t
+-- what is owed, noted with no pause
+abbrev pub noted : Owed → Notes ℕ
+noted owed = record { pauses = []; errors = owed.faults; is_quiet = owed.is_quiet }
+
+-- what is owed, behind what was owed before
+abbrev pub owed_behind : Owed → Owed → Owed
+owed_behind owed before = record { faults = and_more owed.faults before.faults; is_quiet = owed.is_quiet && before.is_quiet }
+
+-- what a further text makes of the numbers, behind what was owed
+abbrev pub to_come : Tokenizer Counts → Owed → List ℕ → Result (Counted × Notes ℕ) (Refusal × ℕ)
+to_come k owed t = calls.to_come step counted_by asks_cdata ended IsWithin number has_failed errors is_quiet k (noted owed) t
 
 -- a tokenizer takes calls
 pub record Takes (k : Tokenizer Counts) : Type 0 where
-  pub ready : IsReady step counted_by asks_cdata ended IsWithin number has_failed errors k
+  pub ready : IsReady step counted_by asks_cdata ended IsWithin number has_failed errors is_quiet k
   pub begun : refusal k.stream ≡ None
 
--- A tokenizer read a text, with so many faulty items: whatever follows, what was to come over the text and that is what is now to come
+-- A tokenizer read a text, which owed this: whatever follows, what was to come over the text and that is what is now to come
 -- over that.
 pub record Reads (old new : Tokenizer Counts) (text : List ℕ) : Type 0 where
-  pub owed : ℕ
-  pub rises : Rises errors owed old.sink new.sink
-  pub same : (before : ℕ) (t : List ℕ) → to_come old before (text ++ t) ≡ to_come new (more owed (record { pauses = []; errors = before })).errors t
+  pub owed : Owed
+  pub rises : Rises errors (and_own old.stream.exact_errors owed) old.sink new.sink
+  pub same : (before : Owed) (t : List ℕ) → to_come old before (text ++ t) ≡ to_come new (owed_behind owed before) t
   pub takes : Takes new
 
--- A page was read up to this rest, with so many faulty items.
+-- A page was read up to this rest, and owed this before it.
 pub record HasRead (page : List ℕ) (k : Tokenizer Counts) (rest : List ℕ) : Type 0 where
-  pub owed : ℕ
-  pub told : min owed 0xffff_ffff_ffff_ffff ≤ k.sink.errors
+  pub owed : Owed
+  pub told : min owed.faults 0xffff_ffff_ffff_ffff ≤ k.sink.errors
   pub same : page_reading page ≡ to_come k owed rest
   pub takes : Takes k
 
 -- A tokenizer at the front of its input: what is to come is the reading of all the text.
 pub record Begins (k : Tokenizer Counts) : Type 0 where
-  pub same : (t : List ℕ) → to_come k 0 t ≡ page_reading t
+  pub same : (t : List ℕ) → to_come k steps.nothing t ≡ page_reading t
   pub takes : Takes k

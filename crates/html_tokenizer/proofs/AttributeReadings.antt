@@ -1,15 +1,16 @@
 -- How an attribute is read, character by character.
 use Rattle.std.proofs.Common.{◌≡◌, ◌∙◌, ℕ, suc, ◌+◌, Bool, true, false, nat_eq, List, [], ◌∷◌, ◌++◌, take, drop, refl, sym, ap, append-nil, append_assoc}
-use Rattle.std.specs.Prelude.{codes}
+use Rattle.std.specs.Prelude.{codes, ◌||◌}
 use Rattle.html_tokens.specs.Notes.{NotedStep}
 use Rattle.html_tokens.specs.declared.tags.Tag.{Tag}
-use Rattle.html_tokens.specs.Characters.{is_white_space, ends_attribute_name, ends_word, lowered, all_lowered, shown, run, white, begins}
-use Rattle.html_tokens.specs.Item.{InTag, Stand, moved, behind, behind_all, silent}
-use Rattle.html_tokens.specs.Reading.{line_break, reading, play}
+use Rattle.html_tokens.specs.Characters.{is_white_space, ends_attribute_name, ends_word, lowered, all_lowered, shown, run, white, begins, is_null}
+use Rattle.html_tokens.specs.Item.{Fault, InTag, Stand, moved, behind, behind_all, silent, marked, slight_if}
+use Rattle.html_tokens.specs.Reading.{line_break, reading, play, erred_by}
 use Rattle.html_tokens.specs.Table.{Row}
-use Rattle.html_tokens.specs.Tags.{with_attribute, attribute_after, equals_by, equals_at, value_at, opening, opened_by, value_from, quote_at, quoted_after, unquoted_after, no_value}
-use Rattle.html_tokenizer.proofs.Readings.{play-is, play-nothing}
+use Rattle.html_tokens.specs.Tags.{with_attribute, attribute_after, equals_by, equals_at, value_at, opening, opened_by, value_from, quote_at, quoted_after, unquoted_after, no_value, lacks_space, is_odd_in_name, is_odd_unquoted}
+use Rattle.html_tokenizer.proofs.Readings.{play-is, play-nothing, Absorbing, marked-both, play-odd}
 use Rattle.html_tokenizer.proofs.TagReadings.{tag-space}
+use Rattle.std.specs.List.{list_any}
 
 white-more : (c : ℕ) (t : List ℕ) → is_white_space c ≡ true → white (c ∷ t) ≡ suc (white t)
 white-more c t e = rw e refl
@@ -35,25 +36,28 @@ quote_at-more n st [] = refl
 quote_at-more n st (c ∷ t) = refl
 
 quoted-behind : (rows : List Row) (quote : ℕ) (st : Stand) (tag : Tag) (name front : List ℕ) (c : ℕ) (t : List ℕ) → nat_eq quote c ≡ false → nat_eq c 38 ≡ false
-    → quoted_after rows quote st tag name front (c ∷ t) ≡ behind (quoted_after rows quote st tag name (front ++ shown c ∷ []) t)
+    → quoted_after rows quote st tag name front (c ∷ t) ≡ marked (is_null c) (behind (quoted_after rows quote st tag name (front ++ shown c ∷ []) t))
 unfolding value_from
 quoted-behind rows quote st tag name front c t e f =
-    let v = value_from rows (nat_eq quote) 0 t in
+    let v = value_from rows is_null (nat_eq quote) 0 t in
     rw (e, f) (
-    ap (λ value. quote_at (suc v.len) (moved st (InTag (with_attribute tag name value))) (drop v.len t)) (sym (append_assoc front (shown c ∷ []) v.chars))
-    ∙ quote_at-more v.len (moved st (InTag (with_attribute tag name ((front ++ shown c ∷ []) ++ v.chars)))) (drop v.len t))
+    ap (λ value. marked (is_null c || v.is_odd) (quote_at (suc v.len) (moved st (InTag (with_attribute tag name value))) (drop v.len t))) (sym (append_assoc front (shown c ∷ []) v.chars))
+    ∙ marked-both (is_null c) v.is_odd _
+    ∙ ap (λ i. marked (is_null c) (marked v.is_odd i)) (quote_at-more v.len (moved st (InTag (with_attribute tag name ((front ++ shown c ∷ []) ++ v.chars)))) (drop v.len t)))
 
 quoted-ends : (rows : List Row) (quote : ℕ) (st : Stand) (tag : Tag) (name front : List ℕ) (c : ℕ) (t : List ℕ) → nat_eq quote c ≡ true
-    → quoted_after rows quote st tag name front (c ∷ t) ≡ behind (silent 0 (moved st (InTag (with_attribute tag name front))))
+    → quoted_after rows quote st tag name front (c ∷ t) ≡ marked (lacks_space t) (behind (silent 0 (moved st (InTag (with_attribute tag name front)))))
 unfolding value_from
-quoted-ends rows quote st tag name front c t e = rw e (ap (λ value. silent 1 (moved st (InTag (with_attribute tag name value)))) (append-nil front))
+quoted-ends rows quote st tag name front c t e = rw e (ap (λ value. marked (lacks_space t) (silent 1 (moved st (InTag (with_attribute tag name value))))) (append-nil front))
 
 unquoted-behind : (rows : List Row) (st : Stand) (tag : Tag) (name front : List ℕ) (c : ℕ) (t : List ℕ) → ends_word c ≡ false → nat_eq c 38 ≡ false
-    → unquoted_after rows st tag name front (c ∷ t) ≡ behind (unquoted_after rows st tag name (front ++ shown c ∷ []) t)
+    → unquoted_after rows st tag name front (c ∷ t) ≡ marked (is_odd_unquoted c) (behind (unquoted_after rows st tag name (front ++ shown c ∷ []) t))
 unfolding value_from
 unquoted-behind rows st tag name front c t e f =
-    let v = value_from rows ends_word 0 t in
-    rw (e, f) (ap (λ value. silent (suc v.len) (moved st (InTag (with_attribute tag name value)))) (sym (append_assoc front (shown c ∷ []) v.chars)))
+    let v = value_from rows is_odd_unquoted ends_word 0 t in
+    rw (e, f) (
+    ap (λ value. marked (is_odd_unquoted c || v.is_odd) (silent (suc v.len) (moved st (InTag (with_attribute tag name value))))) (sym (append_assoc front (shown c ∷ []) v.chars))
+    ∙ marked-both (is_odd_unquoted c) v.is_odd _)
 
 -- where a value without quotes ends
 pub unquoted-ends : (rows : List Row) (st : Stand) (tag : Tag) (name front : List ℕ) (c : ℕ) (t : List ℕ) → ends_word c ≡ true
@@ -61,14 +65,15 @@ pub unquoted-ends : (rows : List Row) (st : Stand) (tag : Tag) (name front : Lis
 unfolding value_from
 unquoted-ends rows st tag name front c t e = rw e (ap (λ value. silent 0 (moved st (InTag (with_attribute tag name value)))) (append-nil front))
 
-module _ {T : Type 0} (step : NotedStep T) (erred : T → T) (cdata : T → Bool) (ends : T → T) (rows : List Row) where
-  -- a character of an attribute's name
-  pub name-goes_on : (st : Stand) (tag : Tag) (front : List ℕ) (b : ℕ) (s : T) (c : ℕ) (t : List ℕ) → ends_attribute_name c ≡ false
-      → play step erred cdata ends rows (attribute_after rows st tag front (c ∷ t)) b s (c ∷ t) ≡ play step erred cdata ends rows (attribute_after rows st tag (front ++ lowered c ∷ []) t) (b + line_break (nat_eq c 10)) s t
-  name-goes_on st tag front b s c t e =
+module _ {T : Type 0} (step : NotedStep T) (erred : Fault → T → T) (cdata : T → Bool) (ends : T → T) (rows : List Row) where
+  -- a character of an attribute's name, which may be odd
+  pub name-goes_on : (absorbs : Absorbing erred) (st : Stand) (tag : Tag) (front : List ℕ) (b : ℕ) (s : T) (c : ℕ) (t : List ℕ) → ends_attribute_name c ≡ false
+      → play step erred cdata ends rows (attribute_after rows st tag front (c ∷ t)) b s (c ∷ t) ≡ play step erred cdata ends rows (attribute_after rows st tag (front ++ lowered c ∷ []) t) (b + line_break (nat_eq c 10)) (erred_by erred (slight_if (is_odd_in_name c)) s) t
+  name-goes_on absorbs st tag front b s c t e =
       let n = run ends_attribute_name t in
-      play-is step erred cdata ends rows (attribute_after rows st tag front (c ∷ t)) (attribute_after rows st tag (front ++ lowered c ∷ []) t) b s c t
-      (rw e (ap (λ name. behind (behind_all n (equals_at rows st tag name (drop n t)))) (sym (append_assoc front (lowered c ∷ []) (all_lowered (take n t))))))
+      play-odd step erred cdata ends rows absorbs (is_odd_in_name c) (attribute_after rows st tag front (c ∷ t)) (attribute_after rows st tag (front ++ lowered c ∷ []) t) b s c t
+      (rw e (ap (λ name. marked (is_odd_in_name c || list_any is_odd_in_name (take n t)) (behind (behind_all n (equals_at rows st tag name (drop n t))))) (sym (append_assoc front (lowered c ∷ []) (all_lowered (take n t))))
+      ∙ marked-both (is_odd_in_name c) (list_any is_odd_in_name (take n t)) _))
 
   -- white space before "=", or before what follows an attribute without value
   equals_by-space : (equals : Bool) (st : Stand) (tag : Tag) (name : List ℕ) (b : ℕ) (s : T) (c : ℕ) (t : List ℕ) → is_white_space c ≡ true
@@ -106,20 +111,20 @@ module _ {T : Type 0} (step : NotedStep T) (erred : T → T) (cdata : T → Bool
   value-apostrophe st tag name b s t = play-is step erred cdata ends rows (value_at rows st tag name (39 ∷ t)) (quoted_after rows 39 st tag name [] t) b s 39 t refl
 
   -- a character of a value that begins no reference
-  pub quoted-goes_on : (quote : ℕ) (st : Stand) (tag : Tag) (name front : List ℕ) (b : ℕ) (s : T) (c : ℕ) (t : List ℕ) → nat_eq quote c ≡ false → nat_eq c 38 ≡ false
-      → play step erred cdata ends rows (quoted_after rows quote st tag name front (c ∷ t)) b s (c ∷ t) ≡ play step erred cdata ends rows (quoted_after rows quote st tag name (front ++ shown c ∷ []) t) (b + line_break (nat_eq c 10)) s t
-  quoted-goes_on quote st tag name front b s c t e f =
-      play-is step erred cdata ends rows (quoted_after rows quote st tag name front (c ∷ t)) (quoted_after rows quote st tag name (front ++ shown c ∷ []) t) b s c t (quoted-behind rows quote st tag name front c t e f)
+  pub quoted-goes_on : (absorbs : Absorbing erred) (quote : ℕ) (st : Stand) (tag : Tag) (name front : List ℕ) (b : ℕ) (s : T) (c : ℕ) (t : List ℕ) → nat_eq quote c ≡ false → nat_eq c 38 ≡ false
+      → play step erred cdata ends rows (quoted_after rows quote st tag name front (c ∷ t)) b s (c ∷ t) ≡ play step erred cdata ends rows (quoted_after rows quote st tag name (front ++ shown c ∷ []) t) (b + line_break (nat_eq c 10)) (erred_by erred (slight_if (is_null c)) s) t
+  quoted-goes_on absorbs quote st tag name front b s c t e f =
+      play-odd step erred cdata ends rows absorbs (is_null c) (quoted_after rows quote st tag name front (c ∷ t)) (quoted_after rows quote st tag name (front ++ shown c ∷ []) t) b s c t (quoted-behind rows quote st tag name front c t e f)
 
-  -- the quote that ends a value
-  pub quoted-closes : (quote : ℕ) (st : Stand) (tag : Tag) (name front : List ℕ) (b : ℕ) (s : T) (c : ℕ) (t : List ℕ) → nat_eq quote c ≡ true
-      → play step erred cdata ends rows (quoted_after rows quote st tag name front (c ∷ t)) b s (c ∷ t) ≡ reading step erred cdata ends rows (moved st (InTag (with_attribute tag name front))) (b + line_break (nat_eq c 10)) s t
-  quoted-closes quote st tag name front b s c t e =
+  -- the quote that ends a value, behind which no attribute may stand
+  pub quoted-closes : (absorbs : Absorbing erred) (quote : ℕ) (st : Stand) (tag : Tag) (name front : List ℕ) (b : ℕ) (s : T) (c : ℕ) (t : List ℕ) → nat_eq quote c ≡ true
+      → play step erred cdata ends rows (quoted_after rows quote st tag name front (c ∷ t)) b s (c ∷ t) ≡ reading step erred cdata ends rows (moved st (InTag (with_attribute tag name front))) (b + line_break (nat_eq c 10)) (erred_by erred (slight_if (lacks_space t)) s) t
+  quoted-closes absorbs quote st tag name front b s c t e =
       let next = moved st (InTag (with_attribute tag name front)) in
-      play-is step erred cdata ends rows (quoted_after rows quote st tag name front (c ∷ t)) (silent 0 next) b s c t (quoted-ends rows quote st tag name front c t e)
-      ∙ play-nothing step erred cdata ends rows next (b + line_break (nat_eq c 10)) s t
+      play-odd step erred cdata ends rows absorbs (lacks_space t) (quoted_after rows quote st tag name front (c ∷ t)) (silent 0 next) b s c t (quoted-ends rows quote st tag name front c t e)
+      ∙ play-nothing step erred cdata ends rows next (b + line_break (nat_eq c 10)) (erred_by erred (slight_if (lacks_space t)) s) t
 
-  pub unquoted-goes_on : (st : Stand) (tag : Tag) (name front : List ℕ) (b : ℕ) (s : T) (c : ℕ) (t : List ℕ) → ends_word c ≡ false → nat_eq c 38 ≡ false
-      → play step erred cdata ends rows (unquoted_after rows st tag name front (c ∷ t)) b s (c ∷ t) ≡ play step erred cdata ends rows (unquoted_after rows st tag name (front ++ shown c ∷ []) t) (b + line_break (nat_eq c 10)) s t
-  unquoted-goes_on st tag name front b s c t e f =
-      play-is step erred cdata ends rows (unquoted_after rows st tag name front (c ∷ t)) (unquoted_after rows st tag name (front ++ shown c ∷ []) t) b s c t (unquoted-behind rows st tag name front c t e f)
+  pub unquoted-goes_on : (absorbs : Absorbing erred) (st : Stand) (tag : Tag) (name front : List ℕ) (b : ℕ) (s : T) (c : ℕ) (t : List ℕ) → ends_word c ≡ false → nat_eq c 38 ≡ false
+      → play step erred cdata ends rows (unquoted_after rows st tag name front (c ∷ t)) b s (c ∷ t) ≡ play step erred cdata ends rows (unquoted_after rows st tag name (front ++ shown c ∷ []) t) (b + line_break (nat_eq c 10)) (erred_by erred (slight_if (is_odd_unquoted c)) s) t
+  unquoted-goes_on absorbs st tag name front b s c t e f =
+      play-odd step erred cdata ends rows absorbs (is_odd_unquoted c) (unquoted_after rows st tag name front (c ∷ t)) (unquoted_after rows st tag name (front ++ shown c ∷ []) t) b s c t (unquoted-behind rows st tag name front c t e f)

@@ -3,22 +3,24 @@ use Rattle.std.proofs.Common.{◌≡◌, ◌∙◌, ℕ, zero, suc, ◌≤◌, �
 use Rattle.std.specs.Prelude.{nat_eq, not, ◌&&◌, ◌||◌, ◌==◌, IsTrue, IfSome, All}
 use Rattle.std.specs.Char.{is_ascii_alphanumeric, is_ascii_digit, is_ascii_hexdigit}
 use Rattle.std.specs.List.{list_all, starts_with, ends_with}
-use Rattle.std.specs.Option.{option_map}
+use Rattle.std.specs.Option.{is_some, option_map}
 use Rattle.std.proofs.lemmas.Bool.{and_parts, or_parts, cond-true, cond-false, eqb-true, false_from_ne_true, true≢false}
 use Rattle.std.proofs.lemmas.Bool.Decides.{Decides-eqb, nat_tests}
 use Rattle.std.proofs.lemmas.List.{take-append-le, drop-append-le}
 use Rattle.std.proofs.lemmas.List.Elements.{All-tail}
 use Rattle.std.proofs.lemmas.Slice.Eq.{ends_is}
 use Rattle.html_tokens.specs.Characters.{run, run_by}
-use Rattle.html_tokens.specs.Reference.{Number, goes_on_at, digits_at, is_no_character, is_none_number, is_text_in_value, named_row, named_by, names_no_character, names_none_by, number, numbered_reference, numeric, numeric_by, reference_at, reference_by, semicolon}
-use Rattle.html_tokens.specs.Notes.{one_if}
+use Rattle.html_tokens.specs.Item.{Fault, Grave, Slight, grave_if, slight_if}
+use Rattle.html_tokens.specs.Reference.{goes_on_at, digits_at, ends_in_semicolon as has_semicolon, fault_of_number, fault_of_reference, fault_of_reference_by, is_no_character, is_text_in_value, named_row, named_by, number, numbered_reference, numeric, numeric_by, reference_at, reference_by, semicolon}
 use Rattle.html_tokens.specs.Table.{goes_on, longest}
 use Rattle.html_tokens.specs.declared.table.ReferenceRow.{ReferenceRow}
 use Rattle.html_references.specs.References.{IsCheckedTable, is_reference_name, stem}
 use Rattle.html_references.proofs.Begins.{fitting-is}
 use Rattle.html_references.proofs.Longest.{Within, longest-cut, longest-within}
-use Rattle.html_tokenizer.specs.CharRefs.{is_named_with, goes_on_by, may_go_on, is_text_before, named_before, decided, decided_by, reference_of, is_faulty, is_faulty_by, is_faulty_number, is_faulty_numeric, is_faulty_numeric_by, is_faulty_run}
+use Rattle.html_tokenizer.specs.CharRefs.{is_named_with, goes_on_by, may_go_on, is_text_before, named_before, decided, decided_by, reference_of, is_faulty, is_faulty_by, is_faulty_named, is_faulty_number, is_faulty_numeric, is_faulty_numeric_by, is_faulty_run}
 use Rattle.html_tokenizer.specs.declared.numbers.Found.{Found}
+use Rattle.html_tokenizer.specs.Steps.{owed_for}
+use Rattle.html_tokenizer.proofs.Rises.{IsNoMore}
 
 -- digits and how a run of them goes on
 
@@ -277,32 +279,37 @@ if-mapped (Some f) n h = h
 pub found-within : (in_value : Bool) (rows : List ReferenceRow) (cs : List ℕ) (b : Bool) (o : Option Found) → option_map reference_of o ≡ decided in_value rows cs b → IfSome o (λ f. f.len ≤ length cs)
 found-within in_value rows cs b o e = if-mapped o (length cs) (rw e (decided-within in_value rows cs b))
 
--- references that name no character
+-- what is wrong with a reference
 
-none-begun : (b : Bool) (rows : List ReferenceRow) (h : ℕ) (hs : List ℕ) (c : ℕ) (t : List ℕ) → nat_eq h 35 ≡ b → (is_named_with c && goes_on_by b rows (h ∷ hs)) ≡ false
-    → names_none_by b (hs ++ c ∷ t) ≡ names_none_by b hs
-none-begun true rows h hs c t e g =
+fault-begun : (b : Bool) (rows : List ReferenceRow) (h : ℕ) (hs : List ℕ) (c : ℕ) (t : List ℕ) → AreNames rows → nat_eq h 35 ≡ b → (is_named_with c && goes_on_by b rows (h ∷ hs)) ≡ false
+    → fault_of_reference_by b rows h (hs ++ c ∷ t) ≡ fault_of_reference_by b rows h hs
+fault-begun true rows h hs c t names e g =
     let is : h ≡ 35 = eqb-true h 35 e in
-    ap is_none_number (numeric-by (is_named_with c) (ends_with nat_eq (35 ∷ hs) (59 ∷ [])) hs c t refl refl (rw is at g))
-none-begun false rows h hs c t e g = refl
+    ap (λ n. Some (fault_of_number n)) (numeric-by (is_named_with c) (ends_with nat_eq (35 ∷ hs) (59 ∷ [])) hs c t refl refl (rw is at g))
+fault-begun false rows h hs c t names e g = ap (λ o. slight_if (not (has_semicolon o))) (longest-by (is_named_with c) rows (h ∷ hs) c t names refl g)
 
--- Where what is held can't go on by a character, what follows does not matter to whether it names none.
-pub none-decided : (rows : List ReferenceRow) (cs : List ℕ) (c : ℕ) (t : List ℕ) → may_go_on rows cs c ≡ false → names_no_character (cs ++ c ∷ t) ≡ names_no_character cs
-none-decided rows [] c t g = ap (λ b. names_none_by b t) (or_parts (is_named_with c) (nat_eq c 35) g).1
-none-decided rows (h ∷ hs) c t g = none-begun (nat_eq h 35) rows h hs c t refl g
+-- Where what is held can't go on by a character, what follows does not matter to what is wrong with it.
+pub fault-decided : (rows : List ReferenceRow) (cs : List ℕ) (c : ℕ) (t : List ℕ) → IsCheckedTable rows → may_go_on rows cs c ≡ false → fault_of_reference rows (cs ++ c ∷ t) ≡ fault_of_reference rows cs
+fault-decided rows [] c t checked g =
+    let p = or_parts (is_named_with c) (nat_eq c 35) g in
+    rw (p.1) (ap (λ o. slight_if (not (has_semicolon o))) (longest-stop rows [] c t checked.names p.0 ∙ longest-empty rows checked.names))
+fault-decided rows (h ∷ hs) c t checked g = fault-begun (nat_eq h 35) rows h hs c t checked.names refl g
 
-no_number : (o : Option Number) → numbered_reference o ≡ None → is_none_number o ≡ false
-no_number None e = refl
-no_number (Some n) e = cc
+-- a name with an error that the Standard names does not end in ";"
+faulty-named : (in_value : Bool) (o : Option ReferenceRow) (cs : List ℕ) (follows : Bool) → is_faulty_named in_value o cs follows ≡ true → is_some (slight_if (not (has_semicolon o))) ≡ true
+faulty-named in_value None cs follows e = refl
+faulty-named in_value (Some row) cs follows e =
+    let p = and_parts (not (in_value && is_text_before row.name (drop (length row.name) cs) follows)) (not (ends_with nat_eq row.name (59 ∷ []))) e in
+    rw (p.1) refl
 
-no_reference-by : (b : Bool) (rows : List ReferenceRow) (c : ℕ) (t : List ℕ) → reference_by b false rows c t ≡ None → names_none_by b t ≡ false
-no_reference-by true rows c t e = no_number (numeric t) e
-no_reference-by false rows c t e = refl
+faulty-some-by : (b in_value : Bool) (rows : List ReferenceRow) (h : ℕ) (hs : List ℕ) (follows : Bool) → is_faulty_by b in_value rows h hs follows ≡ true → is_some (fault_of_reference_by b rows h hs) ≡ true
+faulty-some-by true in_value rows h hs follows e = refl
+faulty-some-by false in_value rows h hs follows e = faulty-named in_value (longest rows (h ∷ hs)) (h ∷ hs) follows e
 
--- where there is no reference, none names no character
-pub no_reference : (rows : List ReferenceRow) (t : List ℕ) → reference_at false rows t ≡ None → names_no_character t ≡ false
-no_reference rows [] e = refl
-no_reference rows (c ∷ t) e = no_reference-by (nat_eq c 35) rows c t e
+-- where the Standard names an error for a reference, something is wrong with it
+pub faulty-some : (in_value : Bool) (rows : List ReferenceRow) (cs : List ℕ) (follows : Bool) → is_faulty in_value rows cs follows ≡ true → is_some (fault_of_reference rows cs) ≡ true
+faulty-some in_value rows [] follows e = refl
+faulty-some in_value rows (h ∷ hs) follows e = faulty-some-by (nat_eq h 35) in_value rows h hs follows e
 
 faulty-number : (n : ℕ) → is_no_character n ≡ true → is_faulty_number n ≡ true
 faulty-number n e = rw e refl
@@ -312,32 +319,50 @@ last-holds true b c e = refl
 last-holds false true c e = refl
 last-holds false false c e = e
 
-faulty-run : (k base n : ℕ) (t : List ℕ) → is_none_number (digits_at k base n t) ≡ true → is_faulty_run base n t ≡ true
-faulty-run k base zero t e = refl
-faulty-run k base (suc n) t e =
-    last-holds (nat_eq (suc n) 0) (nat_eq (semicolon (drop (suc n) t)) 0) (is_faulty_number (number base (take (suc n) t))) (faulty-number (number base (take (suc n) t)) e)
+-- a number is a grave fault only where it names no character
+grave-only : (b : Bool) → cond b Grave Slight ≡ Grave → b ≡ true
+grave-only true e = refl
+grave-only false e = absurd cc
 
-faulty-numeric_by : (b : Bool) (c : ℕ) (t : List ℕ) → is_none_number (numeric_by b c t) ≡ true → is_faulty_numeric_by b c t ≡ true
-faulty-numeric_by true c t e = faulty-run 2 16 (run (λ d. not (is_ascii_hexdigit d)) t) t e
-faulty-numeric_by false c t e = faulty-run 1 10 (run (λ d. not (is_ascii_digit d)) (c ∷ t)) (c ∷ t) e
+grave-within : (fault : Fault) → Some fault ≡ Some Grave → fault ≡ Grave
+grave-within Grave e = refl
+grave-within Slight e = absurd cc
 
-faulty-numeric : (t : List ℕ) → is_none_number (numeric t) ≡ true → is_faulty_numeric t ≡ true
-faulty-numeric [] e = refl
-faulty-numeric (c ∷ t) e = faulty-numeric_by (nat_eq c 120 || nat_eq c 88) c t e
+grave-run : (k base n : ℕ) (t : List ℕ) → fault_of_number (digits_at k base n t) ≡ Grave → is_faulty_run base n t ≡ true
+grave-run k base zero t e = refl
+grave-run k base (suc n) t e =
+    last-holds (nat_eq (suc n) 0) (nat_eq (semicolon (drop (suc n) t)) 0) (is_faulty_number (number base (take (suc n) t))) (faulty-number (number base (take (suc n) t)) (grave-only (is_no_character (number base (take (suc n) t))) e))
 
-none-faulty-by : (b in_value : Bool) (rows : List ReferenceRow) (h : ℕ) (hs : List ℕ) (follows : Bool) → names_none_by b hs ≡ true → is_faulty_by b in_value rows h hs follows ≡ true
-none-faulty-by true in_value rows h hs follows e = faulty-numeric hs e
-none-faulty-by false in_value rows h hs follows e = cc
+grave-numeric_by : (b : Bool) (c : ℕ) (t : List ℕ) → fault_of_number (numeric_by b c t) ≡ Grave → is_faulty_numeric_by b c t ≡ true
+grave-numeric_by true c t e = grave-run 2 16 (run (λ d. not (is_ascii_hexdigit d)) t) t e
+grave-numeric_by false c t e = grave-run 1 10 (run (λ d. not (is_ascii_digit d)) (c ∷ t)) (c ∷ t) e
 
--- the Standard names an error for a reference that names no character
-pub none-faulty : (in_value : Bool) (rows : List ReferenceRow) (cs : List ℕ) (follows : Bool) → names_no_character cs ≡ true → is_faulty in_value rows cs follows ≡ true
-none-faulty in_value rows [] follows e = cc
-none-faulty in_value rows (h ∷ hs) follows e = none-faulty-by (nat_eq h 35) in_value rows h hs follows e
+grave-numeric : (t : List ℕ) → fault_of_number (numeric t) ≡ Grave → is_faulty_numeric t ≡ true
+grave-numeric [] e = refl
+grave-numeric (c ∷ t) e = grave-numeric_by (nat_eq c 120 || nat_eq c 88) c t e
 
-none-owed : (named faulty : Bool) → (named ≡ true → faulty ≡ true) → one_if named ≤ one_if faulty
-none-owed true faulty h = rw (h refl) (omega arith)
-none-owed false faulty h = omega arith
+-- what is slight is not grave
+slight-named : (b : Bool) → slight_if b ≡ Some Grave → ⊥
+slight-named true e = cc
+slight-named false e = cc
 
--- of a reference no more errors are owed than are told
-pub none-within : (in_value : Bool) (rows : List ReferenceRow) (cs : List ℕ) (follows told : Bool) → told ≡ is_faulty in_value rows cs follows → one_if (names_no_character cs) ≤ one_if told
-none-within in_value rows cs follows told e = none-owed (names_no_character cs) told (λ h. e ∙ none-faulty in_value rows cs follows h)
+grave-faulty-by : (b in_value : Bool) (rows : List ReferenceRow) (h : ℕ) (hs : List ℕ) (follows : Bool) → fault_of_reference_by b rows h hs ≡ Some Grave → is_faulty_by b in_value rows h hs follows ≡ true
+grave-faulty-by true in_value rows h hs follows e = grave-numeric hs (grave-within (fault_of_number (numeric hs)) e)
+grave-faulty-by false in_value rows h hs follows e = absurd (slight-named (not (has_semicolon (longest rows (h ∷ hs)))) e)
+
+-- the Standard names an error for a reference that is a grave fault
+grave-faulty : (in_value : Bool) (rows : List ReferenceRow) (cs : List ℕ) (follows : Bool) → fault_of_reference rows cs ≡ Some Grave → is_faulty in_value rows cs follows ≡ true
+grave-faulty in_value rows [] follows e = absurd cc
+grave-faulty in_value rows (h ∷ hs) follows e = grave-faulty-by (nat_eq h 35) in_value rows h hs follows e
+
+-- of a fault no more is owed than is told, if something is told only of a fault, and always of a grave one
+no-more : (fault : Option Fault) (told : Bool) → (told ≡ true → is_some fault ≡ true) → (fault ≡ Some Grave → told ≡ true) → IsNoMore (owed_for fault) (owed_for (grave_if told))
+no-more None true h g = let e = h refl in absurd cc
+no-more None false h g = record { faults = omega arith; quiet = λ e. e }
+no-more (Some Grave) true h g = record { faults = omega arith; quiet = λ e. e }
+no-more (Some Grave) false h g = let e = g refl in absurd cc
+no-more (Some Slight) told h g = record { faults = omega arith; quiet = λ e. absurd cc }
+
+-- of a reference no more is owed than is told
+pub fault-within : (in_value : Bool) (rows : List ReferenceRow) (cs : List ℕ) (follows told : Bool) → told ≡ is_faulty in_value rows cs follows → IsNoMore (owed_for (fault_of_reference rows cs)) (owed_for (grave_if told))
+fault-within in_value rows cs follows told e = no-more (fault_of_reference rows cs) told (λ h. faulty-some in_value rows cs follows (sym e ∙ h)) (λ h. e ∙ grave-faulty in_value rows cs follows h)

@@ -1,6 +1,7 @@
 -- The end of the input in a tag, which is not told.
-use Rattle.std.proofs.Common.{◌≡◌, ℕ, ◌+◌, Bool, true, None, Result, refl, ap}
+use Rattle.std.proofs.Common.{◌≡◌, ℕ, ◌+◌, Bool, true, None, Result, refl, ap, Some}
 use Rattle.markup.specs.declared.fault.ParseFault.{ParseFault}
+use Rattle.html_tokens.specs.declared.token.Token.{Token}
 use Rattle.html_tokens.specs.Notes.{Notes, noting_error}
 use Rattle.html_tokens.specs.declared.states.AttrValueKind.TheVariants as value
 use Rattle.html_tokens.specs.declared.states.State.{State}
@@ -12,30 +13,32 @@ use Rattle.html_tokenizer.specs.Calls.{at_end, Closes}
 use Rattle.html_tokenizer.specs.EndText.{is_tag_part}
 use Rattle.html_tokenizer.specs.declared.tokenizer.Tokenizer.{Tokenizer}
 use Rattle.html_tokenizer.specs.Rest.{held_at}
-use Rattle.html_tokenizer.specs.Steps.{Errs}
-use Rattle.html_tokenizer.proofs.EndTextGlue.{EndCuts, closes_cut}
+use Rattle.html_tokenizer.specs.Steps.{Errs, a_fault}
+use Rattle.html_tokenizer.proofs.EndTextGlue.{OnlyEnds, closes_errs}
+use Rattle.html_tokenizer.proofs.Rises.{no-more-same}
 use Rattle.html_tokenizer.proofs.Readings.{sum-zero}
+use Rattle.html_tokens.specs.Item.{Grave}
 
-module _ {K S H : Type 0} (step : Step S) (view : K → S) (cdata : S → Bool) (ends : S → S) (sound : S → Type 0) (number : H → ℕ) (broken : K → Bool) (errors : K → ℕ) where
+module _ {K S H : Type 0} (step : Step S) (view : K → S) (cdata : S → Bool) (ends : S → S) (sound : S → Type 0) (number : H → ℕ) (broken : K → Bool) (errors : K → ℕ) (quiet : S → Token → Bool) where
   -- the end behind no characters more
-  end-here : (b : ℕ) (s : S × Notes ℕ) → at_end step view cdata ends sound number broken errors (b + 0) s ≡ at_end step view cdata ends sound number broken errors b s
-  end-here b s = ap (λ n. at_end step view cdata ends sound number broken errors n s) (sum-zero b)
+  end-here : (b : ℕ) (s : S × Notes ℕ) → at_end step view cdata ends sound number broken errors quiet (b + 0) s ≡ at_end step view cdata ends sound number broken errors quiet b s
+  end-here b s = ap (λ n. at_end step view cdata ends sound number broken errors quiet n s) (sum-zero b)
 
   -- whatever was read of a tag, nothing is to come of it but its fault
-  pub tag-ends : (st : State) → is_tag_part st ≡ true → (k : Tokenizer K) → EndCuts step view cdata ends sound number broken errors st k
+  pub tag-ends : (st : State) → is_tag_part st ≡ true → (k : Tokenizer K) → OnlyEnds step view cdata ends sound number broken errors quiet (Some Grave) st k
   unfolding held_at reading_from value_from
-  tag-ends state.TagName h k b s = end-here b (noting_error s)
+  tag-ends state.TagName h k b s = end-here b (noting_error Grave s)
   tag-ends state.BeforeAttributeName h k b s = refl
-  tag-ends state.AttributeName h k b s = end-here b (noting_error s)
-  tag-ends state.AfterAttributeName h k b s = end-here b (noting_error s)
-  tag-ends state.BeforeAttributeValue h k b s = end-here b (noting_error s)
-  tag-ends (state.AttributeValue value.Unquoted) h k b s = end-here b (noting_error s)
-  tag-ends (state.AttributeValue value.SingleQuoted) h k b s = end-here b (noting_error s)
-  tag-ends (state.AttributeValue value.DoubleQuoted) h k b s = end-here b (noting_error s)
+  tag-ends state.AttributeName h k b s = end-here b (noting_error Grave s)
+  tag-ends state.AfterAttributeName h k b s = end-here b (noting_error Grave s)
+  tag-ends state.BeforeAttributeValue h k b s = end-here b (noting_error Grave s)
+  tag-ends (state.AttributeValue value.Unquoted) h k b s = end-here b (noting_error Grave s)
+  tag-ends (state.AttributeValue value.SingleQuoted) h k b s = end-here b (noting_error Grave s)
+  tag-ends (state.AttributeValue value.DoubleQuoted) h k b s = end-here b (noting_error Grave s)
   tag-ends state.AfterAttributeValueQuoted h k b s = refl
-  tag-ends state.SelfClosingStartTag h k b s = end-here b (noting_error s)
+  tag-ends state.SelfClosingStartTag h k b s = end-here b (noting_error Grave s)
   tag-ends _ h k b s = absurd cc
 
   -- a tag that does not end is an error, and is not told
-  pub tag-closes : (old new : Tokenizer K) (result : Result (Unit {0}) ParseFault) → is_tag_part old.state ≡ true → old.char_ref ≡ None → sound (view old.sink) → Errs step view cdata ends sound number broken errors 1 old new result → Closes step view cdata ends sound number broken errors old new result
-  tag-closes old new result h fresh ok errs = closes_cut step view cdata ends sound number broken errors old new old.state result (record { state = refl; fresh = fresh }) ok (tag-ends old.state h old) errs
+  pub tag-closes : (old new : Tokenizer K) (result : Result (Unit {0}) ParseFault) → is_tag_part old.state ≡ true → old.char_ref ≡ None → sound (view old.sink) → Errs step view cdata ends sound number broken errors quiet a_fault old new result → Closes step view cdata ends sound number broken errors quiet old new result
+  tag-closes old new result h fresh ok errs = closes_errs step view cdata ends sound number broken errors quiet (Some Grave) a_fault old new old.state result (no-more-same a_fault) (record { state = refl; fresh = fresh }) ok (tag-ends old.state h old) errs

@@ -2,18 +2,18 @@
 use Rattle.std.proofs.Common.{◌≡◌, ◌∙◌, ℕ, zero, suc, ◌+◌, ◌≤◌, Bool, true, false, nat_eq, List, [], ◌∷◌, ◌++◌, length, take, drop, Option, Some, None, refl, sym, ap, arith, append-nil, append_assoc}
 use Rattle.std.specs.Prelude.{IfSome}
 use Rattle.std.specs.List.{list_all}
-use Rattle.std.proofs.lemmas.Bool.{and_parts, true≢false}
+use Rattle.std.proofs.lemmas.Bool.{and_parts}
 use Rattle.std.proofs.lemmas.Bool.Decides.{nat_tests}
 use Rattle.std.proofs.lemmas.List.{take-append-le, drop-append-le}
 use Rattle.html_tokens.specs.Notes.{NotedStep}
 use Rattle.html_tokens.specs.declared.token.Token.TheVariants.{CharacterTokens}
-use Rattle.html_tokens.specs.Item.{Stand, told_as, character, reference_item}
+use Rattle.html_tokens.specs.Item.{Fault, Stand, told_as, character, reference_item}
 use Rattle.html_tokens.specs.Items.{item}
-use Rattle.html_tokens.specs.Reading.{◌>>=◌, erred_if, line_number, line_breaks, reading}
-use Rattle.html_tokens.specs.Reference.{Reference, names_no_character, reference_at}
+use Rattle.html_tokens.specs.Reading.{◌>>=◌, erred_by, line_number, line_breaks, reading}
+use Rattle.html_tokens.specs.Reference.{Reference, fault_of_reference, reference_at}
 use Rattle.html_tokens.specs.Table.{Row}
 use Rattle.html_tokenizer.specs.CharRefs.{IsDecided, decided, is_held, resolved, resolved_by}
-use Rattle.html_tokenizer.proofs.CharRefs.{decided-in_text, decided-within, no_reference, none-decided, reference-decided, reference-end}
+use Rattle.html_tokenizer.proofs.CharRefs.{decided-in_text, decided-within, fault-decided, reference-decided, reference-end}
 use Rattle.html_tokenizer.proofs.HeldTexts.{held-drop}
 use Rattle.html_tokenizer.proofs.Lawful.{Lawful}
 use Rattle.html_tokenizer.proofs.Readings.{play-end, reading-is, sum-zero}
@@ -41,10 +41,10 @@ held-breaks (suc n) (c ∷ cs) h =
 
 -- Where a text is read in which references stand and what is held of one is text.
 pub record ReadsHeld (rows : List Row) (st : Stand) : Type 0 where
-  pub reference : (x : Bool) (t : List ℕ) → item rows x st 38 t ≡ reference_item (names_no_character t) (reference_at false rows t) st
+  pub reference : (x : Bool) (t : List ℕ) → item rows x st 38 t ≡ reference_item (fault_of_reference rows t) (reference_at false rows t) st
   pub plain : (x : Bool) (c : ℕ) (t : List ℕ) → is_held c ≡ true → item rows x st c t ≡ character c st
 
-module _ {T : Type 0} (sound : T → Type 0) (step : NotedStep T) (erred : T → T) (cdata : T → Bool) (ends : T → T) (rows : List Row) (laws : Lawful sound step) where
+module _ {T : Type 0} (sound : T → Type 0) (step : NotedStep T) (erred : Fault → T → T) (cdata : T → Bool) (ends : T → T) (rows : List Row) (laws : Lawful sound step) where
   -- text, and then more of it that was held
   told-run : (st : Stand) (b : ℕ) (s : T) → sound s → (a cs t : List ℕ) (l : ℕ) → ReadsHeld rows st → list_all is_held cs ≡ true
       → (step s (CharacterTokens a) l >>= λ p. reading step erred cdata ends rows st b p.0 (cs ++ t)) ≡ (step s (CharacterTokens (a ++ cs)) l >>= λ p. reading step erred cdata ends rows st b p.0 t)
@@ -56,29 +56,31 @@ module _ {T : Type 0} (sound : T → Type 0) (step : NotedStep T) (erred : T →
       ∙ ap (λ x. step s (CharacterTokens x) l >>= λ p. reading step erred cdata ends rows st b p.0 t) (append_assoc a (c ∷ []) cs)
 
   -- "&" that is text, or a reference, and then text that was held
-  reading-by : (faulty : Bool) (st : Stand) (b : ℕ) (s : T) → sound (erred_if erred faulty s) → (o : Option Reference) (cs t : List ℕ) → ReadsHeld rows st → list_all is_held cs ≡ true → IfSome o (λ r. r.len ≤ length cs)
-      → reference_at false rows (cs ++ t) ≡ o → names_no_character (cs ++ t) ≡ faulty
-      → reading step erred cdata ends rows st b s (38 ∷ cs ++ t) ≡ (step (erred_if erred faulty s) (CharacterTokens (resolved_by o cs)) (line_number b) >>= λ p. reading step erred cdata ends rows st b p.0 t)
-  reading-by true st b s h None cs t reads held within e f = absurd (true≢false (sym f ∙ no_reference rows (cs ++ t) e))
-  reading-by false st b s h None cs t reads held within e f =
-      reading-text sound step erred cdata ends rows laws st st b s h 38 (cs ++ t) (line_number b) refl (reads.reference (cdata s) (cs ++ t) ∙ ap (λ o. reference_item (names_no_character (cs ++ t)) o st) e)
-      ∙ told-run st b s h (38 ∷ []) cs t (line_number b) reads held
-  reading-by faulty st b s h (Some r) cs t reads held within e f =
-      let q = erred_if erred faulty s in
-      reading-is step erred cdata ends rows st b s 38 (cs ++ t) (told_as faulty (CharacterTokens r.chars) r.len st) (reads.reference (cdata s) (cs ++ t) ∙ ap (λ o. reference_item (names_no_character (cs ++ t)) o st) e ∙ ap (λ x. reference_item x (Some r) st) f)
-      ∙ play-end sound step erred cdata ends rows laws faulty (told_as faulty (CharacterTokens r.chars) r.len st) (CharacterTokens r.chars) r.len st (b + 0) s h (cs ++ t) tt refl (ap line_breaks (take-append-le r.len cs t within) ∙ held-breaks r.len cs held)
+  reading-by : (fault : Option Fault) (st : Stand) (b : ℕ) (s : T) → sound (erred_by erred fault s) → (o : Option Reference) (cs t : List ℕ) → ReadsHeld rows st → list_all is_held cs ≡ true → IfSome o (λ r. r.len ≤ length cs)
+      → reference_at false rows (cs ++ t) ≡ o → fault_of_reference rows (cs ++ t) ≡ fault
+      → reading step erred cdata ends rows st b s (38 ∷ cs ++ t) ≡ (step (erred_by erred fault s) (CharacterTokens (resolved_by o cs)) (line_number b) >>= λ p. reading step erred cdata ends rows st b p.0 t)
+  reading-by fault st b s h None cs t reads held within e f =
+      let q = erred_by erred fault s in
+      reading-is step erred cdata ends rows st b s 38 (cs ++ t) (told_as fault (CharacterTokens (38 ∷ [])) 0 st) (reads.reference (cdata s) (cs ++ t) ∙ ap (λ o. reference_item (fault_of_reference rows (cs ++ t)) o st) e ∙ ap (λ x. reference_item x None st) f)
+      ∙ play-end sound step erred cdata ends rows laws fault (told_as fault (CharacterTokens (38 ∷ [])) 0 st) (CharacterTokens (38 ∷ [])) 0 st (b + 0) s h (cs ++ t) tt refl refl
+      ∙ ap (λ n. step q (CharacterTokens (38 ∷ [])) (line_number n) >>= λ p. reading step erred cdata ends rows st n p.0 (cs ++ t)) (sum-zero b)
+      ∙ told-run st b q h (38 ∷ []) cs t (line_number b) reads held
+  reading-by fault st b s h (Some r) cs t reads held within e f =
+      let q = erred_by erred fault s in
+      reading-is step erred cdata ends rows st b s 38 (cs ++ t) (told_as fault (CharacterTokens r.chars) r.len st) (reads.reference (cdata s) (cs ++ t) ∙ ap (λ o. reference_item (fault_of_reference rows (cs ++ t)) o st) e ∙ ap (λ x. reference_item x (Some r) st) f)
+      ∙ play-end sound step erred cdata ends rows laws fault (told_as fault (CharacterTokens r.chars) r.len st) (CharacterTokens r.chars) r.len st (b + 0) s h (cs ++ t) tt refl (ap line_breaks (take-append-le r.len cs t within) ∙ held-breaks r.len cs held)
       ∙ ap (λ n. step q (CharacterTokens r.chars) (line_number n) >>= λ p. reading step erred cdata ends rows st n p.0 (drop r.len (cs ++ t))) (sum-zero b)
       ∙ ap (λ u. step q (CharacterTokens r.chars) (line_number b) >>= λ p. reading step erred cdata ends rows st b p.0 u) (drop-append-le r.len cs t within)
       ∙ told-run st b q h r.chars (drop r.len cs) t (line_number b) reads (held-drop r.len cs held)
 
   -- a reference that is decided is told with the text that was held behind it
-  pub reading-held : (st : Stand) (b : ℕ) (s : T) (cs : List ℕ) → sound (erred_if erred (names_no_character cs) s) → (c : ℕ) (t : List ℕ) → ReadsHeld rows st → IsDecided rows cs c
-      → reading step erred cdata ends rows st b s (38 ∷ cs ++ c ∷ t) ≡ (step (erred_if erred (names_no_character cs) s) (CharacterTokens (resolved false rows cs false)) (line_number b) >>= λ p. reading step erred cdata ends rows st b p.0 (c ∷ t))
+  pub reading-held : (st : Stand) (b : ℕ) (s : T) (cs : List ℕ) → sound (erred_by erred (fault_of_reference rows cs) s) → (c : ℕ) (t : List ℕ) → ReadsHeld rows st → IsDecided rows cs c
+      → reading step erred cdata ends rows st b s (38 ∷ cs ++ c ∷ t) ≡ (step (erred_by erred (fault_of_reference rows cs) s) (CharacterTokens (resolved false rows cs false)) (line_number b) >>= λ p. reading step erred cdata ends rows st b p.0 (c ∷ t))
   reading-held st b s cs h c t reads d =
-      reading-by (names_no_character cs) st b s h (decided false rows cs false) cs (c ∷ t) reads d.held (decided-within false rows cs false) (reference-decided false rows cs c t d.checked d.ends ∙ decided-in_text rows cs _) (none-decided rows cs c t d.ends)
+      reading-by (fault_of_reference rows cs) st b s h (decided false rows cs false) cs (c ∷ t) reads d.held (decided-within false rows cs false) (reference-decided false rows cs c t d.checked d.ends ∙ decided-in_text rows cs _) (fault-decided rows cs c t d.checked d.ends)
 
   -- the same where the input ends
-  pub reading-at_end : (st : Stand) (b : ℕ) (s : T) (cs : List ℕ) → sound (erred_if erred (names_no_character cs) s) → ReadsHeld rows st → list_all is_held cs ≡ true
-      → reading step erred cdata ends rows st b s (38 ∷ cs ++ []) ≡ (step (erred_if erred (names_no_character cs) s) (CharacterTokens (resolved false rows cs false)) (line_number b) >>= λ p. reading step erred cdata ends rows st b p.0 [])
+  pub reading-at_end : (st : Stand) (b : ℕ) (s : T) (cs : List ℕ) → sound (erred_by erred (fault_of_reference rows cs) s) → ReadsHeld rows st → list_all is_held cs ≡ true
+      → reading step erred cdata ends rows st b s (38 ∷ cs ++ []) ≡ (step (erred_by erred (fault_of_reference rows cs) s) (CharacterTokens (resolved false rows cs false)) (line_number b) >>= λ p. reading step erred cdata ends rows st b p.0 [])
   reading-at_end st b s cs h reads held =
-      reading-by (names_no_character cs) st b s h (decided false rows cs false) cs [] reads held (decided-within false rows cs false) (ap (reference_at false rows) (append-nil cs) ∙ reference-end false rows cs) (ap names_no_character (append-nil cs))
+      reading-by (fault_of_reference rows cs) st b s h (decided false rows cs false) cs [] reads held (decided-within false rows cs false) (ap (reference_at false rows) (append-nil cs) ∙ reference-end false rows cs) (ap (fault_of_reference rows) (append-nil cs))

@@ -9,22 +9,22 @@ use Rattle.html_tokens.specs.declared.states.AttrValueKind.TheVariants as value
 use Rattle.html_tokens.specs.declared.states.State.{State}
 use Rattle.html_tokens.specs.declared.states.State.TheVariants as state
 use Rattle.html_tokens.specs.Comments.{comment_at, comment_after, bogus_comment_after}
-use Rattle.html_tokens.specs.Doctypes.{doctype_at, doctype_name_after, after_name, after_public_keyword, after_system_keyword, public_after, system_after, after_public, after_system, junk_after}
-use Rattle.html_tokens.specs.Tags.{name_after, attribute_after, equals_at, value_at, unquoted_after, quoted_after}
+use Rattle.html_tokens.specs.Doctypes.{doctype_at, doctype_behind, doctype_name_after, after_name, after_public_keyword, after_system_keyword, public_after, system_after, after_public, after_system, junk_after}
+use Rattle.html_tokens.specs.Tags.{name_after, attribute_after, equals_at, value_at, unquoted_after, quoted_after, lacks_space}
 use Rattle.html_tokenizer.specs.declared.tokenizer.Tokenizer.{Tokenizer}
 use Rattle.html_tokenizer.specs.Rest.{rows_of, standing, held_at}
-use Rattle.html_tokens.specs.Item.{InData, Item}
-use Rattle.html_tokens.specs.Reading.{next_stand, line_breaks, reading, play}
+use Rattle.html_tokens.specs.Item.{Fault, slight_if, InData, Item}
+use Rattle.html_tokens.specs.Reading.{erred_by, next_stand, line_breaks, reading, play}
 use Rattle.html_tokens.specs.Table.{Row}
-use Rattle.html_tokenizer.proofs.Refused.{AllRefused, said-refused, reading-refused}
+use Rattle.html_tokenizer.proofs.Refused.{AllRefused, erred-refused, said-refused, reading-refused}
 
-module _ {T : Type 0} (step : NotedStep T) (erred : T → T) (cdata : T → Bool) (ends : T → T) (rows : List Row) (errs : (s : T) → AllRefused step s → AllRefused step (erred s)) where
+module _ {T : Type 0} (step : NotedStep T) (erred : Fault → T → T) (cdata : T → Bool) (ends : T → T) (rows : List Row) (errs : (fault : Fault) (s : T) → AllRefused step s → AllRefused step (erred fault s)) where
   pub play-refused : (s : T) → AllRefused step s → (i : Item) (b : ℕ) (t : List ℕ) → IsErr (play step erred cdata ends rows i b s t)
   play-refused s h i b t =
       let read = b + line_breaks (take i.len t) in
-      said-refused step erred cdata ends rows errs i.is_faulty s h i.token read (λ p. reading step erred cdata ends rows (next_stand i.next p.1) read p.0 (drop i.len t)) (λ q g reply. reading-refused step erred cdata ends rows errs q g 0 (next_stand i.next reply) read (drop i.len t))
+      said-refused step erred cdata ends rows errs i.fault s h i.token read (λ p. reading step erred cdata ends rows (next_stand i.next p.1) read p.0 (drop i.len t)) (λ q g reply. reading-refused step erred cdata ends rows errs q g 0 (next_stand i.next reply) read (drop i.len t))
 
-module _ {K T : Type 0} (step : NotedStep T) (erred : T → T) (cdata : T → Bool) (ends : T → T) (errs : (s : T) → AllRefused step s → AllRefused step (erred s)) where
+module _ {K T : Type 0} (step : NotedStep T) (erred : Fault → T → T) (cdata : T → Bool) (ends : T → T) (errs : (fault : Fault) (s : T) → AllRefused step s → AllRefused step (erred fault s)) where
   pub held-refused : (st : State) (k : Tokenizer K) (b : ℕ) (s : T) (t : List ℕ) → AllRefused step s → IsErr (held_at step erred cdata ends st k b s t)
   unfolding held_at
   held-refused state.Data k b s t h = reading-refused step erred cdata ends (rows_of k) errs s h 0 _ b _
@@ -53,7 +53,7 @@ module _ {K T : Type 0} (step : NotedStep T) (erred : T → T) (cdata : T → Bo
   held-refused (state.AttributeValue value.Unquoted) k b s t h = play-refused step erred cdata ends (rows_of k) errs s h (unquoted_after (rows_of k) (standing k InData) k.tag k.attribute_name k.attribute_value t) b t
   held-refused (state.AttributeValue value.SingleQuoted) k b s t h = play-refused step erred cdata ends (rows_of k) errs s h (quoted_after (rows_of k) 39 (standing k InData) k.tag k.attribute_name k.attribute_value t) b t
   held-refused (state.AttributeValue value.DoubleQuoted) k b s t h = play-refused step erred cdata ends (rows_of k) errs s h (quoted_after (rows_of k) 34 (standing k InData) k.tag k.attribute_name k.attribute_value t) b t
-  held-refused state.AfterAttributeValueQuoted k b s t h = reading-refused step erred cdata ends (rows_of k) errs s h 0 _ b _
+  held-refused state.AfterAttributeValueQuoted k b s t h = reading-refused step erred cdata ends (rows_of k) errs (erred_by erred (slight_if (lacks_space t)) s) (erred-refused step erred cdata ends (rows_of k) errs (slight_if (lacks_space t)) s h) 0 _ b _
   held-refused state.SelfClosingStartTag k b s t h = reading-refused step erred cdata ends (rows_of k) errs s h 0 _ b _
   held-refused state.BogusComment k b s t h = play-refused step erred cdata ends (rows_of k) errs s h (bogus_comment_after (standing k InData) k.comment t) b t
   held-refused state.MarkupDeclarationOpen k b s t h = reading-refused step erred cdata ends (rows_of k) errs s h 0 _ b _
@@ -68,7 +68,7 @@ module _ {K T : Type 0} (step : NotedStep T) (erred : T → T) (cdata : T → Bo
   held-refused state.CommentEnd k b s t h = play-refused step erred cdata ends (rows_of k) errs s h (comment_after (standing k InData) k.comment (45 ∷ 45 ∷ t)) b (45 ∷ 45 ∷ t)
   held-refused state.CommentEndBang k b s t h = play-refused step erred cdata ends (rows_of k) errs s h (comment_after (standing k InData) k.comment (45 ∷ 45 ∷ 33 ∷ t)) b (45 ∷ 45 ∷ 33 ∷ t)
   held-refused state.Doctype k b s t h = play-refused step erred cdata ends (rows_of k) errs s h (doctype_at (standing k InData) t) b t
-  held-refused state.BeforeDoctypeName k b s t h = play-refused step erred cdata ends (rows_of k) errs s h (doctype_at (standing k InData) t) b t
+  held-refused state.BeforeDoctypeName k b s t h = play-refused step erred cdata ends (rows_of k) errs s h (doctype_behind (standing k InData) t) b t
   held-refused state.DoctypeName k b s t h = play-refused step erred cdata ends (rows_of k) errs s h (doctype_name_after (standing k InData) k.temporary t) b t
   held-refused state.AfterDoctypeName k b s t h = play-refused step erred cdata ends (rows_of k) errs s h (after_name (standing k InData) k.doctype (k.keyword ++ t)) b (k.keyword ++ t)
   held-refused (state.AfterDoctypeKeyword id.Public) k b s t h = play-refused step erred cdata ends (rows_of k) errs s h (after_public_keyword (standing k InData) k.doctype t) b t

@@ -1,63 +1,99 @@
 -- The end of a reference in an attribute's value.
 use Rattle.std.proofs.Common.{◌≡◌, ◌∙◌, ℕ, Bool, true, false, List, [], ◌∷◌, ◌++◌, Option, Some, Result, refl, sym, ap, append-nil}
+use Rattle.std.specs.Prelude.{is_some}
 use Rattle.std.specs.List.{list_all}
 use Rattle.markup.specs.declared.fault.ParseFault.{ParseFault}
 use Rattle.html_tokens.specs.declared.replies.ProcessResult.{ProcessResult}
 use Rattle.html_tokens.specs.declared.states.AttrValueKind.{AttrValueKind}
 use Rattle.html_tokens.specs.declared.states.AttrValueKind.TheVariants as value
 use Rattle.html_tokens.specs.declared.states.State.TheVariants as state
-use Rattle.html_tokens.specs.Item.{InData}
+use Rattle.html_tokens.specs.declared.token.Token.{Token}
+use Rattle.html_tokens.specs.Item.{Slight, grave_if, slight_if, InData}
 use Rattle.html_tokens.specs.Notes.{Notes, noting, noting_error, noting_cdata, noting_end}
-use Rattle.html_tokens.specs.Reference.{Reference, goes_on_at, reference_at}
+use Rattle.html_tokens.specs.Reference.{Reference, fault_of_reference, goes_on_at, reference_at}
 use Rattle.html_tokens.specs.Sink.{Step}
 use Rattle.html_tokens.specs.Table.{Row}
-use Rattle.html_tokenizer.specs.CharRefs.{IsDecided, decided, is_held, resolved, resolved_by}
+use Rattle.html_tokenizer.specs.CharRefs.{IsDecided, decided, is_faulty, is_held, resolved, resolved_by}
 use Rattle.html_tokenizer.specs.declared.tokenizer.Tokenizer.{Tokenizer}
 use Rattle.html_tokenizer.specs.Rest.{rows_of, standing, held_at}
-use Rattle.html_tokenizer.specs.Steps.{IsAt, Erred, Keeps}
-use Rattle.html_tokenizer.proofs.CharRefs.{reference-decided, reference-end}
-use Rattle.html_tokenizer.proofs.Glue.{at, keeps-along, keeps_erred, now-at}
+use Rattle.html_tokenizer.specs.Steps.{owed_for, more, now, IsAt, Erred, Keeps}
+use Rattle.html_tokenizer.proofs.CharRefs.{fault-decided, faulty-some, reference-decided, reference-end}
+use Rattle.html_tokenizer.proofs.Glue.{Absorbs, at, at_erred, keeps-behind, keeps_erred, now-at}
 use Rattle.html_tokenizer.proofs.HeldGlue.{now-held}
 use Rattle.html_tokenizer.proofs.HeldValues.{play-unquoted, play-double, play-single}
-use Rattle.html_tokenizer.proofs.Rises.{rises-same}
+use Rattle.html_tokenizer.proofs.Lawful.{erred-more, slight-absorbed}
+use Rattle.html_tokenizer.proofs.Rises.{rises-slight}
 
 -- what was pushed behind the value
 pub value-pushed : (rows : List Row) (text front cs : List ℕ) (o : Option Reference) (follows : Bool) (c : ℕ) → text ≡ front ++ resolved_by o cs → o ≡ decided true rows cs follows → follows ≡ goes_on_at (c ∷ [])
     → text ≡ front ++ resolved true rows cs (goes_on_at (c ∷ []))
 value-pushed rows text front cs o follows c e f g = e ∙ ap (λ o. front ++ resolved_by o cs) f ∙ ap (λ b. front ++ resolved true rows cs b) g
 
-module _ {K S H : Type 0} (step : Step S) (view : K → S) (cdata : S → Bool) (ends : S → S) (sound : S → Type 0) (number : H → ℕ) (broken : K → Bool) (errors : K → ℕ) where
+-- something slight that is noted twice is noted once
+slight-twice : (wrong : Bool) (notes : Notes ℕ) → wrong ≡ true → more (owed_for (slight_if wrong)) notes ≡ more (owed_for (slight_if wrong)) (more (owed_for (Some Slight)) notes)
+slight-twice true notes e = refl
+slight-twice false notes e = absurd cc
+
+module _ {K S H : Type 0} (step : Step S) (view : K → S) (cdata : S → Bool) (ends : S → S) (sound : S → Type 0) (number : H → ℕ) (broken : K → Bool) (errors : K → ℕ) (quiet : S → Token → Bool) where
+  -- what is noted of what was held
+  abbrev pub wronged_by : Tokenizer K → List ℕ → S × Notes ℕ → S × Notes ℕ
+  wronged_by k cs s = (s.0, more (owed_for (slight_if (is_some (fault_of_reference (rows_of k) cs)))) s.1)
+
   -- what was held and what follows is read as what was held behind the value, and then what follows
-  value-resolves : (kind : AttrValueKind) (old : Tokenizer K) (cs u : List ℕ) (follows : Bool) → list_all is_held cs ≡ true → reference_at true (rows_of old) (cs ++ u) ≡ decided true (rows_of old) cs follows → (b : ℕ) (s : S × Notes ℕ)
-      → at step view cdata ends sound number broken errors (state.AttributeValue kind) old b s (38 ∷ cs ++ u)
-      ≡ at step view cdata ends sound number broken errors (state.AttributeValue kind) (record old { attribute_value = old.attribute_value ++ resolved true (rows_of old) cs follows }) b s u
+  value-resolves : (kind : AttrValueKind) (old : Tokenizer K) (cs u : List ℕ) (follows : Bool) → list_all is_held cs ≡ true → reference_at true (rows_of old) (cs ++ u) ≡ decided true (rows_of old) cs follows → fault_of_reference (rows_of old) (cs ++ u) ≡ fault_of_reference (rows_of old) cs → (b : ℕ) (s : S × Notes ℕ)
+      → at step view cdata ends sound number broken errors quiet (state.AttributeValue kind) old b s (38 ∷ cs ++ u)
+      ≡ at step view cdata ends sound number broken errors quiet (state.AttributeValue kind) (record old { attribute_value = old.attribute_value ++ resolved true (rows_of old) cs follows }) b (wronged_by old cs s) u
   unfolding held_at
-  value-resolves value.Unquoted old cs u follows h e b s = play-unquoted (noting step) noting_error (noting_cdata cdata) (noting_end ends) (rows_of old) (standing old InData) old.tag old.attribute_name old.attribute_value cs u follows b s h e
-  value-resolves value.SingleQuoted old cs u follows h e b s = play-single (noting step) noting_error (noting_cdata cdata) (noting_end ends) (rows_of old) (standing old InData) old.tag old.attribute_name old.attribute_value cs u follows b s h e
-  value-resolves value.DoubleQuoted old cs u follows h e b s = play-double (noting step) noting_error (noting_cdata cdata) (noting_end ends) (rows_of old) (standing old InData) old.tag old.attribute_name old.attribute_value cs u follows b s h e
+  value-resolves value.Unquoted old cs u follows h e f b s =
+      play-unquoted (noting step quiet) noting_error (noting_cdata cdata) (noting_end ends) (rows_of old) (λ fault s. slight-absorbed fault s) (standing old InData) old.tag old.attribute_name old.attribute_value cs u follows b s h e f
+      ∙ ap (λ q. at step view cdata ends sound number broken errors quiet (state.AttributeValue value.Unquoted) (record old { attribute_value = old.attribute_value ++ resolved true (rows_of old) cs follows }) b q u) (erred-more (slight_if (is_some (fault_of_reference (rows_of old) cs))) s)
+  value-resolves value.SingleQuoted old cs u follows h e f b s =
+      play-single (noting step quiet) noting_error (noting_cdata cdata) (noting_end ends) (rows_of old) (λ fault s. slight-absorbed fault s) (standing old InData) old.tag old.attribute_name old.attribute_value cs u follows b s h e f
+      ∙ ap (λ q. at step view cdata ends sound number broken errors quiet (state.AttributeValue value.SingleQuoted) (record old { attribute_value = old.attribute_value ++ resolved true (rows_of old) cs follows }) b q u) (erred-more (slight_if (is_some (fault_of_reference (rows_of old) cs))) s)
+  value-resolves value.DoubleQuoted old cs u follows h e f b s =
+      play-double (noting step quiet) noting_error (noting_cdata cdata) (noting_end ends) (rows_of old) (λ fault s. slight-absorbed fault s) (standing old InData) old.tag old.attribute_name old.attribute_value cs u follows b s h e f
+      ∙ ap (λ q. at step view cdata ends sound number broken errors quiet (state.AttributeValue value.DoubleQuoted) (record old { attribute_value = old.attribute_value ++ resolved true (rows_of old) cs follows }) b q u) (erred-more (slight_if (is_some (fault_of_reference (rows_of old) cs))) s)
 
   -- the same where the input ends
   pub value-at_end : (kind : AttrValueKind) (old : Tokenizer K) (cs : List ℕ) → list_all is_held cs ≡ true → (b : ℕ) (s : S × Notes ℕ)
-      → at step view cdata ends sound number broken errors (state.AttributeValue kind) old b s (38 ∷ cs ++ [])
-      ≡ at step view cdata ends sound number broken errors (state.AttributeValue kind) (record old { attribute_value = old.attribute_value ++ resolved true (rows_of old) cs false }) b s []
-  value-at_end kind old cs h b s = value-resolves kind old cs [] false h (ap (reference_at true (rows_of old)) (append-nil cs) ∙ reference-end true (rows_of old) cs) b s
+      → at step view cdata ends sound number broken errors quiet (state.AttributeValue kind) old b s (38 ∷ cs ++ [])
+      ≡ at step view cdata ends sound number broken errors quiet (state.AttributeValue kind) (record old { attribute_value = old.attribute_value ++ resolved true (rows_of old) cs false }) b (wronged_by old cs s) []
+  value-at_end kind old cs h b s = value-resolves kind old cs [] false h (ap (reference_at true (rows_of old)) (append-nil cs) ∙ reference-end true (rows_of old) cs) (ap (fault_of_reference (rows_of old)) (append-nil cs)) b s
+
+  -- what is to come where a reference is held in a value that is decided before this character
+  value-comes : (old : Tokenizer K) (kind : AttrValueKind) (cs : List ℕ) (c : ℕ) → IsAt old (state.AttributeValue kind) → IsDecided (rows_of old) cs c → (b : ℕ) (s : S × Notes ℕ) (t : List ℕ)
+      → now step view cdata ends sound number broken errors quiet (record old { char_ref = Some cs }) b s (c ∷ t)
+      ≡ at step view cdata ends sound number broken errors quiet (state.AttributeValue kind) (record old { attribute_value = old.attribute_value ++ resolved true (rows_of old) cs (goes_on_at (c ∷ [])) }) b (wronged_by old cs s) (c ∷ t)
+  value-comes old kind cs c from d b s t =
+      now-held step view cdata ends sound number broken errors quiet old (state.AttributeValue kind) cs b s (c ∷ t) from.state refl
+      ∙ value-resolves kind old cs (c ∷ t) (goes_on_at (c ∷ [])) d.held (reference-decided true (rows_of old) cs c t d.checked d.ends) (fault-decided (rows_of old) cs c t d.checked d.ends) b s
 
   -- what was held is put behind the value, and the character is taken there
   pub value-ended : (old new : Tokenizer K) (kind : AttrValueKind) (cs text : List ℕ) (c : ℕ) (result : Result (ProcessResult H) ParseFault) → IsAt old (state.AttributeValue kind) → IsDecided (rows_of old) cs c
       → text ≡ old.attribute_value ++ resolved true (rows_of old) cs (goes_on_at (c ∷ []))
-      → Keeps step view cdata ends sound number broken errors (record old { attribute_value = text }) new c result → Keeps step view cdata ends sound number broken errors (record old { char_ref = Some cs }) new c result
+      → Keeps step view cdata ends sound number broken errors quiet (record old { attribute_value = text }) new c result → Keeps step view cdata ends sound number broken errors quiet (record old { char_ref = Some cs }) new c result
   value-ended old new kind cs text c result from d is h =
+      let wrong = is_some (fault_of_reference (rows_of old) cs) in
       let mid : Tokenizer K = record old { attribute_value = old.attribute_value ++ resolved true (rows_of old) cs (goes_on_at (c ∷ [])) } in
-      keeps-along step view cdata ends sound number broken errors (record old { char_ref = Some cs }) mid new c result refl (λ x. x) (rises-same errors old.sink old.sink refl) (λ notes t.
-      now-held step view cdata ends sound number broken errors old (state.AttributeValue kind) cs old.stream.breaks (view old.sink, notes) (c ∷ t) from.state refl
-      ∙ value-resolves kind old cs (c ∷ t) (goes_on_at (c ∷ [])) d.held (reference-decided true (rows_of old) cs c t d.checked d.ends) old.stream.breaks (view old.sink, notes)
-      ∙ sym (now-at step view cdata ends sound number broken errors mid (state.AttributeValue kind) old.stream.breaks (view old.sink, notes) (c ∷ t) (record { state = from.state; fresh = from.fresh }))) (rw is at h)
+      keeps-behind step view cdata ends sound number broken errors quiet (owed_for (slight_if wrong)) (record old { char_ref = Some cs }) mid new c result refl (λ x. x) (rises-slight errors wrong old.sink old.sink refl) (λ notes t.
+      value-comes old kind cs c from d old.stream.breaks (view old.sink, notes) t
+      ∙ sym (now-at step view cdata ends sound number broken errors quiet mid (state.AttributeValue kind) old.stream.breaks (wronged_by old cs (view old.sink, notes)) (c ∷ t) (record { state = from.state; fresh = from.fresh }))) (rw is at h)
 
-  -- the same behind an error that was told
-  pub value-erred : {owed : ℕ} (old mid new : Tokenizer K) (kind : AttrValueKind) (cs text : List ℕ) (c : ℕ) (result : Result (ProcessResult H) ParseFault) → IsAt old (state.AttributeValue kind) → IsDecided (rows_of old) cs c
-      → Erred step view cdata ends sound number broken errors owed old mid → text ≡ mid.attribute_value ++ resolved true (rows_of old) cs (goes_on_at (c ∷ []))
-      → Keeps step view cdata ends sound number broken errors (record mid { attribute_value = text }) new c result → Keeps step view cdata ends sound number broken errors (record old { char_ref = Some cs }) new c result
-  value-erred old mid new kind cs text c result from d h is k =
-      value-ended old new kind cs text c result from d (is ∙ ap (λ k. k.attribute_value ++ resolved true (rows_of old) cs (goes_on_at (c ∷ []))) h.changed)
-      (keeps_erred step view cdata ends sound number broken errors (record old { attribute_value = text }) (record mid { attribute_value = text }) new c result
-      (record { sink = h.sink; changed = ap {A = Tokenizer K} (λ k. record k { attribute_value = text }) h.changed; works = h.works; rises = h.rises }) k)
+  -- what is slight before a reference with which something is wrong changes nothing
+  value-absorbs : (old : Tokenizer K) (kind : AttrValueKind) (cs : List ℕ) (c : ℕ) → IsAt old (state.AttributeValue kind) → IsDecided (rows_of old) cs c → is_some (fault_of_reference (rows_of old) cs) ≡ true
+      → Absorbs step view cdata ends sound number broken errors quiet (record old { char_ref = Some cs }) c
+  value-absorbs old kind cs c from d wrong = λ b s t.
+      value-comes old kind cs c from d b s t
+      ∙ ap (λ notes. at step view cdata ends sound number broken errors quiet (state.AttributeValue kind) (record old { attribute_value = old.attribute_value ++ resolved true (rows_of old) cs (goes_on_at (c ∷ [])) }) b (s.0, notes) (c ∷ t)) (slight-twice _ s.1 wrong)
+      ∙ sym (value-comes old kind cs c from d b (s.0, more (owed_for (Some Slight)) s.1) t)
+
+  -- the same behind the error that the Standard names, if it names one
+  pub value-erred : (told follows : Bool) (old mid new : Tokenizer K) (kind : AttrValueKind) (cs text : List ℕ) (c : ℕ) (result : Result (ProcessResult H) ParseFault) → IsAt old (state.AttributeValue kind) → IsDecided (rows_of old) cs c → told ≡ is_faulty true (rows_of old) cs follows
+      → Erred step view cdata ends sound number broken errors quiet (owed_for (grave_if told)) old mid → text ≡ mid.attribute_value ++ resolved true (rows_of old) cs (goes_on_at (c ∷ []))
+      → Keeps step view cdata ends sound number broken errors quiet (record mid { attribute_value = text }) new c result → Keeps step view cdata ends sound number broken errors quiet (record old { char_ref = Some cs }) new c result
+  value-erred told follows old mid new kind cs text c result from d named h is k =
+      let rows : rows_of mid ≡ rows_of old = ap (λ k. rows_of k) h.changed in
+      keeps_erred step view cdata ends sound number broken errors quiet told (record old { char_ref = Some cs }) (record mid { char_ref = Some cs }) new c result
+      (record { sink = h.sink; changed = ap {A = Tokenizer K} (λ k. record k { char_ref = Some cs }) h.changed; works = h.works; rises = h.rises })
+      (λ e. value-absorbs old kind cs c from d (faulty-some true (rows_of old) cs follows (sym named ∙ e)))
+      (value-ended mid new kind cs text c result (at_erred step view cdata ends sound number broken errors quiet old mid (state.AttributeValue kind) h from) (rw rows d) (rw rows is) k)

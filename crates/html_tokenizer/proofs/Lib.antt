@@ -15,6 +15,7 @@ pub mod EndTextReferences
 pub mod EndTextStates
 pub mod EndTextTags
 pub mod EndTokens
+pub mod Endings
 pub mod Ends
 pub mod Erring
 pub mod Errors

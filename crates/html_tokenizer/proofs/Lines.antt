@@ -11,11 +11,11 @@ use Rattle.html_tokens.specs.declared.states.State.TheVariants as state
 use Rattle.html_tokens.specs.declared.token.Token.{Token}
 use Rattle.html_tokens.specs.declared.token.Token.TheVariants.{EOFToken}
 use Rattle.html_tokens.specs.Comments.{comment_at, comment_after, bogus_comment_after}
-use Rattle.html_tokens.specs.Doctypes.{doctype_at, doctype_name_after, after_name, after_public_keyword, after_system_keyword, public_after, system_after, after_public, after_system, junk_after}
+use Rattle.html_tokens.specs.Doctypes.{doctype_at, doctype_behind, doctype_name_after, after_name, after_public_keyword, after_system_keyword, public_after, system_after, after_public, after_system, junk_after}
 use Rattle.html_tokens.specs.Tags.{name_after, attribute_after, equals_at, value_at, unquoted_after, quoted_after}
-use Rattle.html_tokens.specs.Item.{InData, Stand, Item, is_cut}
+use Rattle.html_tokens.specs.Item.{Fault, InData, Stand, Item, fault_at_end}
 use Rattle.html_tokens.specs.Items.{item}
-use Rattle.html_tokens.specs.Reading.{◌>>=◌, next_stand, erred_if, said, line_number, line_breaks, reading_from, reading, play}
+use Rattle.html_tokens.specs.Reading.{◌>>=◌, next_stand, erred_by, said, line_number, line_breaks, reading_from, reading, play}
 use Rattle.html_tokens.specs.Table.{Row}
 use Rattle.html_tokens.proofs.Readings.{bind_same}
 use Rattle.html_tokenizer.specs.declared.tokenizer.Tokenizer.{Tokenizer}
@@ -44,30 +44,30 @@ capped b n = omega arith
 pub lines-capped : (b : ℕ) → SameLines b (min b 0xffff_ffff_ffff_ffff)
 lines-capped b = λ n. capped b n
 
-module _ {T : Type 0} (step : NotedStep T) (erred : T → T) (cdata : T → Bool) (ends : T → T) (rows : List Row) where
-  said-same : (faulty : Bool) (token : Option Token) (b d : ℕ) (s : T) → line_number b ≡ line_number d → said step erred faulty token b s ≡ said step erred faulty token d s
-  said-same faulty None b d s h = refl
-  said-same faulty (Some token) b d s h = ap (λ l. step (erred_if erred faulty s) token l) h
+module _ {T : Type 0} (step : NotedStep T) (erred : Fault → T → T) (cdata : T → Bool) (ends : T → T) (rows : List Row) where
+  said-same : (fault : Option Fault) (token : Option Token) (b d : ℕ) (s : T) → line_number b ≡ line_number d → said step erred fault token b s ≡ said step erred fault token d s
+  said-same fault None b d s h = refl
+  said-same fault (Some token) b d s h = ap (λ l. step (erred_by erred fault s) token l) h
 
   pub reading-lines : (n : ℕ) (st : Stand) (b d : ℕ) (s : T) (t : List ℕ) → SameLines b d → reading_from step erred cdata ends rows n st b s t ≡ reading_from step erred cdata ends rows n st d s t
   unfolding reading_from
-  reading-lines n st b d s [] h = ap (λ l. step (erred_if erred (is_cut st.place) s) EOFToken l >>= λ p. Ok (ends p.0)) (line-same b d h)
+  reading-lines n st b d s [] h = ap (λ l. step (erred_by erred (fault_at_end st.place) s) EOFToken l >>= λ p. Ok (ends p.0)) (line-same b d h)
   reading-lines zero st b d s (c ∷ t) h =
       let i = item rows (cdata s) st c t in
       let m = line_breaks (take i.len (c ∷ t)) in
-      ap (λ r. r >>= λ p. reading_from step erred cdata ends rows (i.len - 1) (next_stand i.next p.1) (b + m) p.0 t) (said-same i.is_faulty i.token (b + m) (d + m) s (h m))
-      ∙ bind_same (said step erred i.is_faulty i.token (d + m) s) (λ p. reading_from step erred cdata ends rows (i.len - 1) (next_stand i.next p.1) (b + m) p.0 t) (λ p. reading_from step erred cdata ends rows (i.len - 1) (next_stand i.next p.1) (d + m) p.0 t)
+      ap (λ r. r >>= λ p. reading_from step erred cdata ends rows (i.len - 1) (next_stand i.next p.1) (b + m) p.0 t) (said-same i.fault i.token (b + m) (d + m) s (h m))
+      ∙ bind_same (said step erred i.fault i.token (d + m) s) (λ p. reading_from step erred cdata ends rows (i.len - 1) (next_stand i.next p.1) (b + m) p.0 t) (λ p. reading_from step erred cdata ends rows (i.len - 1) (next_stand i.next p.1) (d + m) p.0 t)
       (λ p. reading-lines (i.len - 1) (next_stand i.next p.1) (b + m) (d + m) p.0 t (lines-behind b d m h))
   reading-lines (suc n) st b d s (c ∷ t) h = reading-lines n st b d s t h
 
   pub play-lines : (i : Item) (b d : ℕ) (s : T) (t : List ℕ) → SameLines b d → play step erred cdata ends rows i b s t ≡ play step erred cdata ends rows i d s t
   play-lines i b d s t h =
       let m = line_breaks (take i.len t) in
-      ap (λ r. r >>= λ p. reading step erred cdata ends rows (next_stand i.next p.1) (b + m) p.0 (drop i.len t)) (said-same i.is_faulty i.token (b + m) (d + m) s (h m))
-      ∙ bind_same (said step erred i.is_faulty i.token (d + m) s) (λ p. reading step erred cdata ends rows (next_stand i.next p.1) (b + m) p.0 (drop i.len t)) (λ p. reading step erred cdata ends rows (next_stand i.next p.1) (d + m) p.0 (drop i.len t))
+      ap (λ r. r >>= λ p. reading step erred cdata ends rows (next_stand i.next p.1) (b + m) p.0 (drop i.len t)) (said-same i.fault i.token (b + m) (d + m) s (h m))
+      ∙ bind_same (said step erred i.fault i.token (d + m) s) (λ p. reading step erred cdata ends rows (next_stand i.next p.1) (b + m) p.0 (drop i.len t)) (λ p. reading step erred cdata ends rows (next_stand i.next p.1) (d + m) p.0 (drop i.len t))
       (λ p. reading-lines 0 (next_stand i.next p.1) (b + m) (d + m) p.0 (drop i.len t) (lines-behind b d m h))
 
-module _ {K T : Type 0} (step : NotedStep T) (erred : T → T) (cdata : T → Bool) (ends : T → T) where
+module _ {K T : Type 0} (step : NotedStep T) (erred : Fault → T → T) (cdata : T → Bool) (ends : T → T) where
   -- what is held makes of a text what it makes behind other line breaks with the same lines
   pub held-lines : (st : State) (k : Tokenizer K) (b d : ℕ) (s : T) (t : List ℕ) → SameLines b d → held_at step erred cdata ends st k b s t ≡ held_at step erred cdata ends st k d s t
   unfolding held_at
@@ -97,7 +97,7 @@ module _ {K T : Type 0} (step : NotedStep T) (erred : T → T) (cdata : T → Bo
   held-lines (state.AttributeValue value.Unquoted) k b d s t h = play-lines step erred cdata ends (rows_of k) (unquoted_after (rows_of k) (standing k InData) k.tag k.attribute_name k.attribute_value t) b d s t h
   held-lines (state.AttributeValue value.SingleQuoted) k b d s t h = play-lines step erred cdata ends (rows_of k) (quoted_after (rows_of k) 39 (standing k InData) k.tag k.attribute_name k.attribute_value t) b d s t h
   held-lines (state.AttributeValue value.DoubleQuoted) k b d s t h = play-lines step erred cdata ends (rows_of k) (quoted_after (rows_of k) 34 (standing k InData) k.tag k.attribute_name k.attribute_value t) b d s t h
-  held-lines state.AfterAttributeValueQuoted k b d s t h = reading-lines step erred cdata ends (rows_of k) 0 _ b d s _ h
+  held-lines state.AfterAttributeValueQuoted k b d s t h = reading-lines step erred cdata ends (rows_of k) 0 _ b d _ _ h
   held-lines state.SelfClosingStartTag k b d s t h = reading-lines step erred cdata ends (rows_of k) 0 _ b d s _ h
   held-lines state.BogusComment k b d s t h = play-lines step erred cdata ends (rows_of k) (bogus_comment_after (standing k InData) k.comment t) b d s t h
   held-lines state.MarkupDeclarationOpen k b d s t h = reading-lines step erred cdata ends (rows_of k) 0 _ b d s _ h
@@ -112,7 +112,7 @@ module _ {K T : Type 0} (step : NotedStep T) (erred : T → T) (cdata : T → Bo
   held-lines state.CommentEnd k b d s t h = play-lines step erred cdata ends (rows_of k) (comment_after (standing k InData) k.comment (45 ∷ 45 ∷ t)) b d s (45 ∷ 45 ∷ t) h
   held-lines state.CommentEndBang k b d s t h = play-lines step erred cdata ends (rows_of k) (comment_after (standing k InData) k.comment (45 ∷ 45 ∷ 33 ∷ t)) b d s (45 ∷ 45 ∷ 33 ∷ t) h
   held-lines state.Doctype k b d s t h = play-lines step erred cdata ends (rows_of k) (doctype_at (standing k InData) t) b d s t h
-  held-lines state.BeforeDoctypeName k b d s t h = play-lines step erred cdata ends (rows_of k) (doctype_at (standing k InData) t) b d s t h
+  held-lines state.BeforeDoctypeName k b d s t h = play-lines step erred cdata ends (rows_of k) (doctype_behind (standing k InData) t) b d s t h
   held-lines state.DoctypeName k b d s t h = play-lines step erred cdata ends (rows_of k) (doctype_name_after (standing k InData) k.temporary t) b d s t h
   held-lines state.AfterDoctypeName k b d s t h = play-lines step erred cdata ends (rows_of k) (after_name (standing k InData) k.doctype (k.keyword ++ t)) b d s (k.keyword ++ t) h
   held-lines (state.AfterDoctypeKeyword id.Public) k b d s t h = play-lines step erred cdata ends (rows_of k) (after_public_keyword (standing k InData) k.doctype t) b d s t h

@@ -1,5 +1,5 @@
 -- The fitting end tag of raw text.
-use Rattle.std.proofs.Common.{◌≡◌, ◌∙◌, ℕ, Bool, true, false, nat_eq, List, [], ◌∷◌, ◌++◌, map, Option, Result, refl, sym, ap, arith, append_assoc, append-nil}
+use Rattle.std.proofs.Common.{◌≡◌, ◌∙◌, ℕ, ◌+◌, Bool, true, false, nat_eq, List, [], ◌∷◌, ◌++◌, map, Option, Result, refl, sym, ap, arith, append_assoc, append-nil}
 use Rattle.std.specs.Char.{is_ascii_alphabetic, to_ascii_lowercase}
 use Rattle.std.specs.List.{list_all}
 use Rattle.std.proofs.lemmas.Bool.Decides.{nat_tests}
@@ -10,11 +10,12 @@ use Rattle.html_tokens.specs.declared.states.RawKind.{RawKind}
 use Rattle.html_tokens.specs.declared.states.State.TheVariants as state
 use Rattle.html_tokens.specs.declared.tags.Tag.{Tag}
 use Rattle.html_tokens.specs.declared.tags.TagKind.TheVariants.{EndTag}
+use Rattle.html_tokens.specs.declared.token.Token.{Token}
 use Rattle.html_tokens.specs.Characters.{lowered}
 use Rattle.html_tokens.specs.Notes.{NotedStep, Notes, noting, noting_error, noting_cdata, noting_end}
-use Rattle.html_tokens.specs.Item.{InRaw, Stand, behind}
+use Rattle.html_tokens.specs.Item.{Fault, slight_if, InRaw, Stand, behind}
 use Rattle.html_tokens.specs.RawText.{is_fitting_end, ends_at_tag}
-use Rattle.html_tokens.specs.Reading.{reading, play}
+use Rattle.html_tokens.specs.Reading.{erred_by, line_break, reading, play}
 use Rattle.html_tokens.specs.Sink.{Step}
 use Rattle.html_tokens.specs.Table.{Row}
 use Rattle.html_tokens.specs.Tags.{named, name_after}
@@ -24,8 +25,9 @@ use Rattle.html_tokenizer.specs.Steps.{IsAt, Keeps}
 use Rattle.html_tokenizer.specs.Words.{is_fitting, ends_raw_text}
 use Rattle.html_tokenizer.proofs.Glue.{keeps_silent, at, no-break}
 use Rattle.html_tokenizer.proofs.Words.{and_parts}
-use Rattle.html_tokenizer.proofs.RawKinds.{letter-no_break, letter-no_end, end-no_letter, fitting-word}
-use Rattle.html_tokenizer.proofs.Readings.{sum-zero, reading-is, play-is}
+use Rattle.html_tokenizer.proofs.RawKinds.{letter-no_break, letter-no_null, letter-no_end, end-no_letter, fitting-word}
+use Rattle.html_tokenizer.proofs.Readings.{Absorbing, sum-zero, reading-is, play-is}
+use Rattle.html_tokenizer.proofs.Lawful.{slight-absorbed}
 use Rattle.html_tokenizer.proofs.TagReadings.{name-more}
 
 letter-lowered : (c : ℕ) → is_ascii_alphabetic c ≡ true → lowered c ≡ to_ascii_lowercase c
@@ -36,43 +38,44 @@ letter-lowered c h =
 no_letter : (last : Option (List ℕ)) (word : List ℕ) (c : ℕ) → ends_raw_text last word c ≡ true → is_ascii_alphabetic c ≡ false
 no_letter last word c fits = end-no_letter c (and_parts (is_fitting last word) _ fits).1
 
-module _ {T : Type 0} (step : NotedStep T) (erred : T → T) (cdata : T → Bool) (ends : T → T) (rows : List Row) where
+module _ {T : Type 0} (step : NotedStep T) (erred : Fault → T → T) (cdata : T → Bool) (ends : T → T) (rows : List Row) where
   -- the letters of a tag's name
-  name-letters : (st : Stand) (tag : Tag) (word : List ℕ) (b : ℕ) (s : T) (t : List ℕ) → list_all is_ascii_alphabetic word ≡ true
+  name-letters : (absorbs : Absorbing erred) (st : Stand) (tag : Tag) (word : List ℕ) (b : ℕ) (s : T) (t : List ℕ) → list_all is_ascii_alphabetic word ≡ true
       → play step erred cdata ends rows (name_after st tag (word ++ t)) b s (word ++ t) ≡ play step erred cdata ends rows (name_after st (record tag { name = tag.name ++ map to_ascii_lowercase word }) t) b s t
-  name-letters st tag [] b s t w = ap (λ n. play step erred cdata ends rows (name_after st (record tag { name = n }) t) b s t) (sym (append-nil tag.name))
-  name-letters st tag (c ∷ word) b s t w =
+  name-letters absorbs st tag [] b s t w = ap (λ n. play step erred cdata ends rows (name_after st (record tag { name = n }) t) b s t) (sym (append-nil tag.name))
+  name-letters absorbs st tag (c ∷ word) b s t w =
       let p = and_parts _ _ w in
       let more = record tag { name = tag.name ++ lowered c ∷ [] } in
-      name-more step erred cdata ends rows st tag b s c (word ++ t) (letter-no_end c p.0)
+      name-more step erred cdata ends rows absorbs st tag b s c (word ++ t) (letter-no_end c p.0)
+      ∙ ap (λ odd. play step erred cdata ends rows (name_after st more (word ++ t)) (b + line_break (nat_eq c 10)) (erred_by erred (slight_if odd) s) (word ++ t)) (letter-no_null c p.0)
       ∙ ap (λ n. play step erred cdata ends rows (name_after st more (word ++ t)) n s (word ++ t)) (no-break b c (letter-no_break c p.0))
-      ∙ name-letters st more word b s t p.1
+      ∙ name-letters absorbs st more word b s t p.1
       ∙ ap (λ n. play step erred cdata ends rows (name_after st (record tag { name = n }) t) b s t) (append_assoc tag.name (lowered c ∷ []) (map to_ascii_lowercase word))
       ∙ ap (λ d. play step erred cdata ends rows (name_after st (record tag { name = tag.name ++ d ∷ map to_ascii_lowercase word }) t) b s t) (letter-lowered c p.0)
 
   -- "</" and the name of an end tag
-  end_tag-read : (st : Stand) (kind : RawKind) (word : List ℕ) (b : ℕ) (s : T) (t : List ℕ) → list_all is_ascii_alphabetic word ≡ true → st.place ≡ InRaw kind → ends_at_tag kind ≡ true → is_fitting_end st.last_start_tag (47 ∷ (word ++ t)) ≡ true
+  end_tag-read : (absorbs : Absorbing erred) (st : Stand) (kind : RawKind) (word : List ℕ) (b : ℕ) (s : T) (t : List ℕ) → list_all is_ascii_alphabetic word ≡ true → st.place ≡ InRaw kind → ends_at_tag kind ≡ true → is_fitting_end st.last_start_tag (47 ∷ (word ++ t)) ≡ true
       → reading step erred cdata ends rows st b s (60 ∷ 47 ∷ (word ++ t)) ≡ play step erred cdata ends rows (name_after st (named EndTag (map to_ascii_lowercase word)) t) b s t
-  end_tag-read st kind word b s t w place e fits =
+  end_tag-read absorbs st kind word b s t w place e fits =
       let name = name_after st (named EndTag []) (word ++ t) in
       reading-is step erred cdata ends rows st b s 60 (47 ∷ (word ++ t)) (behind name) (rw (place, e, fits) refl)
       ∙ ap (λ n. play step erred cdata ends rows (behind name) n s (47 ∷ (word ++ t))) (sum-zero b)
       ∙ play-is step erred cdata ends rows (behind name) name b s 47 (word ++ t) refl
       ∙ ap (λ n. play step erred cdata ends rows name n s (word ++ t)) (sum-zero b)
-      ∙ name-letters st (named EndTag []) word b s t w
+      ∙ name-letters absorbs st (named EndTag []) word b s t w
 
-module _ {K S H : Type 0} (step : Step S) (view : K → S) (cdata : S → Bool) (ends : S → S) (sound : S → Type 0) (number : H → ℕ) (broken : K → Bool) (errors : K → ℕ) where
+module _ {K S H : Type 0} (step : Step S) (view : K → S) (cdata : S → Bool) (ends : S → S) (sound : S → Type 0) (number : H → ℕ) (broken : K → Bool) (errors : K → ℕ) (quiet : S → Token → Bool) where
   end_tag-says : (old : Tokenizer K) (kind : RawKind) (name : List ℕ) (attributes : List Attribute) (c : ℕ) → list_all is_ascii_alphabetic old.word ≡ true → ends_at_tag kind ≡ true → ends_raw_text old.last_start_tag old.word c ≡ true → name ≡ map to_ascii_lowercase old.word → attributes ≡ []
-      → (b : ℕ) (s : S × Notes ℕ) (t : List ℕ) → at step view cdata ends sound number broken errors (state.RawEndTagName kind) old b s (c ∷ t)
-      ≡ at step view cdata ends sound number broken errors state.TagName (record old { tag = record { kind = EndTag; name = name; self_closing = false; attrs = attributes; had_duplicate_attributes = false }; state = state.TagName }) b s (c ∷ t)
+      → (b : ℕ) (s : S × Notes ℕ) (t : List ℕ) → at step view cdata ends sound number broken errors quiet (state.RawEndTagName kind) old b s (c ∷ t)
+      ≡ at step view cdata ends sound number broken errors quiet state.TagName (record old { tag = record { kind = EndTag; name = name; self_closing = false; attrs = attributes; had_duplicate_attributes = false }; state = state.TagName }) b s (c ∷ t)
   unfolding held_at
   end_tag-says old kind name attributes c w e fits n a b s t = rw (n, a)
-      (end_tag-read (noting step) noting_error (noting_cdata cdata) (noting_end ends) (rows_of old) (standing old (InRaw kind)) kind old.word b s (c ∷ t) w refl e
+      (end_tag-read (noting step quiet) noting_error (noting_cdata cdata) (noting_end ends) (rows_of old) slight-absorbed (standing old (InRaw kind)) kind old.word b s (c ∷ t) w refl e
       (fitting-word old.last_start_tag old.word c t w (no_letter old.last_start_tag old.word c fits) ∙ fits))
 
   -- the whole fitting name was read, and the tag goes on
   pub end_tag-kept : (old new : Tokenizer K) (kind : RawKind) (name : List ℕ) (attributes : List Attribute) (c : ℕ) (result : Result (ProcessResult H) ParseFault) → IsAt old (state.RawEndTagName kind) → list_all is_ascii_alphabetic old.word ≡ true → ends_at_tag kind ≡ true → ends_raw_text old.last_start_tag old.word c ≡ true
       → name ≡ map to_ascii_lowercase old.word → attributes ≡ []
-      → Keeps step view cdata ends sound number broken errors (record old { tag = record { kind = EndTag; name = name; self_closing = false; attrs = attributes; had_duplicate_attributes = false }; state = state.TagName }) new c result → Keeps step view cdata ends sound number broken errors old new c result
+      → Keeps step view cdata ends sound number broken errors quiet (record old { tag = record { kind = EndTag; name = name; self_closing = false; attrs = attributes; had_duplicate_attributes = false }; state = state.TagName }) new c result → Keeps step view cdata ends sound number broken errors quiet old new c result
   end_tag-kept old new kind name attributes c result from w e fits n a h =
-      keeps_silent step view cdata ends sound number broken errors old (record old { tag = record { kind = EndTag; name = name; self_closing = false; attrs = attributes; had_duplicate_attributes = false }; state = state.TagName }) new c (state.RawEndTagName kind) state.TagName result from (record { state = refl; fresh = from.fresh }) refl refl (end_tag-says old kind name attributes c w e fits n a) h
+      keeps_silent step view cdata ends sound number broken errors quiet old (record old { tag = record { kind = EndTag; name = name; self_closing = false; attrs = attributes; had_duplicate_attributes = false }; state = state.TagName }) new c (state.RawEndTagName kind) state.TagName result from (record { state = refl; fresh = from.fresh }) refl refl (end_tag-says old kind name attributes c w e fits n a) h

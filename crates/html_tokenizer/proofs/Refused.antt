@@ -1,5 +1,5 @@
 -- Where a sink refuses every token, a reading is refused.
-use Rattle.std.proofs.Common.{◌≡◌, ℕ, zero, suc, ◌+◌, ◌-◌, Bool, true, false, List, [], ◌∷◌, take, Option, Some, None, Result}
+use Rattle.std.proofs.Common.{◌≡◌, ℕ, zero, suc, ◌+◌, ◌-◌, Bool, List, [], ◌∷◌, take, Option, Some, None, Result}
 use Rattle.std.specs.Prelude.{IsErr}
 use Rattle.std.specs.Result.{IsErrAnd}
 use Rattle.std.proofs.lemmas.Result.{err_from_is_err_and}
@@ -10,10 +10,10 @@ use Rattle.html_tokens.specs.declared.replies.TokenSinkResult.TheVariants.{Conti
 use Rattle.html_tokens.specs.declared.states.State.{State}
 use Rattle.html_tokens.specs.declared.token.Token.{Token}
 use Rattle.html_tokens.specs.declared.token.Token.TheVariants.{EOFToken}
-use Rattle.html_tokens.specs.Item.{Stand, is_cut}
+use Rattle.html_tokens.specs.Item.{Fault, Stand, fault_at_end}
 use Rattle.html_tokens.specs.Items.{item}
-use Rattle.html_tokens.specs.Notes.{Notes, NotedStep, noting, noting_error}
-use Rattle.html_tokens.specs.Reading.{erred_if, said, next_stand, line_breaks, reading_from}
+use Rattle.html_tokens.specs.Notes.{Notes, NotedStep, noting, noting_error, heard}
+use Rattle.html_tokens.specs.Reading.{erred_by, said, next_stand, line_breaks, reading_from}
 use Rattle.html_tokens.specs.Sink.{◌>>=◌, Step, Reply, Refusal}
 use Rattle.html_tokens.specs.Table.{Row}
 use Rattle.html_tokenizer.specs.declared.tokenizer.Tokenizer.{Tokenizer}
@@ -24,35 +24,35 @@ module _ {T : Type 0} (step : NotedStep T) where
   abbrev pub AllRefused : T → Type 0
   AllRefused s = (token : Token) (line : ℕ) → IsErr (step s token line)
 
-module _ {T : Type 0} (step : NotedStep T) (erred : T → T) (cdata : T → Bool) (ends : T → T) (rows : List Row) (errs : (s : T) → AllRefused step s → AllRefused step (erred s)) where
-  erred-refused : (faulty : Bool) (s : T) → AllRefused step s → AllRefused step (erred_if erred faulty s)
-  erred-refused true s h = errs s h
-  erred-refused false s h = h
+module _ {T : Type 0} (step : NotedStep T) (erred : Fault → T → T) (cdata : T → Bool) (ends : T → T) (rows : List Row) (errs : (fault : Fault) (s : T) → AllRefused step s → AllRefused step (erred fault s)) where
+  pub erred-refused : (fault : Option Fault) (s : T) → AllRefused step s → AllRefused step (erred_by erred fault s)
+  erred-refused None s h = h
+  erred-refused (Some fault) s h = errs fault s h
 
-  pub said-refused : (faulty : Bool) (s : T) → AllRefused step s → (token : Option Token) (b : ℕ) (next : T × Reply → Result T (Refusal × ℕ)) → ((q : T) → AllRefused step q → (reply : Reply) → IsErr (next (q, reply))) → IsErr (said step erred faulty token b s >>= next)
-  said-refused faulty s h None b next k = k (erred_if erred faulty s) (erred-refused faulty s h) Continue
-  said-refused faulty s h (Some token) b next k = bind-err _ next (erred-refused faulty s h token _)
+  pub said-refused : (fault : Option Fault) (s : T) → AllRefused step s → (token : Option Token) (b : ℕ) (next : T × Reply → Result T (Refusal × ℕ)) → ((q : T) → AllRefused step q → (reply : Reply) → IsErr (next (q, reply))) → IsErr (said step erred fault token b s >>= next)
+  said-refused fault s h None b next k = k (erred_by erred fault s) (erred-refused fault s h) Continue
+  said-refused fault s h (Some token) b next k = bind-err _ next (erred-refused fault s h token _)
 
   pub reading-refused : (s : T) → AllRefused step s → (n : ℕ) (st : Stand) (b : ℕ) (t : List ℕ) → IsErr (reading_from step erred cdata ends rows n st b s t)
   unfolding reading_from
-  reading-refused s h n st b [] = bind-err _ _ (erred-refused (is_cut st.place) s h EOFToken _)
+  reading-refused s h n st b [] = bind-err _ _ (erred-refused (fault_at_end st.place) s h EOFToken _)
   reading-refused s h zero st b (c ∷ t) =
       let i = item rows (cdata s) st c t in
       let read = b + line_breaks (take i.len (c ∷ t)) in
-      said-refused i.is_faulty s h i.token read (λ p. reading_from step erred cdata ends rows (i.len - 1) (next_stand i.next p.1) read p.0 t) (λ q g reply. reading-refused q g (i.len - 1) (next_stand i.next reply) read t)
+      said-refused i.fault s h i.token read (λ p. reading_from step erred cdata ends rows (i.len - 1) (next_stand i.next p.1) read p.0 t) (λ q g reply. reading-refused q g (i.len - 1) (next_stand i.next reply) read t)
   reading-refused s h (suc n) st b (c ∷ t) = reading-refused s h n st b t
 
-module _ {K S H : Type 0} (step : Step S) (view : K → S) (cdata : S → Bool) (ends : S → S) (sound : S → Type 0) (number : H → ℕ) (broken : K → Bool) (errors : K → ℕ) where
+module _ {K S H : Type 0} (step : Step S) (view : K → S) (cdata : S → Bool) (ends : S → S) (sound : S → Type 0) (number : H → ℕ) (broken : K → Bool) (errors : K → ℕ) (quiet : S → Token → Bool) where
   -- a sink of which something is noted refuses what the sink refuses
-  pub noting-refused : (s : S) (notes : Notes ℕ) → ((token : Token) (line : ℕ) → IsErr (step s token line)) → (token : Token) (line : ℕ) → IsErr (noting step (s, notes) token line)
-  noting-refused s notes h token line = noted-err notes (step s token line) (h token line)
+  pub noting-refused : (s : S) (notes : Notes ℕ) → ((token : Token) (line : ℕ) → IsErr (step s token line)) → (token : Token) (line : ℕ) → IsErr (noting step quiet (s, notes) token line)
+  noting-refused s notes h token line = noted-err (heard (quiet s token) notes) (step s token line) (h token line)
 
   -- the same behind a fault
-  pub noting-errs : (s : S × Notes ℕ) → AllRefused (noting step) s → AllRefused (noting step) (noting_error s)
-  noting-errs s h token line = noted-err (noting_error s).1 (step s.0 token line) (err-noted s.1 (step s.0 token line) (h token line))
+  pub noting-errs : (fault : Fault) (s : S × Notes ℕ) → AllRefused (noting step quiet) s → AllRefused (noting step quiet) (noting_error fault s)
+  noting-errs fault s h token line = noted-err _ (step s.0 token line) (err-noted (heard (quiet s.0 token) s.1) (step s.0 token line) (h token line))
 
-  pub every-fails : (sink : K) (s : S) (fault : ParseFault) {A F : Type 0} (given : Result A F) → ((token : Token) (line : ℕ) → Fails step view cdata ends sound number broken errors sink (step s token line) fault)
-      → (((token : Token) (line : ℕ) → IsErr (step s token line)) → IsErr given) → Fails step view cdata ends sound number broken errors sink given fault
+  pub every-fails : (sink : K) (s : S) (fault : ParseFault) {A F : Type 0} (given : Result A F) → ((token : Token) (line : ℕ) → Fails step view cdata ends sound number broken errors quiet sink (step s token line) fault)
+      → (((token : Token) (line : ℕ) → IsErr (step s token line)) → IsErr given) → Fails step view cdata ends sound number broken errors quiet sink given fault
   every-fails sink s Memory given h k = tt
   every-fails sink s TokenInText given h k = (k (λ token line. (h token line).0), (h EOFToken 0).1)
   every-fails sink s Ended given h k = (k (λ token line. (h token line).0), (h EOFToken 0).1)
@@ -61,12 +61,12 @@ module _ {K S H : Type 0} (step : Step S) (view : K → S) (cdata : S → Bool) 
 
   -- An error could not be told, and what was to come is refused where every token is.
   pub keeps_failed : (old new : Tokenizer K) (c : ℕ) (st : State) (result : Result (ProcessResult H) ParseFault) (fault : ParseFault) → IsAt old st → IsErrAnd result (λ y. y ≡ fault)
-      → ((token : Token) (line : ℕ) → Fails step view cdata ends sound number broken errors old.sink (step (view old.sink) token line) fault)
-      → ((b : ℕ) (s : S × Notes ℕ) → ((token : Token) (line : ℕ) → IsErr (noting step s token line)) → (t : List ℕ) → IsErr (at step view cdata ends sound number broken errors st old b s (c ∷ t)))
-      → Keeps step view cdata ends sound number broken errors old new c result
+      → ((token : Token) (line : ℕ) → Fails step view cdata ends sound number broken errors quiet old.sink (step (view old.sink) token line) fault)
+      → ((b : ℕ) (s : S × Notes ℕ) → ((token : Token) (line : ℕ) → IsErr (noting step quiet s token line)) → (t : List ℕ) → IsErr (at step view cdata ends sound number broken errors quiet st old b s (c ∷ t)))
+      → Keeps step view cdata ends sound number broken errors quiet old new c result
   keeps_failed old new c st result fault from is fails law =
       let p = err_from_is_err_and result is in
       rw (p.1, p.2) (λ notes t.
-      fails-along step view cdata ends sound number broken errors old.sink _ _ fault (now-at step view cdata ends sound number broken errors old st old.stream.breaks (view old.sink, notes) (c ∷ t) from)
-      (every-fails old.sink (view old.sink) fault (at step view cdata ends sound number broken errors st old old.stream.breaks (view old.sink, notes) (c ∷ t)) fails
+      fails-along step view cdata ends sound number broken errors quiet old.sink _ _ fault (now-at step view cdata ends sound number broken errors quiet old st old.stream.breaks (view old.sink, notes) (c ∷ t) from)
+      (every-fails old.sink (view old.sink) fault (at step view cdata ends sound number broken errors quiet st old old.stream.breaks (view old.sink, notes) (c ∷ t)) fails
       (λ h. law old.stream.breaks (view old.sink, notes) (noting-refused (view old.sink) notes h) t)))

@@ -1,12 +1,21 @@
--- How a number of errors rises that stops at the greatest number of 64 bits.
-use Rattle.std.proofs.Common.{◌≡◌, ℕ, zero, suc, ◌+◌, ◌≤◌, Bool, true, false, arith, ap, sym, subst}
-use Rattle.std.specs.Prelude.{min}
+-- How a number of errors rises that stops at the greatest number of 64 bits, by what is owed.
+use Rattle.std.proofs.Common.{◌≡◌, ◌∙◌, ℕ, zero, suc, ◌+◌, ◌≤◌, Bool, true, false, Option, Some, None, Ok, arith, refl, ap, sym}
+use Rattle.std.specs.Prelude.{◌&&◌, not, min}
+use Rattle.std.proofs.lemmas.Bool.{and_parts, and_from, true≢false}
 use Rattle.std.proofs.lemmas.Bool.Decides.{nat_tests}
-use Rattle.html_tokens.specs.Sink.{one_more, CountsOwn}
-use Rattle.html_tokenizer.specs.Steps.{Rises, and_more}
+use Rattle.html_tokens.specs.Item.{Fault, Grave, Slight, grave_if, slight_if, and_slight_if}
+use Rattle.html_tokens.specs.Notes.{Notes, heard, wronged}
+use Rattle.html_tokens.specs.Sink.{one_more, Counts, CountsOwn}
+use Rattle.html_tokens.specs.declared.token.Token.{Token}
+use Rattle.html_tokens.specs.declared.token.Token.TheVariants.{ParseError}
+use Rattle.html_tokenizer.specs.Calls.{owed_for_own, and_own}
+use Rattle.html_tokenizer.specs.Steps.{IsNoTag, Owed, nothing, owed_for, hearing, together, Rises, and_more, more}
 
 capped : (a b c m n : ℕ) → min (a + m) 0xffff_ffff_ffff_ffff ≤ b → min (b + n) 0xffff_ffff_ffff_ffff ≤ c → min (a + (n + m)) 0xffff_ffff_ffff_ffff ≤ c
 capped a b c m n h k = omega arith
+
+still : (a b c m : ℕ) → min (a + m) 0xffff_ffff_ffff_ffff ≤ b → min (b + 0) 0xffff_ffff_ffff_ffff ≤ c → min (a + m) 0xffff_ffff_ffff_ffff ≤ c
+still a b c m h k = omega arith
 
 fewer : (a b m n : ℕ) → n ≤ m → min (a + m) 0xffff_ffff_ffff_ffff ≤ b → min (a + n) 0xffff_ffff_ffff_ffff ≤ b
 fewer a b m n l h = omega arith
@@ -24,44 +33,146 @@ own : (quiet : Bool) (a b : ℕ) → CountsOwn quiet a b → a ≤ b
 own true a b h = omega (arith, h)
 own false a b h = grind (arith, nat_tests)
 
+own-quiet : (quiet : Bool) (a b : ℕ) → CountsOwn quiet a b → quiet ≡ true → b ≡ a
+own-quiet true a b h e = h
+own-quiet false a b h e = absurd cc
+
 -- so many more are the sum
 pub more-sum : (m n : ℕ) → and_more m n ≡ m + n
 more-sum zero n = omega arith
 more-sum (suc m) n = let h = more-sum m n in omega (arith, h)
 
 -- so many more than so many more
-pub more-more : (a b c : ℕ) → and_more a (and_more b c) ≡ and_more (a + b) c
-more-more a b c =
+pub and_more-twice : (a b c : ℕ) → and_more a (and_more b c) ≡ and_more (a + b) c
+and_more-twice a b c =
     let x = more-sum a (and_more b c) in
     let y = more-sum b c in
     let z = more-sum (a + b) c in
     omega (arith, x, y, z)
 
+and-twice : (a b c : Bool) → (a && (b && c)) ≡ ((a && b) && c)
+and-twice true b c = refl
+and-twice false b c = refl
+
+and-true : (b : Bool) → (b && true) ≡ b
+and-true true = refl
+and-true false = refl
+
+and-between : (a b c : Bool) → ((a && b) && c) ≡ ((a && c) && b)
+and-between true true c = sym (and-true c)
+and-between true false true = refl
+and-between true false false = refl
+and-between false b c = refl
+
+-- what is noted of two that owe something is noted of both together
+pub more-more : (a b : Owed) (notes : Notes ℕ) → more a (more b notes) ≡ more (together a b) notes
+more-more a b notes =
+    ap (λ n. record notes { errors = n; is_quiet = a.is_quiet && (b.is_quiet && notes.is_quiet) }) (and_more-twice a.faults b.faults notes.errors)
+    ∙ ap (λ q. record notes { errors = and_more (a.faults + b.faults) notes.errors; is_quiet = q }) (and-twice a.is_quiet b.is_quiet notes.is_quiet)
+
+-- a token that is heard behind what is owed is owed with it
+pub heard-more : (quiet : Bool) (owed : Owed) (notes : Notes ℕ) → heard quiet (more owed notes) ≡ more (hearing quiet owed) notes
+heard-more quiet owed notes = ap (λ q. record (more owed notes) { is_quiet = q }) (and-between owed.is_quiet notes.is_quiet quiet)
+
+-- a fault is owed
+pub wronged-more : (fault : Fault) (notes : Notes ℕ) → wronged fault notes ≡ more (owed_for (Some fault)) notes
+wronged-more Grave notes = refl
+wronged-more Slight notes = refl
+
+-- what is heard as quiet owes nothing more
+pub hearing-quiet : (owed : Owed) → hearing true owed ≡ owed
+hearing-quiet owed = ap (λ q. record owed { is_quiet = q }) (and-true owed.is_quiet)
+
+-- One says no more than another of what errors rose by: it counts no more faults, and is quiet only where the other is.
+pub record IsNoMore (less greater : Owed) : Type 0 where
+  pub faults : less.faults ≤ greater.faults
+  pub quiet : less.is_quiet ≡ true → greater.is_quiet ≡ true
+
+-- what is owed behind a token that is heard, is so of what says no more
+pub no-more-heard : (quiet : Bool) (less greater : Owed) → IsNoMore less greater → IsNoMore (hearing quiet less) (hearing quiet greater)
+no-more-heard quiet less greater h = record { faults = h.faults; quiet = λ e. and_from greater.is_quiet quiet (h.quiet (and_parts less.is_quiet quiet e).0) (and_parts less.is_quiet quiet e).1 }
+
+pub no-more-same : (owed : Owed) → IsNoMore owed owed
+no-more-same owed = record { faults = omega arith; quiet = λ e. e }
+
+-- something slight says no more than a fault
+pub slight-no-more : IsNoMore (owed_for (Some Slight)) (owed_for (Some Grave))
+slight-no-more = record { faults = omega arith; quiet = λ e. absurd cc }
+
+pub slight-less : (odd : Bool) → IsNoMore (owed_for (slight_if odd)) (owed_for (grave_if odd))
+slight-less true = slight-no-more
+slight-less false = no-more-same nothing
+
+-- what is owed where control characters may be told besides says no more than what is owed and what such a character owes
+pub own-no-more : (exact : Bool) (c : ℕ) (owed : Owed) → IsNoMore (and_own exact owed) (together owed (owed_for_own exact c))
+own-no-more true c owed = record { faults = omega arith; quiet = λ e. absurd (true≢false (sym (and_parts owed.is_quiet false e).1)) }
+own-no-more false c owed = record { faults = omega arith; quiet = λ e. e }
+
+-- nor than what is owed
+pub and_own-no-more : (exact : Bool) (owed : Owed) → IsNoMore (and_own exact owed) owed
+and_own-no-more exact owed = record { faults = omega arith; quiet = λ e. (and_parts owed.is_quiet (not exact) e).0 }
+
+-- nor than nothing
+pub own-nothing : (exact : Bool) → IsNoMore (and_own exact nothing) nothing
+own-nothing exact = and_own-no-more exact nothing
+
+-- a fault with something slight beside it says no more than the fault
+pub slighted-no-more : (odd : Bool) (fault : Option Fault) → IsNoMore (owed_for (and_slight_if odd fault)) (owed_for fault)
+slighted-no-more true None = record { faults = omega arith; quiet = λ e. absurd cc }
+slighted-no-more true (Some Grave) = record { faults = omega arith; quiet = λ e. e }
+slighted-no-more true (Some Slight) = record { faults = omega arith; quiet = λ e. e }
+slighted-no-more false fault = record { faults = omega arith; quiet = λ e. e }
+
 module _ {K : Type 0} (errors : K → ℕ) where
   -- what rose by m, and then by n
-  pub rises-then : {m n : ℕ} (a b c : K) → Rises errors m a b → Rises errors n b c → Rises errors (n + m) a c
-  rises-then {m} {n} a b c h k = record { enough = capped (errors a) (errors b) (errors c) m n h.enough k.enough }
+  pub rises-then : {m n : Owed} (a b c : K) → Rises errors m a b → Rises errors n b c → Rises errors (together n m) a c
+  rises-then {m} {n} a b c h k = record {
+    enough = capped (errors a) (errors b) (errors c) m.faults n.faults h.enough k.enough;
+    none = λ e. k.none (and_parts n.is_quiet m.is_quiet e).0 ∙ h.none (and_parts n.is_quiet m.is_quiet e).1;
+  }
 
-  -- the same, counted one by one
-  pub rises-more : {m n : ℕ} (a b c : K) → Rises errors m a b → Rises errors n b c → Rises errors (and_more n m) a c
-  rises-more {m} {n} a b c h k = subst (λ x. Rises errors x a c) (sym (more-sum n m)) (rises-then a b c h k)
+  -- what rose by so much rose by what says no more
+  pub rises-less : {m n : Owed} (a b : K) → IsNoMore n m → Rises errors m a b → Rises errors n a b
+  rises-less {m} {n} a b l h = record {
+    enough = fewer (errors a) (errors b) m.faults n.faults l.faults h.enough;
+    none = λ e. h.none (l.quiet e);
+  }
 
-  -- what rose by many rose by few
-  pub rises-fewer : {m n : ℕ} (a b : K) → n ≤ m → Rises errors m a b → Rises errors n a b
-  rises-fewer {m} {n} a b l h = record { enough = fewer (errors a) (errors b) m n l h.enough }
-
-  -- what did not fall
-  pub rises-none : (a b : K) → errors a ≤ errors b → Rises errors 0 a b
-  rises-none a b h = record { enough = not-lowered (errors a) (errors b) h }
+  -- what rose by what is owed, and then by a token
+  pub rises-heard : {owed : Owed} (quiet : Bool) (a b c : K) → Rises errors owed a b → Rises errors (hearing quiet nothing) b c → Rises errors (hearing quiet owed) a c
+  rises-heard {owed} quiet a b c h k = record {
+    enough = still (errors a) (errors b) (errors c) owed.faults h.enough k.enough;
+    none = λ e. k.none (and_parts owed.is_quiet quiet e).1 ∙ h.none (and_parts owed.is_quiet quiet e).0;
+  }
 
   -- what is as it was
-  pub rises-same : (a b : K) → b ≡ a → Rises errors 0 a b
-  rises-same a b h = rises-none a b (not-less (errors a) (errors b) (ap errors h))
+  pub rises-same : (a b : K) → b ≡ a → Rises errors nothing a b
+  rises-same a b h = record { enough = not-lowered (errors a) (errors b) (not-less (errors a) (errors b) (ap errors h)); none = λ e. ap errors h }
+
+  -- what is as it was, where something slight may be owed
+  pub rises-slight : (odd : Bool) (a b : K) → b ≡ a → Rises errors (owed_for (slight_if odd)) a b
+  rises-slight true a b h = record { enough = not-lowered (errors a) (errors b) (not-less (errors a) (errors b) (ap errors h)); none = λ e. ap errors h }
+  rises-slight false a b h = rises-same a b h
 
   -- one error was told
-  pub rises-one : (a b : K) → errors b ≡ one_more (errors a) → Rises errors 1 a b
-  rises-one a b h = record { enough = one (errors a) (errors b) h }
+  pub rises-one : (a b : K) → errors b ≡ one_more (errors a) → Rises errors (owed_for (Some Grave)) a b
+  rises-one a b h = record { enough = one (errors a) (errors b) h; none = λ e. absurd cc }
 
   -- a token that is no error was told
-  pub rises-own : (quiet : Bool) (a b : K) → CountsOwn quiet (errors a) (errors b) → Rises errors 0 a b
-  rises-own quiet a b h = rises-none a b (own quiet (errors a) (errors b) h)
+  pub rises-own : (quiet : Bool) (a b : K) → CountsOwn quiet (errors a) (errors b) → Rises errors (hearing quiet nothing) a b
+  rises-own quiet a b h = record { enough = not-lowered (errors a) (errors b) (own quiet (errors a) (errors b) h); none = λ e. own-quiet quiet (errors a) (errors b) h e }
+
+  -- what rose by m, and then by n, where control characters may be told besides
+  pub rises-besides : (exact : Bool) (m n : Owed) (a b c : K) → Rises errors (and_own exact m) a b → Rises errors (and_own exact n) b c → Rises errors (and_own exact (together n m)) a c
+  rises-besides exact m n a b c h k = record {
+    enough = capped (errors a) (errors b) (errors c) m.faults n.faults h.enough k.enough;
+    none = λ e.
+        let p = and_parts (n.is_quiet && m.is_quiet) (not exact) e in
+        let q = and_parts n.is_quiet m.is_quiet p.0 in
+        k.none (and_from n.is_quiet (not exact) q.0 p.1) ∙ h.none (and_from m.is_quiet (not exact) q.1 p.1);
+  }
+
+  -- the same of what the sink says of a token
+  pub rises-told : {R : Type 0} (quiet : Bool) (token : Token) → IsNoTag token → (reply : R) (a b : K) → Counts quiet token (Ok reply) (errors a) (errors b) → Rises errors (hearing quiet nothing) a b
+  rises-told quiet (ParseError message) none reply a b h = absurd none
+  rises-told quiet _ none reply a b h = rises-own quiet a b h

@@ -1,11 +1,11 @@
 -- How a reading goes on by one character that is no line break, and by a run of text.
-use Rattle.std.proofs.Common.{◌≡◌, ◌∙◌, ℕ, ◌+◌, Bool, false, nat_eq, List, [], ◌∷◌, ◌++◌, Result, Ok, Err, refl, ap}
+use Rattle.std.proofs.Common.{◌≡◌, ◌∙◌, ℕ, ◌+◌, Bool, false, nat_eq, List, [], ◌∷◌, ◌++◌, Result, Ok, Err, refl, ap, Option}
 use Rattle.html_tokens.specs.Notes.{NotedStep}
 use Rattle.html_tokens.specs.declared.token.Token.{Token}
 use Rattle.html_tokens.specs.declared.token.Token.TheVariants.{CharacterTokens}
-use Rattle.html_tokens.specs.Item.{Stand, told_as, character}
+use Rattle.html_tokens.specs.Item.{Fault, Stand, told_as, character}
 use Rattle.html_tokens.specs.Items.{item}
-use Rattle.html_tokens.specs.Reading.{◌>>=◌, erred_if, line_number, line_break, reading}
+use Rattle.html_tokens.specs.Reading.{◌>>=◌, erred_by, line_number, line_break, reading}
 use Rattle.html_tokens.specs.Table.{Row}
 use Rattle.html_tokens.proofs.Readings.{bind_where}
 use Rattle.std.proofs.lemmas.Result.{IfOk-weaker}
@@ -18,15 +18,15 @@ bind-again : {A B C F : Type 0} (r : Result A F) (f : A → Result B F) (g : B �
 bind-again (Ok x) f g = refl
 bind-again (Err e) f g = refl
 
-module _ {T : Type 0} (sound : T → Type 0) (step : NotedStep T) (erred : T → T) (cdata : T → Bool) (ends : T → T) (rows : List Row) (laws : Lawful sound step) where
+module _ {T : Type 0} (sound : T → Type 0) (step : NotedStep T) (erred : Fault → T → T) (cdata : T → Bool) (ends : T → T) (rows : List Row) (laws : Lawful sound step) where
   -- a character that is read as a token that is no tag, and is no line break
-  pub reading-token : (faulty : Bool) (st next : Stand) (b : ℕ) (s : T) → sound (erred_if erred faulty s) → (c : ℕ) (t : List ℕ) (token : Token) → IsNoTag token → nat_eq c 10 ≡ false → item rows (cdata s) st c t ≡ told_as faulty token 1 next
-      → reading step erred cdata ends rows st b s (c ∷ t) ≡ (step (erred_if erred faulty s) token (line_number b) >>= λ p. reading step erred cdata ends rows next (b + line_break (nat_eq c 10)) p.0 t)
-  reading-token faulty st next b s h c t token none unbroken e =
+  pub reading-token : (fault : Option Fault) (st next : Stand) (b : ℕ) (s : T) → sound (erred_by erred fault s) → (c : ℕ) (t : List ℕ) (token : Token) → IsNoTag token → nat_eq c 10 ≡ false → item rows (cdata s) st c t ≡ told_as fault token 1 next
+      → reading step erred cdata ends rows st b s (c ∷ t) ≡ (step (erred_by erred fault s) token (line_number b) >>= λ p. reading step erred cdata ends rows next (b + line_break (nat_eq c 10)) p.0 t)
+  reading-token fault st next b s h c t token none unbroken e =
       let read = b + line_break (nat_eq c 10) in
-      let q = erred_if erred faulty s in
-      reading-is step erred cdata ends rows st b s c t (told_as faulty token 0 next) e
-      ∙ play-told_as sound step erred cdata ends rows laws faulty token 0 next read s h t none
+      let q = erred_by erred fault s in
+      reading-is step erred cdata ends rows st b s c t (told_as fault token 0 next) e
+      ∙ play-told_as sound step erred cdata ends rows laws fault token 0 next read s h t none
       ∙ ap (λ n. step q token (line_number n) >>= λ p. reading step erred cdata ends rows next n p.0 t) (sum-zero read)
       ∙ ap (λ n. step q token (line_number n) >>= λ p. reading step erred cdata ends rows next read p.0 t) (no-break b c unbroken)
 

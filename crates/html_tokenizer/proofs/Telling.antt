@@ -13,13 +13,13 @@ use Rattle.html_tokens.specs.Sink.{Step, Refusal}
 use Rattle.html_tokenizer.specs.CharRefs.{fits_in, may_hold}
 use Rattle.html_tokenizer.specs.declared.tokenizer.Tokenizer.{Tokenizer}
 use Rattle.html_tokenizer.specs.Rest.{pending, held_at}
-use Rattle.html_tokenizer.specs.Steps.{IsAt, more, Fails, Told, TakesAs, Took, Keeps, now}
+use Rattle.html_tokenizer.specs.Steps.{Owed, IsAt, more, Fails, Told, TakesAs, Took, Keeps, now, nothing}
 use Rattle.html_tokenizer.proofs.Rises.{rises-same}
 use Rattle.html_tokenizer.proofs.Glue.{at, now-at, Says, took_told, keeps_told, token-fails, no-break}
 
-module _ {K S H : Type 0} (step : Step S) (view : K → S) (cdata : S → Bool) (ends : S → S) (sound : S → Type 0) (number : H → ℕ) (broken : K → Bool) (errors : K → ℕ) where
+module _ {K S H : Type 0} (step : Step S) (view : K → S) (cdata : S → Bool) (ends : S → S) (sound : S → Type 0) (number : H → ℕ) (broken : K → Bool) (errors : K → ℕ) (quiet : S → Token → Bool) where
   -- where only the state and what is held were set before a token was told
-  told-from : {owed : ℕ} (old target new : Tokenizer K) (token : Token) → target.sink ≡ old.sink → target.stream ≡ old.stream → Told step view cdata ends sound number broken errors owed token target new → Told step view cdata ends sound number broken errors owed token old (record old { sink = new.sink })
+  told-from : {owed : Owed} (old target new : Tokenizer K) (token : Token) → target.sink ≡ old.sink → target.stream ≡ old.stream → Told step view cdata ends sound number broken errors quiet owed token target new → Told step view cdata ends sound number broken errors quiet owed token old (record old { sink = new.sink })
   told-from old target new token same stream told = record {
     gives = λ line e. ap (λ k. step (view k) token line) (sym same) ∙ told.gives line (e ∙ ap (λ x. line_number x.breaks) (sym stream));
     changed = refl;
@@ -28,25 +28,25 @@ module _ {K S H : Type 0} (step : Step S) (view : K → S) (cdata : S → Bool) 
     rises = rw (← same) told.rises;
   }
 
-  fails-from : (old target : Tokenizer K) (token : Token) (fault : ParseFault) → target.sink ≡ old.sink → target.stream ≡ old.stream → Fails step view cdata ends sound number broken errors target.sink (step (view target.sink) token (line_number target.stream.breaks)) fault → Fails step view cdata ends sound number broken errors old.sink (step (view old.sink) token (line_number old.stream.breaks)) fault
+  fails-from : (old target : Tokenizer K) (token : Token) (fault : ParseFault) → target.sink ≡ old.sink → target.stream ≡ old.stream → Fails step view cdata ends sound number broken errors quiet target.sink (step (view target.sink) token (line_number target.stream.breaks)) fault → Fails step view cdata ends sound number broken errors quiet old.sink (step (view old.sink) token (line_number old.stream.breaks)) fault
   fails-from old target token fault same stream h = rw (← same, ← stream) h
 
   -- The token that is told next could not be told.
-  pub not-told : (owed : ℕ) (old new : Tokenizer K) (c : ℕ) (st : State) (token : Token) (fault : ParseFault) (next : ℕ → S × Notes ℕ → List ℕ → Result (S × Notes ℕ) (Refusal × ℕ))
-      → IsAt old st → sound (view old.sink) → Fails step view cdata ends sound number broken errors old.sink (step (view old.sink) token (line_number old.stream.breaks)) fault
-      → Says step view cdata ends sound number broken errors st old c owed token next
-      → Keeps step view cdata ends sound number broken errors old new c (Err fault)
+  pub not-told : (owed : Owed) (old new : Tokenizer K) (c : ℕ) (st : State) (token : Token) (fault : ParseFault) (next : ℕ → S × Notes ℕ → List ℕ → Result (S × Notes ℕ) (Refusal × ℕ))
+      → IsAt old st → sound (view old.sink) → Fails step view cdata ends sound number broken errors quiet old.sink (step (view old.sink) token (line_number old.stream.breaks)) fault
+      → Says step view cdata ends sound number broken errors quiet st old c owed token next
+      → Keeps step view cdata ends sound number broken errors quiet old new c (Err fault)
   not-told owed old new c st token fault next from ok fails law = λ notes t.
-      token-fails step view cdata ends sound number broken errors old.sink _ (view old.sink) (more owed notes) token (line_number old.stream.breaks) fault _ fails
-      (now-at step view cdata ends sound number broken errors old st old.stream.breaks (view old.sink, notes) (c ∷ t) from ∙ law old.stream.breaks (view old.sink, notes) ok t)
+      token-fails step view cdata ends sound number broken errors quiet old.sink _ (view old.sink) (more owed notes) token (line_number old.stream.breaks) fault _ fails
+      (now-at step view cdata ends sound number broken errors quiet old st old.stream.breaks (view old.sink, notes) (c ∷ t) from ∙ law old.stream.breaks (view old.sink, notes) ok t)
 
   -- The state was set, and the character taken as this token.
-  pub keeps_taken : (owed : ℕ) (old target new : Tokenizer K) (c : ℕ) (st st' : State) (token : Token) (result : Result (ProcessResult H) ParseFault) → IsAt old st → IsAt target st' → target.sink ≡ old.sink → target.stream ≡ old.stream → sound (view old.sink)
-      → TakesAs step view cdata ends sound number broken errors owed token target new result
-      → Says step view cdata ends sound number broken errors st old c owed token (λ b s t. at step view cdata ends sound number broken errors st' target (b + line_break (nat_eq c 10)) s t)
-      → Keeps step view cdata ends sound number broken errors old new c result
+  pub keeps_taken : (owed : Owed) (old target new : Tokenizer K) (c : ℕ) (st st' : State) (token : Token) (result : Result (ProcessResult H) ParseFault) → IsAt old st → IsAt target st' → target.sink ≡ old.sink → target.stream ≡ old.stream → sound (view old.sink)
+      → TakesAs step view cdata ends sound number broken errors quiet owed token target new result
+      → Says step view cdata ends sound number broken errors quiet st old c owed token (λ b s t. at step view cdata ends sound number broken errors quiet st' target (b + line_break (nat_eq c 10)) s t)
+      → Keeps step view cdata ends sound number broken errors quiet old new c result
   keeps_taken owed old target new c st st' token (Ok flow.Continue) from to same stream ok told law =
-      took_told step view cdata ends sound number broken errors old (record old { sink = new.sink }) new target c st st' token from ok (told-from old target new token same stream told) told.changed to stream law
+      took_told step view cdata ends sound number broken errors quiet old (record old { sink = new.sink }) new target c st st' token from ok (told-from old target new token same stream told) told.changed to stream law
   keeps_taken owed old target new c st st' token (Ok flow.Suspend) from to same stream ok told law = absurd told
   keeps_taken owed old target new c st st' token (Ok (flow.Script handle)) from to same stream ok told law = absurd told
   keeps_taken owed old target new c st st' token (Ok (flow.EncodingIndicator label)) from to same stream ok told law = absurd told
@@ -54,40 +54,40 @@ module _ {K S H : Type 0} (step : Step S) (view : K → S) (cdata : S → Bool) 
       not-told owed old new c st token fault _ from ok (fails-from old target token fault same stream fails) law
 
   -- The state was set, a token told, and then the character is taken by that state.
-  pub keeps_then : {owed : ℕ} (old target mid new : Tokenizer K) (c : ℕ) (st st' : State) (token : Token) (result : Result (ProcessResult H) ParseFault) → IsAt old st → IsAt target st' → target.sink ≡ old.sink → target.stream ≡ old.stream → sound (view old.sink)
-      → Told step view cdata ends sound number broken errors owed token target mid
-      → Says step view cdata ends sound number broken errors st old c owed token (λ b s t. at step view cdata ends sound number broken errors st' target b s (c ∷ t))
-      → Keeps step view cdata ends sound number broken errors mid new c result → Keeps step view cdata ends sound number broken errors old new c result
+  pub keeps_then : {owed : Owed} (old target mid new : Tokenizer K) (c : ℕ) (st st' : State) (token : Token) (result : Result (ProcessResult H) ParseFault) → IsAt old st → IsAt target st' → target.sink ≡ old.sink → target.stream ≡ old.stream → sound (view old.sink)
+      → Told step view cdata ends sound number broken errors quiet owed token target mid
+      → Says step view cdata ends sound number broken errors quiet st old c owed token (λ b s t. at step view cdata ends sound number broken errors quiet st' target b s (c ∷ t))
+      → Keeps step view cdata ends sound number broken errors quiet mid new c result → Keeps step view cdata ends sound number broken errors quiet old new c result
   keeps_then old target mid new c st st' token result from to same stream ok told law h =
-      keeps_told step view cdata ends sound number broken errors old (record old { sink = mid.sink }) mid new target c st st' token result from ok (told-from old target mid token same stream told) told.changed to stream law h
+      keeps_told step view cdata ends sound number broken errors quiet old (record old { sink = mid.sink }) mid new target c st st' token result from ok (told-from old target mid token same stream told) told.changed to stream law h
 
   -- The state was set, and the token that is told next could not be told.
-  pub not-told_from : (owed : ℕ) (old target new : Tokenizer K) (c : ℕ) (st : State) (token : Token) (result : Result (ProcessResult H) ParseFault) (fault : ParseFault) (next : ℕ → S × Notes ℕ → List ℕ → Result (S × Notes ℕ) (Refusal × ℕ))
+  pub not-told_from : (owed : Owed) (old target new : Tokenizer K) (c : ℕ) (st : State) (token : Token) (result : Result (ProcessResult H) ParseFault) (fault : ParseFault) (next : ℕ → S × Notes ℕ → List ℕ → Result (S × Notes ℕ) (Refusal × ℕ))
       → IsAt old st → target.sink ≡ old.sink → target.stream ≡ old.stream → sound (view old.sink) → IsErrAnd result (λ y. y ≡ fault)
-      → Fails step view cdata ends sound number broken errors target.sink (step (view target.sink) token (line_number target.stream.breaks)) fault
-      → Says step view cdata ends sound number broken errors st old c owed token next
-      → Keeps step view cdata ends sound number broken errors old new c result
+      → Fails step view cdata ends sound number broken errors quiet target.sink (step (view target.sink) token (line_number target.stream.breaks)) fault
+      → Says step view cdata ends sound number broken errors quiet st old c owed token next
+      → Keeps step view cdata ends sound number broken errors quiet old new c result
   not-told_from owed old target new c st token result fault next from same stream ok is fails law =
       let p = err_from_is_err_and result is in
       rw (p.1, p.2) (not-told owed old new c st token fault next from ok (fails-from old target token fault same stream fails) law)
 
   -- what is to come where a reference has begun
-  begun : (k : Tokenizer K) (st : State) (b : ℕ) (s : S × Notes ℕ) (t : List ℕ) → k.state ≡ st → k.char_ref ≡ Some [] → now step view cdata ends sound number broken errors k b s t ≡ at step view cdata ends sound number broken errors st k b s (38 ∷ t)
-  begun k st b s t e f = ap (λ r. held_at (noting step) noting_error (noting_cdata cdata) (noting_end ends) k.state k b s (pending r ++ t)) f ∙ ap (λ x. held_at (noting step) noting_error (noting_cdata cdata) (noting_end ends) x k b s (38 ∷ t)) e
+  begun : (k : Tokenizer K) (st : State) (b : ℕ) (s : S × Notes ℕ) (t : List ℕ) → k.state ≡ st → k.char_ref ≡ Some [] → now step view cdata ends sound number broken errors quiet k b s t ≡ at step view cdata ends sound number broken errors quiet st k b s (38 ∷ t)
+  begun k st b s t e f = ap (λ r. held_at (noting step quiet) noting_error (noting_cdata cdata) (noting_end ends) k.state k b s (pending r ++ t)) f ∙ ap (λ x. held_at (noting step quiet) noting_error (noting_cdata cdata) (noting_end ends) x k b s (38 ∷ t)) e
 
   -- A reference begins.
   pub took_reference : (old new : Tokenizer K) (c : ℕ) (st : State) → IsAt old st → may_hold st ≡ true → nat_eq c 10 ≡ false → new.state ≡ st → new.char_ref ≡ Some [] → new.stream ≡ old.stream → new.sink ≡ old.sink → sound (view old.sink)
-      → ((b : ℕ) (s : S × Notes ℕ) (t : List ℕ) → at step view cdata ends sound number broken errors st old b s (c ∷ t) ≡ at step view cdata ends sound number broken errors st new b s (38 ∷ t))
-      → Took step view cdata ends sound number broken errors old new c flow.Continue
+      → ((b : ℕ) (s : S × Notes ℕ) (t : List ℕ) → at step view cdata ends sound number broken errors quiet st old b s (c ∷ t) ≡ at step view cdata ends sound number broken errors quiet st new b s (38 ∷ t))
+      → Took step view cdata ends sound number broken errors quiet old new c flow.Continue
   took_reference old new c st from fits unbroken state held stream same ok law = record {
-    owed = 0;
+    owed = nothing;
     rises = rises-same errors old.sink new.sink same;
     same = λ notes t.
-        now-at step view cdata ends sound number broken errors old st old.stream.breaks (view old.sink, notes) (c ∷ t) from
+        now-at step view cdata ends sound number broken errors quiet old st old.stream.breaks (view old.sink, notes) (c ∷ t) from
         ∙ law old.stream.breaks (view old.sink, notes) t
         ∙ sym (begun new st old.stream.breaks (view old.sink, notes) t state held)
-        ∙ ap (λ k. now step view cdata ends sound number broken errors new old.stream.breaks (view k, notes) t) (sym same)
-        ∙ ap (λ n. now step view cdata ends sound number broken errors new n (view new.sink, notes) t) (sym (no-break old.stream.breaks c unbroken));
+        ∙ ap (λ k. now step view cdata ends sound number broken errors quiet new old.stream.breaks (view k, notes) t) (sym same)
+        ∙ ap (λ n. now step view cdata ends sound number broken errors quiet new n (view new.sink, notes) t) (sym (no-break old.stream.breaks c unbroken));
     stream = stream;
     sound = rw same ok;
     fits = ap (λ r. fits_in r new.state) held ∙ (ap may_hold state ∙ fits);

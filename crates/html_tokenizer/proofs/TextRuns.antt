@@ -1,5 +1,5 @@
 -- What the machine makes of a run of text.
-use Rattle.std.proofs.Common.{◌≡◌, ◌≢◌, ◌∙◌, ℕ, ◌+◌, ◌<◌, Bool, true, false, nat_eq, List, [], ◌∷◌, ◌++◌, length, Some, Result, Ok, Err, refl, sym, ap, arith, append_assoc, append-nil, inl, inr}
+use Rattle.std.proofs.Common.{◌≡◌, ◌≢◌, ◌∙◌, ℕ, ◌<◌, Bool, true, false, nat_eq, List, [], ◌∷◌, ◌++◌, length, Some, Result, Ok, Err, refl, sym, ap, arith, append_assoc, append-nil, inl, inr}
 use Rattle.std.specs.Prelude.{◌&&◌, ◌⊎◌, All, OnOk, IfErr}
 use Rattle.std.proofs.lemmas.List.Elements.{All-head, All-tail}
 use Rattle.markup.specs.declared.fault.ParseFault.{ParseFault}
@@ -17,7 +17,7 @@ use Rattle.html_tokens.specs.declared.states.State.TheVariants as state
 use Rattle.html_tokens.specs.declared.token.Token.{Token}
 use Rattle.html_tokens.specs.declared.token.Token.TheVariants.{CharacterTokens}
 use Rattle.html_tokens.specs.Characters.{shown}
-use Rattle.html_tokens.specs.Item.{Place, InData, InPlaintext, InRaw, Stand, character}
+use Rattle.html_tokens.specs.Item.{Fault, Place, InData, InPlaintext, InRaw, Stand, character}
 use Rattle.html_tokens.specs.Items.{item}
 use Rattle.html_tokens.specs.Notes.{NotedStep, Notes, noting, noting_error, noting_cdata, noting_end}
 use Rattle.html_tokens.specs.RawText.{has_references, kind_behind}
@@ -29,7 +29,7 @@ use Rattle.html_tokenizer.specs.CharRefs.{fits_in}
 use Rattle.html_tokenizer.specs.declared.tokenizer.Tokenizer.{Tokenizer}
 use Rattle.html_tokenizer.specs.Quotes.{quote_of}
 use Rattle.html_tokenizer.specs.Rest.{rows_of, standing, held_at}
-use Rattle.html_tokenizer.specs.Steps.{IsAt, more, Tells, Took, now}
+use Rattle.html_tokenizer.specs.Steps.{IsAt, more, Tells, Took, now, nothing, hearing, together}
 use Rattle.html_tokenizer.specs.Stops.{with_breaks, raw_stops, value_stops, state_stops, IsRunAt}
 use Rattle.html_tokenizer.proofs.AttributeValues.{quoted-more}
 use Rattle.html_tokenizer.proofs.Comments.{bogus-push, comment-push}
@@ -44,7 +44,7 @@ use Rattle.html_tokenizer.proofs.Sets.{differs, not-member}
 
 -- READINGS
 
-module _ {T : Type 0} (sound : T → Type 0) (step : NotedStep T) (erred : T → T) (cdata : T → Bool) (ends : T → T) (rows : List Row) (laws : Lawful sound step) where
+module _ {T : Type 0} (sound : T → Type 0) (step : NotedStep T) (erred : Fault → T → T) (cdata : T → Bool) (ends : T → T) (rows : List Row) (laws : Lawful sound step) where
   -- Each character that is not in a set, which has the line feed, is read as itself.
   module _ (bits : ℕ) (unbroken : has bits 10 ≡ true) (st : Stand) (plain : (c : ℕ) → has bits c ≡ false → (x : Bool) (t : List ℕ) → item rows x st c t ≡ character c st) where
     one-told : (b : ℕ) (s : T) → sound s → (c : ℕ) (t : List ℕ) (l : ℕ) → has bits c ≡ false
@@ -125,41 +125,41 @@ lacking-in a b run e lacking = rw (some-same a b e) lacking
 
 -- STATES
 
-module _ {K S H : Type 0} (step : Step S) (view : K → S) (cdata : S → Bool) (ends : S → S) (sound : S → Type 0) (number : H → ℕ) (broken : K → Bool) (errors : K → ℕ) where
+module _ {K S H : Type 0} (step : Step S) (view : K → S) (cdata : S → Bool) (ends : S → S) (sound : S → Type 0) (number : H → ℕ) (broken : K → Bool) (errors : K → ℕ) (quiet : S → Token → Bool) where
   -- A run is told next, as one text.
   abbrev RunSays : State → Tokenizer K → List ℕ → Type 0
-  RunSays st old run = (b : ℕ) (s : S × Notes ℕ) → sound s.0 → (t : List ℕ) → at step view cdata ends sound number broken errors st old b s (run ++ t) ≡ (noting step s (CharacterTokens run) (line_number b) >>= λ p. at step view cdata ends sound number broken errors st old b p.0 t)
+  RunSays st old run = (b : ℕ) (s : S × Notes ℕ) → sound s.0 → (t : List ℕ) → at step view cdata ends sound number broken errors quiet st old b s (run ++ t) ≡ (noting step quiet s (CharacterTokens run) (line_number b) >>= λ p. at step view cdata ends sound number broken errors quiet st old b p.0 t)
 
-  run-kept : (old new : Tokenizer K) (run : List ℕ) (st : State) (result : Result (Unit {0}) ParseFault) → IsAt old st → sound (view old.sink) → Tells step view cdata ends sound number broken errors 0 (CharacterTokens run) old new result → RunSays st old run
-      → KeepsRun step view cdata ends sound number broken errors old new run result
+  run-kept : (old new : Tokenizer K) (run : List ℕ) (st : State) (result : Result (Unit {0}) ParseFault) → IsAt old st → sound (view old.sink) → Tells step view cdata ends sound number broken errors quiet nothing (CharacterTokens run) old new result → RunSays st old run
+      → KeepsRun step view cdata ends sound number broken errors quiet old new run result
   run-kept old new run st (Ok x) from ok told law = record {
-    owed = 0;
+    owed = hearing (quiet (view old.sink) (CharacterTokens run)) nothing;
     rises = told.rises;
     same = λ notes t.
-        now-at step view cdata ends sound number broken errors old st old.stream.breaks (view old.sink, notes) (run ++ t) from
+        now-at step view cdata ends sound number broken errors quiet old st old.stream.breaks (view old.sink, notes) (run ++ t) from
         ∙ law old.stream.breaks (view old.sink, notes) ok t
-        ∙ told-next step view cdata ends sound number broken errors old new (CharacterTokens run) notes (λ s. at step view cdata ends sound number broken errors st old old.stream.breaks s t) told
-        ∙ sym (now-target step view cdata ends sound number broken errors old new.sink st old.stream.breaks (view new.sink, notes) t from)
-        ∙ sym (ap (λ k. now step view cdata ends sound number broken errors k old.stream.breaks (view new.sink, notes) t) told.changed);
+        ∙ told-next step view cdata ends sound number broken errors quiet nothing old new (CharacterTokens run) notes (λ s. at step view cdata ends sound number broken errors quiet st old old.stream.breaks s t) told
+        ∙ sym (now-target step view cdata ends sound number broken errors quiet old new.sink st old.stream.breaks (view new.sink, more (hearing (quiet (view old.sink) (CharacterTokens run)) nothing) notes) t from)
+        ∙ sym (ap (λ k. now step view cdata ends sound number broken errors quiet k old.stream.breaks (view new.sink, more (hearing (quiet (view old.sink) (CharacterTokens run)) nothing) notes) t) told.changed);
     stream = ap (λ k. k.stream) told.changed;
     sound = told.sound;
     fits = ap (λ k. fits_in k.char_ref k.state) told.changed ∙ fits-at old st from;
     works = λ h. told-works told.works h;
   }
   run-kept old new run st (Err fault) from ok fails law = λ notes t.
-      token-fails step view cdata ends sound number broken errors old.sink _ (view old.sink) notes (CharacterTokens run) (line_number old.stream.breaks) fault _ fails
-      (now-at step view cdata ends sound number broken errors old st old.stream.breaks (view old.sink, notes) (run ++ t) from ∙ law old.stream.breaks (view old.sink, notes) ok t)
+      token-fails step view cdata ends sound number broken errors quiet old.sink _ (view old.sink) notes (CharacterTokens run) (line_number old.stream.breaks) fault _ fails
+      (now-at step view cdata ends sound number broken errors quiet old st old.stream.breaks (view old.sink, notes) (run ++ t) from ∙ law old.stream.breaks (view old.sink, notes) ok t)
 
   -- A character was taken, and then a run.
-  took-then : (old mid new : Tokenizer K) (c : ℕ) (run : List ℕ) → nat_eq c 10 ≡ false → Took step view cdata ends sound number broken errors old mid c flow.Continue → TookRun step view cdata ends sound number broken errors mid new run → TookRun step view cdata ends sound number broken errors old new (c ∷ run)
+  took-then : (old mid new : Tokenizer K) (c : ℕ) (run : List ℕ) → nat_eq c 10 ≡ false → Took step view cdata ends sound number broken errors quiet old mid c flow.Continue → TookRun step view cdata ends sound number broken errors quiet mid new run → TookRun step view cdata ends sound number broken errors quiet old new (c ∷ run)
   took-then old mid new c run unbroken first rest = record {
-    owed = rest.owed + first.owed;
+    owed = together rest.owed first.owed;
     rises = rises-then errors old.sink mid.sink new.sink first.rises rest.rises;
     same = λ notes t.
         first.same notes (run ++ t)
-        ∙ ap (λ n. now step view cdata ends sound number broken errors mid n (view mid.sink, more first.owed notes) (run ++ t)) (no-break old.stream.breaks c unbroken)
+        ∙ ap (λ n. now step view cdata ends sound number broken errors quiet mid n (view mid.sink, more first.owed notes) (run ++ t)) (no-break old.stream.breaks c unbroken)
         ∙ (rw (← first.stream) (rest.same (more first.owed notes) t))
-        ∙ ap (λ n. now step view cdata ends sound number broken errors new old.stream.breaks (view new.sink, record notes { errors = n }) t) (more-more rest.owed first.owed notes.errors);
+        ∙ ap (λ n. now step view cdata ends sound number broken errors quiet new old.stream.breaks (view new.sink, n) t) (more-more rest.owed first.owed notes);
     stream = rest.stream ∙ first.stream;
     sound = rest.sound;
     fits = rest.fits;
@@ -168,9 +168,9 @@ module _ {K S H : Type 0} (step : Step S) (view : K → S) (cdata : S → Bool) 
 
   -- A machine by what it holds of a text, where each character that is not in a set is held behind the others.
   module _ (machine : List ℕ → Tokenizer K) (bits : ℕ) (unbroken : has bits 10 ≡ true) (ok : (front : List ℕ) → sound (view (machine front).sink)) (fits : (front : List ℕ) → fits_in (machine front).char_ref (machine front).state ≡ true)
-      (each : (front : List ℕ) (c : ℕ) → has bits c ≡ false → Took step view cdata ends sound number broken errors (machine front) (machine (front ++ c ∷ [])) c flow.Continue) where
-    run-held : (front run : List ℕ) → All (λ c. has bits c ≡ false) run → TookRun step view cdata ends sound number broken errors (machine front) (machine (front ++ run)) run
-    run-held front [] lacking = rw (append-nil front) (record { owed = 0; rises = rises-same errors (machine front).sink (machine front).sink refl; same = λ notes t. refl; stream = refl; sound = ok front; fits = fits front; works = λ h. h })
+      (each : (front : List ℕ) (c : ℕ) → has bits c ≡ false → Took step view cdata ends sound number broken errors quiet (machine front) (machine (front ++ c ∷ [])) c flow.Continue) where
+    run-held : (front run : List ℕ) → All (λ c. has bits c ≡ false) run → TookRun step view cdata ends sound number broken errors quiet (machine front) (machine (front ++ run)) run
+    run-held front [] lacking = rw (append-nil front) (record { owed = nothing; rises = rises-same errors (machine front).sink (machine front).sink refl; same = λ notes t. refl; stream = refl; sound = ok front; fits = fits front; works = λ h. h })
     run-held front (c ∷ run) lacking =
         let lacks = All-head (λ c. has bits c ≡ false) c run lacking in
         rw (append_assoc front (c ∷ []) run) at (
@@ -178,22 +178,22 @@ module _ {K S H : Type 0} (step : Step S) (view : K → S) (cdata : S → Bool) 
         (run-held (front ++ c ∷ []) run (All-tail (λ c. has bits c ≡ false) c run lacking)))
 
   -- A run is held, if there is memory.
-  held-kept : (old : Tokenizer K) (machine : List ℕ → Tokenizer K) (front whole run : List ℕ) (result : Result (Unit {0}) ParseFault) → OnOk result (front ≡ whole) → IfErr result (λ fault. fault ≡ Memory) → TookRun step view cdata ends sound number broken errors old (machine whole) run
-      → KeepsRun step view cdata ends sound number broken errors old (machine front) run result
+  held-kept : (old : Tokenizer K) (machine : List ℕ → Tokenizer K) (front whole run : List ℕ) (result : Result (Unit {0}) ParseFault) → OnOk result (front ≡ whole) → IfErr result (λ fault. fault ≡ Memory) → TookRun step view cdata ends sound number broken errors quiet old (machine whole) run
+      → KeepsRun step view cdata ends sound number broken errors quiet old (machine front) run result
   held-kept old machine front whole run (Ok x) is fault took = rw is took
   held-kept old machine front whole run (Err e) is fault took = rw fault (λ notes t. tt)
 
   quoted-run : (old : Tokenizer K) (kind : AttrValueKind) (quote : ℕ) (bits : ℕ) (run : List ℕ) → IsAt old (state.AttributeValue kind) → sound (view old.sink) → quote_of kind ≡ Some quote
       → has bits 0 ≡ true → has bits 10 ≡ true → has bits 38 ≡ true → has bits quote ≡ true → All (λ c. has bits c ≡ false) run
-      → TookRun step view cdata ends sound number broken errors old (record old { attribute_value = old.attribute_value ++ run }) run
+      → TookRun step view cdata ends sound number broken errors quiet old (record old { attribute_value = old.attribute_value ++ run }) run
   quoted-run old kind quote bits run from ok quoted null unbroken amp ended lacking =
       run-held (λ front. record old { attribute_value = front }) bits unbroken (λ front. ok) (λ front. fits-at old (state.AttributeValue kind) from)
-      (λ front c lacks. quoted-more step view cdata ends sound number broken errors (record old { attribute_value = front }) kind quote c (front ++ c ∷ []) (record { state = from.state; fresh = from.fresh }) ok quoted (differs bits c quote ended lacks) (differs bits c 38 amp lacks) (ap (λ d. front ++ d ∷ []) (sym (shown-same c (not-member bits c 0 null lacks)))))
+      (λ front c lacks. quoted-more step view cdata ends sound number broken errors quiet (record old { attribute_value = front }) kind quote c (front ++ c ∷ []) (record { state = from.state; fresh = from.fresh }) ok quoted (differs bits c quote ended lacks) (differs bits c 38 amp lacks) (ap (λ d. front ++ d ∷ []) (sym (shown-same c (not-member bits c 0 null lacks)))))
       old.attribute_value run lacking
 
   -- a run of an attribute's value
   value-run : (old : Tokenizer K) (kind : AttrValueKind) (run : List ℕ) → IsAt old (state.AttributeValue kind) → sound (view old.sink) → (set : SmallCharSet) → value_stops kind ≡ Some set → All (λ c. has set.bits c ≡ false) run
-      → TookRun step view cdata ends sound number broken errors old (record old { attribute_value = old.attribute_value ++ run }) run
+      → TookRun step view cdata ends sound number broken errors quiet old (record old { attribute_value = old.attribute_value ++ run }) run
   value-run old value.Unquoted run from ok set are lacking = absurd cc
   value-run old value.SingleQuoted run from ok set are lacking =
       quoted-run old value.SingleQuoted 39 (with_breaks (38 ∷ 39 ∷ [])).bits run from ok refl refl refl refl refl (lacking-in (with_breaks (38 ∷ 39 ∷ [])) set run are lacking)
@@ -203,7 +203,7 @@ module _ {K S H : Type 0} (step : Step S) (view : K → S) (cdata : S → Bool) 
   -- a run was taken in an attribute's value
   pub value_run-kept : (old : Tokenizer K) (kind : AttrValueKind) (front run : List ℕ) (result : Result (Unit {0}) ParseFault) → IsRunAt old run → sound (view old.sink) → old.state ≡ state.AttributeValue kind
       → OnOk result (front ≡ old.attribute_value ++ run) → IfErr result (λ fault. fault ≡ Memory)
-      → KeepsRun step view cdata ends sound number broken errors old (record old { attribute_value = front }) run result
+      → KeepsRun step view cdata ends sound number broken errors quiet old (record old { attribute_value = front }) run result
   value_run-kept old kind front run result runs ok is grown fault =
       let from = run-at old run runs in
       held-kept old (λ front. record old { attribute_value = front }) front (old.attribute_value ++ run) run result grown fault
@@ -212,37 +212,37 @@ module _ {K S H : Type 0} (step : Step S) (view : K → S) (cdata : S → Bool) 
 module _ {K S H : Type 0} (step : Step S) (view : K → S) (cdata : S → Bool) (ends : S → S) (sound : S → Type 0) (number : H → ℕ) (broken : K → Bool) (errors : K → ℕ) (quiet : S → Token → Bool) (laws : SinkLaws sound step ends quiet) where
   -- a run of a comment
   comment-run : (old : Tokenizer K) (st : State) (run : List ℕ) → IsAt old st → (st ≡ state.BogusComment) ⊎ (st ≡ state.Comment) → sound (view old.sink) → (set : SmallCharSet) → state_stops st ≡ Some set → All (λ c. has set.bits c ≡ false) run
-      → TookRun step view cdata ends sound number broken errors old (record old { comment = old.comment ++ run }) run
+      → TookRun step view cdata ends sound number broken errors quiet old (record old { comment = old.comment ++ run }) run
   comment-run old st run from (inl e) ok set are lacking =
       let bits = (with_breaks (62 ∷ [])).bits in
-      run-held step view cdata ends sound number broken errors (λ front. record old { comment = front }) bits refl (λ front. ok) (λ front. fits-at old st from)
+      run-held step view cdata ends sound number broken errors quiet (λ front. record old { comment = front }) bits refl (λ front. ok) (λ front. fits-at old st from)
       (λ front c lacks. bogus-push step view cdata ends sound number broken errors quiet laws (record old { comment = front }) c ok (front ++ c ∷ []) (record { state = from.state ∙ e; fresh = from.fresh }) (not-member bits c 62 refl lacks) (ap (λ d. front ++ d ∷ []) (sym (shown-same c (not-member bits c 0 refl lacks)))))
       old.comment run (lacking-in (with_breaks (62 ∷ [])) set run (rw e at are) lacking)
   comment-run old st run from (inr e) ok set are lacking =
       let bits = (with_breaks (45 ∷ [])).bits in
-      run-held step view cdata ends sound number broken errors (λ front. record old { comment = front }) bits refl (λ front. ok) (λ front. fits-at old st from)
+      run-held step view cdata ends sound number broken errors quiet (λ front. record old { comment = front }) bits refl (λ front. ok) (λ front. fits-at old st from)
       (λ front c lacks. comment-push step view cdata ends sound number broken errors quiet laws (record old { comment = front }) c ok (front ++ c ∷ []) (record { state = from.state ∙ e; fresh = from.fresh }) (not-member bits c 45 refl lacks) (ap (λ d. front ++ d ∷ []) (sym (shown-same c (not-member bits c 0 refl lacks)))))
       old.comment run (lacking-in (with_breaks (45 ∷ [])) set run (rw e at are) lacking)
 
   -- a run was taken in a comment
   pub comment_run-kept : (old : Tokenizer K) (front run : List ℕ) (result : Result (Unit {0}) ParseFault) → IsRunAt old run → sound (view old.sink) → (old.state ≡ state.BogusComment) ⊎ (old.state ≡ state.Comment)
       → OnOk result (front ≡ old.comment ++ run) → IfErr result (λ fault. fault ≡ Memory)
-      → KeepsRun step view cdata ends sound number broken errors old (record old { comment = front }) run result
+      → KeepsRun step view cdata ends sound number broken errors quiet old (record old { comment = front }) run result
   comment_run-kept old front run result runs ok is grown fault =
       let from = run-at old run runs in
-      held-kept step view cdata ends sound number broken errors old (λ front. record old { comment = front }) front (old.comment ++ run) run result grown fault
+      held-kept step view cdata ends sound number broken errors quiet old (λ front. record old { comment = front }) front (old.comment ++ run) run result grown fault
       (comment-run old old.state run from.0 is ok runs.stops from.1 runs.lacking)
 
   -- A run of text is told as one.
   place-says : (old : Tokenizer K) (place : Place) (bits : ℕ) (run : List ℕ) → has bits 10 ≡ true → 0 < length run → All (λ c. has bits c ≡ false) run
       → ((c : ℕ) → has bits c ≡ false → (x : Bool) (t : List ℕ) → item (rows_of old) x (standing old place) c t ≡ character c (standing old place))
       → (b : ℕ) (s : S × Notes ℕ) → sound s.0 → (t : List ℕ)
-      → reading (noting step) noting_error (noting_cdata cdata) (noting_end ends) (rows_of old) (standing old place) b s (run ++ t) ≡ (noting step s (CharacterTokens run) (line_number b) >>= λ p. reading (noting step) noting_error (noting_cdata cdata) (noting_end ends) (rows_of old) (standing old place) b p.0 t)
+      → reading (noting step quiet) noting_error (noting_cdata cdata) (noting_end ends) (rows_of old) (standing old place) b s (run ++ t) ≡ (noting step quiet s (CharacterTokens run) (line_number b) >>= λ p. reading (noting step quiet) noting_error (noting_cdata cdata) (noting_end ends) (rows_of old) (standing old place) b p.0 t)
   place-says old place bits run unbroken filled lacking plain b s h t =
-      run-told (λ p. sound p.0) (noting step) noting_error (noting_cdata cdata) (noting_end ends) (rows_of old) (noting-lawful sound step ends quiet laws) bits unbroken (standing old place) plain b s h run t (line_number b) filled lacking
+      run-told (λ p. sound p.0) (noting step quiet) noting_error (noting_cdata cdata) (noting_end ends) (rows_of old) (noting-lawful sound step ends quiet laws) bits unbroken (standing old place) plain b s h run t (line_number b) filled lacking
 
   text-says : (old : Tokenizer K) (st : State) (set : SmallCharSet) (run : List ℕ) → state_stops st ≡ Some set → ((kind : AttrValueKind) → st ≢ state.AttributeValue kind) → st ≢ state.BogusComment → st ≢ state.Comment
-      → 0 < length run → All (λ c. has set.bits c ≡ false) run → RunSays step view cdata ends sound number broken errors st old run
+      → 0 < length run → All (λ c. has set.bits c ≡ false) run → RunSays step view cdata ends sound number broken errors quiet st old run
   unfolding held_at
   text-says old state.Data set run are e f g filled lacking =
       place-says old InData (with_breaks (38 ∷ 60 ∷ [])).bits run refl filled (lacking-in (with_breaks (38 ∷ 60 ∷ [])) set run are lacking) (data-plain old)
@@ -257,7 +257,7 @@ module _ {K S H : Type 0} (step : Step S) (view : K → S) (cdata : S → Bool) 
 
   -- a run was told as text
   pub text_run-kept : (old new : Tokenizer K) (run : List ℕ) (result : Result (Unit {0}) ParseFault) → IsRunAt old run → sound (view old.sink) → ((kind : AttrValueKind) → old.state ≢ state.AttributeValue kind) → old.state ≢ state.BogusComment → old.state ≢ state.Comment
-      → Tells step view cdata ends sound number broken errors 0 (CharacterTokens run) old new result → KeepsRun step view cdata ends sound number broken errors old new run result
+      → Tells step view cdata ends sound number broken errors quiet nothing (CharacterTokens run) old new result → KeepsRun step view cdata ends sound number broken errors quiet old new run result
   text_run-kept old new run result runs ok e f g told =
       let from = run-at old run runs in
-      run-kept step view cdata ends sound number broken errors old new run old.state result from.0 ok told (text-says old old.state runs.stops run from.1 e f g runs.filled runs.lacking)
+      run-kept step view cdata ends sound number broken errors quiet old new run old.state result from.0 ok told (text-says old old.state runs.stops run from.1 e f g runs.filled runs.lacking)

@@ -4,6 +4,7 @@ use Rattle.std.specs.Prelude.{is_none}
 use Rattle.html_tokens.specs.declared.options.TokenizerOpts.{TokenizerOpts}
 use Rattle.html_tokens.specs.declared.states.State.{State}
 use Rattle.html_tokens.specs.declared.states.State.TheVariants as state
+use Rattle.html_tokens.specs.declared.token.Token.{Token}
 use Rattle.html_tokens.specs.Notes.{NotedStep, noting, noting_error, noting_cdata, noting_end}
 use Rattle.html_tokens.specs.Reading.{first_place, reading}
 use Rattle.html_tokens.specs.Sink.{Step}
@@ -11,8 +12,9 @@ use Rattle.html_tokens.specs.TextState.{is_text_state}
 use Rattle.html_tokenizer.specs.Calls.{IsNew, ReadsAt}
 use Rattle.html_tokenizer.specs.declared.tokenizer.Tokenizer.{Tokenizer}
 use Rattle.html_tokenizer.specs.Rest.{rows_of, standing, coming, pending, held_at}
+use Rattle.html_tokens.specs.Item.{Fault}
 
-module _ {K T : Type 0} (step : NotedStep T) (erred : T → T) (cdata : T → Bool) (ends : T → T) where
+module _ {K T : Type 0} (step : NotedStep T) (erred : Fault → T → T) (cdata : T → Bool) (ends : T → T) where
   text-reads : (st : State) (k : Tokenizer K) (b : ℕ) (s : T) (t : List ℕ) → is_text_state st ≡ true → held_at step erred cdata ends st k b s t ≡ reading step erred cdata ends (rows_of k) (standing k (first_place (Some st))) b s t
   unfolding held_at
   text-reads state.Data k b s t h = refl
@@ -24,21 +26,22 @@ none-held : (r : Option (List ℕ)) → is_none r ≡ true → pending r ≡ []
 none-held None h = refl
 none-held (Some cs) h = absurd cc
 
-module _ {K S H : Type 0} (step : Step S) (view : K → S) (cdata : S → Bool) (ends : S → S) (sound : S → Type 0) (number : H → ℕ) (broken : K → Bool) (errors : K → ℕ) where
-  pub reads-text : (k : Tokenizer K) → is_none k.char_ref ≡ true → is_text_state k.state ≡ true → ReadsAt step view cdata ends sound number broken errors (first_place (Some k.state)) k
+module _ {K S H : Type 0} (step : Step S) (view : K → S) (cdata : S → Bool) (ends : S → S) (sound : S → Type 0) (number : H → ℕ) (broken : K → Bool) (errors : K → ℕ) (quiet : S → Token → Bool) where
+  pub reads-text : (k : Tokenizer K) → is_none k.char_ref ≡ true → is_text_state k.state ≡ true → ReadsAt step view cdata ends sound number broken errors quiet (first_place (Some k.state)) k
   reads-text k none text = λ notes t.
-      ap (λ u. held_at (noting step) noting_error (noting_cdata cdata) (noting_end ends) k.state k k.stream.breaks (view k.sink, notes) (u ++ coming k t)) (none-held k.char_ref none)
-      ∙ text-reads (noting step) noting_error (noting_cdata cdata) (noting_end ends) k.state k k.stream.breaks (view k.sink, notes) (coming k t) text
+      ap (λ u. held_at (noting step quiet) noting_error (noting_cdata cdata) (noting_end ends) k.state k k.stream.breaks (view k.sink, notes) (u ++ coming k t)) (none-held k.char_ref none)
+      ∙ text-reads (noting step quiet) noting_error (noting_cdata cdata) (noting_end ends) k.state k k.stream.breaks (view k.sink, notes) (coming k t) text
 
   -- the same of a new tokenizer, from where its options have it
-  pub is-new : (k : Tokenizer K) (sink : K) (opts : TokenizerOpts) → k.sink ≡ sink → k.stream.breaks ≡ 0 → k.stream.ignore_lf ≡ false → k.stream.discard_bom ≡ opts.discard_bom → k.stream.has_ended ≡ false → k.stream.has_failed ≡ false
+  pub is-new : (k : Tokenizer K) (sink : K) (opts : TokenizerOpts) → k.sink ≡ sink → k.stream.breaks ≡ 0 → k.stream.ignore_lf ≡ false → k.stream.discard_bom ≡ opts.discard_bom → k.stream.has_ended ≡ false → k.stream.has_failed ≡ false → k.stream.exact_errors ≡ opts.exact_errors
       → k.char_ref ≡ None → k.last_start_tag ≡ opts.last_start_tag_name → is_text_state k.state ≡ true → first_place opts.initial_state ≡ first_place (Some k.state) → sound (view sink)
-      → IsNew step view cdata ends sound number broken errors k sink opts k.stream.table
-  is-new k sink opts over breaks unread marked begun works none last text place ok = record {
+      → IsNew step view cdata ends sound number broken errors quiet k sink opts k.stream.table
+  is-new k sink opts over breaks unread marked begun works exact none last text place ok = record {
     over = over;
     same = λ notes t.
         reads-text k (rw none refl) text notes t
         ∙ rw (over, breaks, unread, marked, last, place) refl;
     ready = record { sound = rw over ok; fits = rw none refl };
     begun = rw (begun, works) refl;
+    exact = exact;
   }

@@ -1,5 +1,5 @@
 -- What the calls of a tokenizer leave: what is still to come of its sink, for each further text.
-use Rattle.std.specs.Prelude.{◌≡◌, ℕ, ◌+◌, ◌<◌, min, Bool, true, false, if◌then◌else◌, nat_eq, ◌&&◌, not, is_none, List, [], ◌∷◌, ◌++◌, length, Option, Some, None, Result, Ok, Err, IsOk}
+use Rattle.std.specs.Prelude.{◌≡◌, ℕ, ◌+◌, ◌<◌, ◌≤◌, min, Bool, true, false, if◌then◌else◌, nat_eq, ◌&&◌, not, is_none, List, [], ◌∷◌, ◌++◌, length, Option, Some, None, Result, Ok, Err, IsOk}
 use Rattle.markup.specs.declared.fault.ParseFault.{ParseFault}
 use Rattle.markup.specs.declared.fault.ParseFault.TheVariants as fault
 use Rattle.markup.specs.declared.tokenizer_result.TokenizerResult.{TokenizerResult}
@@ -11,7 +11,8 @@ use Rattle.html_tokens.specs.declared.replies.TokenSinkResult.TheVariants as rep
 use Rattle.html_tokens.specs.declared.states.State.TheVariants as state
 use Rattle.html_tokens.specs.declared.token.Token.TheVariants.{EOFToken}
 use Rattle.html_tokens.specs.declared.options.TokenizerOpts.{TokenizerOpts}
-use Rattle.html_tokens.specs.Item.{Place}
+use Rattle.html_tokens.specs.declared.token.Token.{Token}
+use Rattle.html_tokens.specs.Item.{grave_if, Place}
 use Rattle.html_tokens.specs.NormalText.{normal_text}
 use Rattle.html_tokens.specs.Table.{Row}
 use Rattle.html_tokens.specs.TextState.{is_text_state}
@@ -19,6 +20,7 @@ use Rattle.html_tokens.specs.Notes.{Notes, noting, noting_error, noting_cdata, n
 use Rattle.html_tokens.specs.Reading.{◌>>=◌, line_number, first_place, first_stand, reading}
 use Rattle.html_tokens.specs.Sink.{Step, Reply, Refusal}
 use Rattle.html_tokenizer.specs.CharRefs.{fits_in}
+use Rattle.html_tokenizer.specs.Forbidden.{is_forbidden}
 use Rattle.html_tokenizer.specs.declared.tokenizer.Stream.{Stream}
 use Rattle.html_tokenizer.specs.declared.tokenizer.Tokenizer.{Tokenizer}
 use Rattle.html_tokenizer.specs.declared.piece.Piece.{Piece}
@@ -28,7 +30,7 @@ use Rattle.html_tokenizer.specs.Pieces.{ComesAsRun}
 use Rattle.html_tokenizer.specs.Stops.{stops_of}
 use Rattle.html_queue.specs.declared.set.SmallCharSet.{SmallCharSet}
 use Rattle.html_tokenizer.specs.Rest.{rest, rows_of, standing, coming}
-use Rattle.html_tokenizer.specs.Steps.{IsAt, PausesAt, and_more, more, noted_by, Rises, now, Fails}
+use Rattle.html_tokenizer.specs.Steps.{IsAt, PausesAt, Owed, owed_for, together, more, noted_by, Rises, now, Fails}
 
 -- the pauses so far, and the one with which a call of `feed` hands back control
 abbrev pub paused_with : {H : Type 0} → (H → ℕ) → List Reply → TokenizerResult H → List Reply
@@ -36,9 +38,17 @@ paused_with number pauses Done = pauses
 paused_with number pauses (Script handle) = pauses ++ reply.Script (number handle) ∷ []
 paused_with number pauses (EncodingIndicator label) = pauses ++ reply.EncodingIndicator label ∷ []
 
--- what was noted, with so many faulty items more and that pause
-abbrev pub noted_with : {H : Type 0} → (H → ℕ) → ℕ → Notes ℕ → TokenizerResult H → Notes ℕ
-noted_with number owed notes result = record { pauses = paused_with number notes.pauses result; errors = and_more owed notes.errors }
+-- what was noted, with what is owed behind it and that pause
+abbrev pub noted_with : {H : Type 0} → (H → ℕ) → Owed → Notes ℕ → TokenizerResult H → Notes ℕ
+noted_with number owed notes result = record (more owed notes) { pauses = paused_with number notes.pauses result }
+
+-- what a character owes on its own, where control characters and noncharacters are told
+abbrev pub owed_for_own : Bool → ℕ → Owed
+owed_for_own exact c = owed_for (grave_if (exact && is_forbidden c))
+
+-- what is owed, where these may be told besides
+abbrev pub and_own : Bool → Owed → Owed
+and_own exact owed = record owed { is_quiet = owed.is_quiet && not exact }
 
 -- a number of line breaks behind one character more: at u64::MAX it stays
 abbrev pub counted : ℕ → ℕ → ℕ
@@ -86,21 +96,21 @@ Refuses (Some fault) result = result ≡ Err fault
 abbrev pub is_nothing_pending : {K : Type 0} → Tokenizer K → Bool
 is_nothing_pending k = not k.stream.has_ended && not k.stream.has_failed && is_none k.char_ref && is_text_state k.state
 
-module _ {K S H : Type 0} (step : Step S) (view : K → S) (cdata : S → Bool) (ends : S → S) (is_sound : S → Type 0) (number : H → ℕ) (broken : K → Bool) (errors : K → ℕ) where
+module _ {K S H : Type 0} (step : Step S) (view : K → S) (cdata : S → Bool) (ends : S → S) (is_sound : S → Type 0) (number : H → ℕ) (broken : K → Bool) (errors : K → ℕ) (quiet : S → Token → Bool) where
   -- what a further text makes of the sink and of what was noted
   abbrev pub to_come : Tokenizer K → Notes ℕ → List ℕ → Result (S × Notes ℕ) (Refusal × ℕ)
-  to_come k notes t = rest (noting step) noting_error (noting_cdata cdata) (noting_end ends) k (view k.sink, notes) t
+  to_come k notes t = rest (noting step quiet) noting_error (noting_cdata cdata) (noting_end ends) k (view k.sink, notes) t
 
   -- what the end of the input makes of the sink
   abbrev pub at_end : ℕ → S × Notes ℕ → Result (S × Notes ℕ) (Refusal × ℕ)
-  at_end b s = noting step s EOFToken (line_number b) >>= λ p. Ok (noting_end ends p.0)
+  at_end b s = noting step quiet s EOFToken (line_number b) >>= λ p. Ok (noting_end ends p.0)
 
   -- A character was taken, its line counted: whatever follows, the tokenizer makes of it what it would have made of it behind c,
-  -- where so many items that ended were faulty.
+  -- which owed this.
   pub record Passed (old new : Tokenizer K) (c : ℕ) (result : ProcessResult H) : Type 0 where
-    pub owed : ℕ
-    pub rises : Rises errors owed old.sink new.sink
-    pub same : (notes : Notes ℕ) (t : List ℕ) → now step view cdata ends is_sound number broken errors old old.stream.breaks (view old.sink, notes) (c ∷ t) ≡ now step view cdata ends is_sound number broken errors new new.stream.breaks (view new.sink, noted_by number owed notes result) t
+    pub owed : Owed
+    pub rises : Rises errors (together owed (owed_for_own old.stream.exact_errors c)) old.sink new.sink
+    pub same : (notes : Notes ℕ) (t : List ℕ) → now step view cdata ends is_sound number broken errors quiet old old.stream.breaks (view old.sink, notes) (c ∷ t) ≡ now step view cdata ends is_sound number broken errors quiet new new.stream.breaks (view new.sink, noted_by number owed notes result) t
     pub stream : new.stream ≡ record old.stream { breaks = new.stream.breaks }
     pub sound : is_sound (view new.sink)
     pub fits : fits_in new.char_ref new.state ≡ true
@@ -109,14 +119,14 @@ module _ {K S H : Type 0} (step : Step S) (view : K → S) (cdata : S → Bool) 
 
   abbrev pub Passes : Tokenizer K → Tokenizer K → ℕ → Result (ProcessResult H) ParseFault → Type 0
   Passes old new c (Ok result) = Passed old new c result
-  Passes old new c (Err fault) = (notes : Notes ℕ) (t : List ℕ) → Fails step view cdata ends is_sound number broken errors old.sink (now step view cdata ends is_sound number broken errors old old.stream.breaks (view old.sink, notes) (c ∷ t)) fault
+  Passes old new c (Err fault) = (notes : Notes ℕ) (t : List ℕ) → Fails step view cdata ends is_sound number broken errors quiet old.sink (now step view cdata ends is_sound number broken errors quiet old old.stream.breaks (view old.sink, notes) (c ∷ t)) fault
 
   -- A run of text was taken, of which no character ends a line: whatever follows, the tokenizer makes of it what it would have made
-  -- of it behind the run, where so many items that ended were faulty.
+  -- of it behind the run, which owed this.
   pub record TookRun (old new : Tokenizer K) (run : List ℕ) : Type 0 where
-    pub owed : ℕ
+    pub owed : Owed
     pub rises : Rises errors owed old.sink new.sink
-    pub same : (notes : Notes ℕ) (t : List ℕ) → now step view cdata ends is_sound number broken errors old old.stream.breaks (view old.sink, notes) (run ++ t) ≡ now step view cdata ends is_sound number broken errors new old.stream.breaks (view new.sink, more owed notes) t
+    pub same : (notes : Notes ℕ) (t : List ℕ) → now step view cdata ends is_sound number broken errors quiet old old.stream.breaks (view old.sink, notes) (run ++ t) ≡ now step view cdata ends is_sound number broken errors quiet new old.stream.breaks (view new.sink, more owed notes) t
     pub stream : new.stream ≡ old.stream
     pub sound : is_sound (view new.sink)
     pub fits : fits_in new.char_ref new.state ≡ true
@@ -124,7 +134,7 @@ module _ {K S H : Type 0} (step : Step S) (view : K → S) (cdata : S → Bool) 
 
   abbrev pub KeepsRun : Tokenizer K → Tokenizer K → List ℕ → Result (Unit {0}) ParseFault → Type 0
   KeepsRun old new run (Ok x) = TookRun old new run
-  KeepsRun old new run (Err fault) = (notes : Notes ℕ) (t : List ℕ) → Fails step view cdata ends is_sound number broken errors old.sink (now step view cdata ends is_sound number broken errors old old.stream.breaks (view old.sink, notes) (run ++ t)) fault
+  KeepsRun old new run (Err fault) = (notes : Notes ℕ) (t : List ℕ) → Fails step view cdata ends is_sound number broken errors quiet old.sink (now step view cdata ends is_sound number broken errors quiet old old.stream.breaks (view old.sink, notes) (run ++ t)) fault
 
   -- The same of a call that then goes on.
   abbrev pub KeepsText : Tokenizer K → Tokenizer K → List ℕ → Result (ProcessResult H) ParseFault → Type 0
@@ -132,18 +142,18 @@ module _ {K S H : Type 0} (step : Step S) (view : K → S) (cdata : S → Bool) 
   KeepsText old new run (Ok _) = ⊥
   KeepsText old new run (Err fault) = KeepsRun old new run (Err fault)
 
-  -- All that was held is told, with so many faulty items: what the end of the input makes of the sink is the end alone.
+  -- All that was held is told, which owed this: what the end of the input makes of the sink is the end alone.
   pub record Closed (old new : Tokenizer K) : Type 0 where
-    pub owed : ℕ
+    pub owed : Owed
     pub rises : Rises errors owed old.sink new.sink
-    pub same : (notes : Notes ℕ) → now step view cdata ends is_sound number broken errors old old.stream.breaks (view old.sink, notes) [] ≡ at_end old.stream.breaks (view new.sink, more owed notes)
+    pub same : (notes : Notes ℕ) → now step view cdata ends is_sound number broken errors quiet old old.stream.breaks (view old.sink, notes) [] ≡ at_end old.stream.breaks (view new.sink, more owed notes)
     pub stream : new.stream ≡ old.stream
     pub sound : is_sound (view new.sink)
     pub works : broken new.sink ≡ true → broken old.sink ≡ true
 
   abbrev pub Closes : Tokenizer K → Tokenizer K → Result (Unit {0}) ParseFault → Type 0
   Closes old new (Ok x) = Closed old new
-  Closes old new (Err fault) = (notes : Notes ℕ) → Fails step view cdata ends is_sound number broken errors old.sink (now step view cdata ends is_sound number broken errors old old.stream.breaks (view old.sink, notes) []) fault
+  Closes old new (Err fault) = (notes : Notes ℕ) → Fails step view cdata ends is_sound number broken errors quiet old.sink (now step view cdata ends is_sound number broken errors quiet old old.stream.breaks (view old.sink, notes) []) fault
 
   -- What a tokenizer needs at a call: a sink in a sound state, and a reference held only where one may stand.
   pub record IsReady (k : Tokenizer K) : Type 0 where
@@ -162,18 +172,19 @@ module _ {K S H : Type 0} (step : Step S) (view : K → S) (cdata : S → Bool) 
   pub record Moved (old new : Tokenizer K) (from to : Queue) (result : ProcessResult H) : Type 0 where
     pub taken : List ℕ
     pub takes : Takes taken from to
-    pub owed : ℕ
+    pub owed : Owed
     pub same : (notes : Notes ℕ) (t : List ℕ) → to_come old notes (taken ++ t) ≡ to_come new (noted_by number owed notes result) t
-    pub rises : Rises errors owed old.sink new.sink
+    pub rises : Rises errors (and_own old.stream.exact_errors owed) old.sink new.sink
     pub ready : IsReady new
     pub works : broken new.sink ≡ true → broken old.sink ≡ true
     pub ended : new.stream.has_ended ≡ old.stream.has_ended
     pub failed : new.stream.has_failed ≡ old.stream.has_failed
+    pub exact : new.stream.exact_errors ≡ old.stream.exact_errors
     pub left : Leaves result new taken to
 
   abbrev pub Moves : Tokenizer K → Tokenizer K → Queue → Queue → Result (ProcessResult H) ParseFault → Type 0
   Moves old new from to (Ok result) = Moved old new from to result
-  Moves old new from to (Err fault) = (notes : Notes ℕ) (t : List ℕ) → Fails step view cdata ends is_sound number broken errors old.sink (to_come old notes (from.characters ++ t)) fault
+  Moves old new from to (Err fault) = (notes : Notes ℕ) (t : List ℕ) → Fails step view cdata ends is_sound number broken errors quiet old.sink (to_come old notes (from.characters ++ t)) fault
 
   -- Where a call ends so: with an empty queue, or, at a pause, behind the ">" of a tag, with data to come and nothing held.
   abbrev pub Rests : TokenizerResult H → Tokenizer K → List ℕ → Queue → Type 0
@@ -185,25 +196,30 @@ module _ {K S H : Type 0} (step : Step S) (view : K → S) (cdata : S → Bool) 
   pub record Fed (old new : Tokenizer K) (from to : Queue) (result : TokenizerResult H) : Type 0 where
     pub taken : List ℕ
     pub takes : Takes taken from to
-    -- how many of the items that ended in them were faulty: so many errors were told at least
-    pub owed : ℕ
-    pub rises : Rises errors owed old.sink new.sink
+    -- what they owed, besides what control characters and noncharacters owe where these are told
+    pub owed : Owed
+    pub rises : Rises errors (and_own old.stream.exact_errors owed) old.sink new.sink
     -- for each further text, what was to come over the characters taken and that text is what is now to come over that text
     pub same : (notes : Notes ℕ) (t : List ℕ) → to_come old notes (taken ++ t) ≡ to_come new (noted_with number owed notes result) t
     pub ready : IsReady new
     pub works : broken new.sink ≡ true → broken old.sink ≡ true
     pub ended : new.stream.has_ended ≡ old.stream.has_ended
     pub failed : new.stream.has_failed ≡ old.stream.has_failed
+    pub exact : new.stream.exact_errors ≡ old.stream.exact_errors
     pub left : Rests result new taken to
 
   abbrev pub Runs : Tokenizer K → Tokenizer K → Queue → Queue → Result (TokenizerResult H) ParseFault → Type 0
   Runs old new from to (Ok result) = Fed old new from to result
-  Runs old new from to (Err fault) = (notes : Notes ℕ) (t : List ℕ) → Fails step view cdata ends is_sound number broken errors old.sink (to_come old notes (from.characters ++ t)) fault
+  Runs old new from to (Err fault) = (notes : Notes ℕ) (t : List ℕ) → Fails step view cdata ends is_sound number broken errors quiet old.sink (to_come old notes (from.characters ++ t)) fault
 
-  -- The end was told, behind so many faulty items: what was to come over no further text is what the sink is now.
+  -- The end was told, behind what was owed: what was to come over no further text is what the sink is now.
   pub record HasEnded (old new : Tokenizer K) : Type 0 where
-    pub owed : ℕ
-    pub rises : Rises errors owed old.sink new.sink
+    pub owed : Owed
+    -- the sink before it was told that all tokens were
+    pub told : K
+    pub rises : Rises errors owed old.sink told
+    pub ended : view new.sink ≡ ends (view told)
+    pub kept : errors told ≤ errors new.sink
     pub same : (notes : Notes ℕ) → to_come old notes [] ≡ Ok (view new.sink, more owed notes)
     pub sound : is_sound (view new.sink)
     pub works : broken new.sink ≡ true → broken old.sink ≡ true
@@ -211,7 +227,7 @@ module _ {K S H : Type 0} (step : Step S) (view : K → S) (cdata : S → Bool) 
 
   -- The end was told, and the sink was not yet told that it was.
   pub record ToldEnd (old new : Tokenizer K) : Type 0 where
-    pub owed : ℕ
+    pub owed : Owed
     pub rises : Rises errors owed old.sink new.sink
     pub same : (notes : Notes ℕ) → to_come old notes [] ≡ Ok (ends (view new.sink), more owed notes)
     pub stream : new.stream ≡ old.stream
@@ -220,7 +236,7 @@ module _ {K S H : Type 0} (step : Step S) (view : K → S) (cdata : S → Bool) 
 
   abbrev pub TellsEnd : Tokenizer K → Tokenizer K → Result (Unit {0}) ParseFault → Type 0
   TellsEnd old new (Ok x) = ToldEnd old new
-  TellsEnd old new (Err fault) = (notes : Notes ℕ) → Fails step view cdata ends is_sound number broken errors old.sink (to_come old notes []) fault
+  TellsEnd old new (Err fault) = (notes : Notes ℕ) → Fails step view cdata ends is_sound number broken errors quiet old.sink (to_come old notes []) fault
 
   -- what a call asks of a tokenizer, if nothing stands against the call
   abbrev pub IsReadyIf : Option ParseFault → Tokenizer K → Type 0
@@ -235,17 +251,18 @@ module _ {K S H : Type 0} (step : Step S) (view : K → S) (cdata : S → Bool) 
 
   abbrev pub EndGives : Option ParseFault → Tokenizer K → Tokenizer K → Result (Unit {0}) ParseFault → Type 0
   EndGives None old new (Ok x) = HasEnded old new
-  EndGives None old new (Err fault) = (new.stream.has_failed ≡ true) × ((notes : Notes ℕ) → Fails step view cdata ends is_sound number broken errors old.sink (to_come old notes []) fault)
+  EndGives None old new (Err fault) = (new.stream.has_failed ≡ true) × ((notes : Notes ℕ) → Fails step view cdata ends is_sound number broken errors quiet old.sink (to_come old notes []) fault)
   EndGives (Some fault) old new result = (result ≡ Err fault) × (new ≡ old)
 
   -- A new tokenizer: what is to come is the reading of all the text.
   pub record IsNew (k : Tokenizer K) (sink : K) (opts : TokenizerOpts) (table : List Row) : Type 0 where
     pub over : k.sink ≡ sink
     pub same : (notes : Notes ℕ) (t : List ℕ)
-        → to_come k notes t ≡ reading (noting step) noting_error (noting_cdata cdata) (noting_end ends) table (first_stand opts.initial_state opts.last_start_tag_name) 0 (view sink, notes) (normal_text opts.discard_bom t)
+        → to_come k notes t ≡ reading (noting step quiet) noting_error (noting_cdata cdata) (noting_end ends) table (first_stand opts.initial_state opts.last_start_tag_name) 0 (view sink, notes) (normal_text opts.discard_bom t)
     pub ready : IsReady k
     pub begun : refusal_of k ≡ None
+    pub exact : k.stream.exact_errors ≡ opts.exact_errors
 
   -- A tokenizer in a text state, with no part of an item held: what is to come is the reading of what comes, from that text on.
   abbrev pub ReadsAt : Place → Tokenizer K → Type 0
-  ReadsAt place k = (notes : Notes ℕ) (t : List ℕ) → to_come k notes t ≡ reading (noting step) noting_error (noting_cdata cdata) (noting_end ends) (rows_of k) (standing k place) k.stream.breaks (view k.sink, notes) (coming k t)
+  ReadsAt place k = (notes : Notes ℕ) (t : List ℕ) → to_come k notes t ≡ reading (noting step quiet) noting_error (noting_cdata cdata) (noting_end ends) (rows_of k) (standing k place) k.stream.breaks (view k.sink, notes) (coming k t)

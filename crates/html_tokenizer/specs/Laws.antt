@@ -1,18 +1,19 @@
 -- What the calls of a tokenizer come to, in whatever pieces the text came.
-use Rattle.std.specs.Prelude.{◌≡◌, ℕ, ◌+◌, Bool, List, [], ◌∷◌, ◌++◌}
+use Rattle.std.specs.Prelude.{◌≡◌, ℕ, ◌+◌, ◌≤◌, min, Bool, true, false, List, [], ◌∷◌, ◌++◌, Result}
 use Rattle.markup.specs.declared.tokenizer_result.TokenizerResult.{TokenizerResult}
 use Rattle.html_queue.specs.Queue.{Queue}
+use Rattle.html_tokens.specs.declared.token.Token.{Token}
 use Rattle.html_tokens.specs.Notes.{Notes, no_notes, errors_of, owed}
+use Rattle.html_tokens.specs.Clean.{is_clean_reading}
 use Rattle.html_tokens.specs.declared.options.TokenizerOpts.{TokenizerOpts}
-use Rattle.html_tokens.specs.Sink.{Step}
+use Rattle.html_tokens.specs.Sink.{Step, Refusal}
 use Rattle.html_tokens.specs.Table.{Row}
 use Rattle.html_tokens.specs.NormalText.{normal_text}
 use Rattle.html_tokens.specs.Reading.{first_stand}
 use Rattle.html_tokenizer.specs.declared.tokenizer.Tokenizer.{Tokenizer}
 use Rattle.html_tokenizer.specs.Calls.{to_come, noted_with, Fed, HasEnded, IsNew}
-use Rattle.html_tokenizer.specs.Steps.{Rises}
 
-module _ {K S H : Type 0} (step : Step S) (view : K → S) (cdata : S → Bool) (ends : S → S) (is_sound : S → Type 0) (number : H → ℕ) (broken : K → Bool) (errors : K → ℕ) where
+module _ {K S H : Type 0} (step : Step S) (view : K → S) (cdata : S → Bool) (ends : S → S) (is_sound : S → Type 0) (number : H → ℕ) (broken : K → Bool) (errors : K → ℕ) (quiet : S → Token → Bool) where
   -- a call of `feed` that succeeded, over whatever queue
   pub record Call : Type 0 where
     pub before : Tokenizer K
@@ -20,7 +21,7 @@ module _ {K S H : Type 0} (step : Step S) (view : K → S) (cdata : S → Bool) 
     pub from : Queue
     pub to : Queue
     pub result : TokenizerResult H
-    pub fed : Fed step view cdata ends is_sound number broken errors before after from to result
+    pub fed : Fed step view cdata ends is_sound number broken errors quiet before after from to result
 
   -- calls of one tokenizer, one after the other
   abbrev pub IsChain : Tokenizer K → List Call → Tokenizer K → Type 0
@@ -39,37 +40,50 @@ module _ {K S H : Type 0} (step : Step S) (view : K → S) (cdata : S → Bool) 
 
   -- Whatever follows, two tokenizers make the same of it.
   abbrev pub HaveSameRests : Tokenizer K → Tokenizer K → Type 0
-  HaveSameRests k other = (notes : Notes ℕ) (t : List ℕ) → to_come step view cdata ends is_sound number broken errors k notes t ≡ to_come step view cdata ends is_sound number broken errors other notes t
+  HaveSameRests k other = (notes : Notes ℕ) (t : List ℕ) → to_come step view cdata ends is_sound number broken errors quiet k notes t ≡ to_come step view cdata ends is_sound number broken errors quiet other notes t
 
   -- Two tokenizers that make the same of whatever follows, and that take the same text, in whatever pieces, put in at pauses too,
   -- leave the same state of the sink behind their ends, and the same pauses.
   abbrev pub IsAnyPieces : Type 0
   IsAnyPieces = (k new ended other new' ended' : Tokenizer K) (cs cs' : List Call)
       → HaveSameRests k other → IsChain k cs new → IsChain other cs' new' → taken_by cs ≡ taken_by cs'
-      → HasEnded step view cdata ends is_sound number broken errors new ended → HasEnded step view cdata ends is_sound number broken errors new' ended'
+      → HasEnded step view cdata ends is_sound number broken errors quiet new ended → HasEnded step view cdata ends is_sound number broken errors quiet new' ended'
       → (view ended.sink ≡ view ended'.sink) × ((noted_behind no_notes cs).pauses ≡ (noted_behind no_notes cs').pauses)
 
   -- New tokenizers over sinks of one state, with one table and options that differ at most in whether control characters are
   -- told, make the same of whatever follows.
   abbrev pub IsSameRoad : Type 0
   IsSameRoad = (k other : Tokenizer K) (sink sink' : K) (opts : TokenizerOpts) (exact_errors : Bool) (table : List Row)
-      → IsNew step view cdata ends is_sound number broken errors k sink opts table → IsNew step view cdata ends is_sound number broken errors other sink' (record opts { exact_errors = exact_errors }) table
+      → IsNew step view cdata ends is_sound number broken errors quiet k sink opts table → IsNew step view cdata ends is_sound number broken errors quiet other sink' (record opts { exact_errors = exact_errors }) table
       → view sink ≡ view sink' → HaveSameRests k other
 
   -- From a new tokenizer to the end of all that it took, the number of errors rises by as many as the text has faulty items at
   -- least, or is at u64::MAX.
   abbrev pub IsEachFaultTold : Type 0
   IsEachFaultTold = (k new ended : Tokenizer K) (cs : List Call) (sink : K) (opts : TokenizerOpts) (table : List Row)
-      → IsNew step view cdata ends is_sound number broken errors k sink opts table → IsChain k cs new → HasEnded step view cdata ends is_sound number broken errors new ended
-      → Rises errors (owed step cdata ends table (first_stand opts.initial_state opts.last_start_tag_name) 0 (view sink) (normal_text opts.discard_bom (taken_by cs))) sink ended.sink
+      → IsNew step view cdata ends is_sound number broken errors quiet k sink opts table → IsChain k cs new → HasEnded step view cdata ends is_sound number broken errors quiet new ended
+      → min (errors sink + owed step quiet cdata ends table (first_stand opts.initial_state opts.last_start_tag_name) 0 (view sink) (normal_text opts.discard_bom (taken_by cs))) 0xffff_ffff_ffff_ffff ≤ errors ended.sink
+
+  -- Under the default options a text that is read without anything that is not clean, and without an error of the sink, leaves
+  -- the number of errors as it was, up to the sink's own end.
+  abbrev pub IsCleanTextQuiet : Type 0
+  IsCleanTextQuiet = (k new ended : Tokenizer K) (cs : List Call) (sink : K) (opts : TokenizerOpts) (table : List Row)
+      → IsNew step view cdata ends is_sound number broken errors quiet k sink opts table → IsChain k cs new → (e : HasEnded step view cdata ends is_sound number broken errors quiet new ended)
+      → opts.exact_errors ≡ false
+      → is_clean_reading step quiet cdata table (first_stand opts.initial_state opts.last_start_tag_name) 0 (view sink) (normal_text opts.discard_bom (taken_by cs)) ≡ true
+      → errors e.told ≡ errors sink
+
+  -- what is noted of what is to come for a further text
+  abbrev pub noted_to_come : Tokenizer K → List ℕ → Result (S × Notes ℕ) (Refusal × ℕ)
+  noted_to_come k t = to_come step view cdata ends is_sound number broken errors quiet k no_notes t
 
   -- how many errors a tokenizer owes for a further text: as many as what is to come has faulty items, up to a refusal
   abbrev pub owes : Tokenizer K → List ℕ → ℕ
-  owes k t = errors_of (to_come step view cdata ends is_sound number broken errors k no_notes t)
+  owes k t = errors_of (noted_to_come k t)
 
   -- What was owed for the characters that a call took and those that follow was owed for items that ended, so many of which errors
   -- were told, or is owed behind the call. What was owed at the end was told.
   abbrev pub IsOwing : Type 0
   IsOwing =
-      ((c : Call) (t : List ℕ) → owes c.before (c.fed.taken ++ t) ≡ c.fed.owed + owes c.after t)
-      × ((old new : Tokenizer K) (e : HasEnded step view cdata ends is_sound number broken errors old new) → owes old [] ≡ e.owed)
+      ((c : Call) (t : List ℕ) → owes c.before (c.fed.taken ++ t) ≡ c.fed.owed.faults + owes c.after t)
+      × ((old new : Tokenizer K) (e : HasEnded step view cdata ends is_sound number broken errors quiet old new) → owes old [] ≡ e.owed.faults)

@@ -11,14 +11,14 @@ use Rattle.html_tokens.specs.declared.states.State.{State}
 use Rattle.html_tokens.specs.declared.states.State.TheVariants as state
 use Rattle.html_tokens.specs.declared.token.Doctype.{Doctype}
 use Rattle.html_tokens.specs.Comments.{comment_at, comment_after, bogus_comment_after}
-use Rattle.html_tokens.specs.Doctypes.{doctype_at, doctype_name_after, after_name, after_public_keyword, after_system_keyword, public_after, system_after, after_public, after_system, junk_after}
-use Rattle.html_tokens.specs.Item.{Place, InData, InRaw, InPlaintext, InCdata, InTag, Stand, Item}
+use Rattle.html_tokens.specs.Doctypes.{doctype_at, doctype_behind, doctype_name_after, after_name, after_public_keyword, after_system_keyword, public_after, system_after, after_public, after_system, junk_after}
+use Rattle.html_tokens.specs.Item.{Fault, slight_if, Place, InData, InRaw, InPlaintext, InCdata, InTag, Stand, Item}
 use Rattle.html_tokens.specs.NormalText.{newlines_behind, without_mark}
 use Rattle.html_tokens.specs.RawText.{kind_behind}
-use Rattle.html_tokens.specs.Reading.{reading, play}
+use Rattle.html_tokens.specs.Reading.{erred_by, reading, play}
 use Rattle.html_tokens.specs.Sink.{Refusal}
 use Rattle.html_tokens.specs.Table.{Row}
-use Rattle.html_tokens.specs.Tags.{name_after, attribute_after, equals_at, value_at, unquoted_after, quoted_after}
+use Rattle.html_tokens.specs.Tags.{name_after, attribute_after, equals_at, value_at, unquoted_after, quoted_after, lacks_space}
 use Rattle.html_tokenizer.specs.declared.tokenizer.Tokenizer.{Tokenizer}
 
 -- the rows of the table of references
@@ -48,7 +48,7 @@ kind_after kind (c ∷ cs) t = kind_after (kind_behind kind c (cs ++ t)) cs t
 abbrev pub coming : {K : Type 0} → Tokenizer K → List ℕ → List ℕ
 coming k t = newlines_behind k.stream.ignore_lf (without_mark k.stream.discard_bom t)
 
-module _ {K T : Type 0} (step : NotedStep T) (erred : T → T) (cdata : T → Bool) (ends : T → T) where
+module _ {K T : Type 0} (step : NotedStep T) (erred : Fault → T → T) (cdata : T → Bool) (ends : T → T) where
   -- what a text makes of the sink, where a reading stands at this place
   abbrev pub read_at : Place → Tokenizer K → ℕ → T → List ℕ → Result T (Refusal × ℕ)
   read_at place k b s t = reading step erred cdata ends (rows_of k) (standing k place) b s t
@@ -84,7 +84,7 @@ module _ {K T : Type 0} (step : NotedStep T) (erred : T → T) (cdata : T → Bo
   held_at (state.AttributeValue value.Unquoted) k b s t = played (unquoted_after (rows_of k) (standing k InData) k.tag k.attribute_name k.attribute_value t) k b s t
   held_at (state.AttributeValue value.SingleQuoted) k b s t = played (quoted_after (rows_of k) 39 (standing k InData) k.tag k.attribute_name k.attribute_value t) k b s t
   held_at (state.AttributeValue value.DoubleQuoted) k b s t = played (quoted_after (rows_of k) 34 (standing k InData) k.tag k.attribute_name k.attribute_value t) k b s t
-  held_at state.AfterAttributeValueQuoted k b s t = read_at (InTag k.tag) k b s t
+  held_at state.AfterAttributeValueQuoted k b s t = read_at (InTag k.tag) k b (erred_by erred (slight_if (lacks_space t)) s) t
   held_at state.SelfClosingStartTag k b s t = read_at (InTag k.tag) k b s (47 ∷ t)
   -- comments
   held_at state.BogusComment k b s t = played (bogus_comment_after (standing k InData) k.comment t) k b s t
@@ -101,7 +101,7 @@ module _ {K T : Type 0} (step : NotedStep T) (erred : T → T) (cdata : T → Bo
   held_at state.CommentEndBang k b s t = played (comment_after (standing k InData) k.comment (45 ∷ 45 ∷ 33 ∷ t)) k b s (45 ∷ 45 ∷ 33 ∷ t)
   -- doctypes
   held_at state.Doctype k b s t = played (doctype_at (standing k InData) t) k b s t
-  held_at state.BeforeDoctypeName k b s t = played (doctype_at (standing k InData) t) k b s t
+  held_at state.BeforeDoctypeName k b s t = played (doctype_behind (standing k InData) t) k b s t
   held_at state.DoctypeName k b s t = played (doctype_name_after (standing k InData) k.temporary t) k b s t
   held_at state.AfterDoctypeName k b s t = played (after_name (standing k InData) k.doctype (k.keyword ++ t)) k b s (k.keyword ++ t)
   held_at (state.AfterDoctypeKeyword id.Public) k b s t = played (after_public_keyword (standing k InData) k.doctype t) k b s t

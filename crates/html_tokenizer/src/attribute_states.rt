@@ -1,7 +1,7 @@
 //! The attributes of a tag (HTML Standard, sections 13.2.5.32 to 13.2.5.39).
-ghost use Rattle.std.specs.Prelude.{◌≡◌, [], Some, IfErr, OnOk};
+ghost use Rattle.std.specs.Prelude.{◌≡◌, [], Some, is_some, IfErr, OnOk};
 ghost use Rattle.html_tokens.specs.Characters.{ends_attribute_name};
-ghost use Rattle.html_tokens.specs.Tags.{has_attribute, with_attribute};
+ghost use Rattle.html_tokens.specs.Tags.{has_attribute, with_attribute, is_odd_first, is_odd_in_name, is_odd_unquoted};
 ghost use Rattle.html_tokens.specs.declared.states.AttrValueKind.TheVariants as value;
 ghost use Rattle.html_tokens.specs.declared.states.State.TheVariants as state;
 ghost use Rattle.markup.specs.declared.fault.ParseFault.TheVariants.{Memory};
@@ -36,7 +36,9 @@ fn has_name(tag: &Tag, name: &LocalName) -> bool
 }
 
 /// The error of a character in an attribute's name, if it is one.
-fn name_fault(c: char) -> Option<&'static str> {
+fn name_fault(c: char) -> Option<&'static str>
+    ensures { is_some result ≡ is_odd_in_name c }
+{
     if c == '\0' {
         return Some("unexpected null character");
     }
@@ -47,7 +49,9 @@ fn name_fault(c: char) -> Option<&'static str> {
 }
 
 /// The error of the first character of an attribute's name, if it is one.
-fn first_fault(c: char) -> Option<&'static str> {
+fn first_fault(c: char) -> Option<&'static str>
+    ensures { is_some result ≡ is_odd_first c }
+{
     if c == '=' {
         return Some("unexpected equals sign before attribute name");
     }
@@ -55,7 +59,9 @@ fn first_fault(c: char) -> Option<&'static str> {
 }
 
 /// The error of a character in a value without quotes, if it is one.
-fn unquoted_fault(c: char) -> Option<&'static str> {
+fn unquoted_fault(c: char) -> Option<&'static str>
+    ensures { is_some result ≡ is_odd_unquoted c }
+{
     if c == '\0' {
         return Some("unexpected null character");
     }
@@ -99,7 +105,7 @@ impl<Sink: TokenSink> Tokenizer<Sink> {
     ) -> Result<ProcessResult<Sink::Handle>, ParseFault>
         requires at { IsAt self.old state.BeforeAttributeName }
         requires sound { Sink.is_sound (Sink.view self.old.sink) }
-        ensures { Keeps Sink.step Sink.view Sink.asks_cdata Sink.ended Sink.is_sound Sink.number Sink.has_failed Sink.errors self.old self.new c result }
+        ensures { Keeps Sink.step Sink.view Sink.asks_cdata Sink.ended Sink.is_sound Sink.number Sink.has_failed Sink.errors Sink.is_quiet self.old self.new c result }
     {
         self.tell_fault(first_fault(c))?;
         self.take_before_name(c)
@@ -109,7 +115,7 @@ impl<Sink: TokenSink> Tokenizer<Sink> {
     fn take_before_name(&mut self, c: char) -> Result<ProcessResult<Sink::Handle>, ParseFault>
         requires at { IsAt self.old state.BeforeAttributeName }
         requires sound { Sink.is_sound (Sink.view self.old.sink) }
-        ensures { Keeps Sink.step Sink.view Sink.asks_cdata Sink.ended Sink.is_sound Sink.number Sink.has_failed Sink.errors self.old self.new c result }
+        ensures { Keeps Sink.step Sink.view Sink.asks_cdata Sink.ended Sink.is_sound Sink.number Sink.has_failed Sink.errors Sink.is_quiet self.old self.new c result }
     {
         if is_white_space(c) {
             return Ok(ProcessResult::Continue);
@@ -135,7 +141,7 @@ impl<Sink: TokenSink> Tokenizer<Sink> {
     ) -> Result<ProcessResult<Sink::Handle>, ParseFault>
         requires at { IsAt self.old state.AttributeName }
         requires sound { Sink.is_sound (Sink.view self.old.sink) }
-        ensures { Keeps Sink.step Sink.view Sink.asks_cdata Sink.ended Sink.is_sound Sink.number Sink.has_failed Sink.errors self.old self.new c result }
+        ensures { Keeps Sink.step Sink.view Sink.asks_cdata Sink.ended Sink.is_sound Sink.number Sink.has_failed Sink.errors Sink.is_quiet self.old self.new c result }
     {
         self.tell_fault(name_fault(c))?;
         self.take_in_name(c)
@@ -145,7 +151,7 @@ impl<Sink: TokenSink> Tokenizer<Sink> {
     fn take_in_name(&mut self, c: char) -> Result<ProcessResult<Sink::Handle>, ParseFault>
         requires at { IsAt self.old state.AttributeName }
         requires sound { Sink.is_sound (Sink.view self.old.sink) }
-        ensures { Keeps Sink.step Sink.view Sink.asks_cdata Sink.ended Sink.is_sound Sink.number Sink.has_failed Sink.errors self.old self.new c result }
+        ensures { Keeps Sink.step Sink.view Sink.asks_cdata Sink.ended Sink.is_sound Sink.number Sink.has_failed Sink.errors Sink.is_quiet self.old self.new c result }
     {
         if ends_name(c) {
             self.state = State::AfterAttributeName;
@@ -162,7 +168,7 @@ impl<Sink: TokenSink> Tokenizer<Sink> {
     ) -> Result<ProcessResult<Sink::Handle>, ParseFault>
         requires at { IsAt self.old state.AfterAttributeName }
         requires sound { Sink.is_sound (Sink.view self.old.sink) }
-        ensures { Keeps Sink.step Sink.view Sink.asks_cdata Sink.ended Sink.is_sound Sink.number Sink.has_failed Sink.errors self.old self.new c result }
+        ensures { Keeps Sink.step Sink.view Sink.asks_cdata Sink.ended Sink.is_sound Sink.number Sink.has_failed Sink.errors Sink.is_quiet self.old self.new c result }
     {
         if is_white_space(c) {
             return Ok(ProcessResult::Continue);
@@ -183,7 +189,7 @@ impl<Sink: TokenSink> Tokenizer<Sink> {
     ) -> Result<ProcessResult<Sink::Handle>, ParseFault>
         requires at { IsAt self.old state.BeforeAttributeValue }
         requires sound { Sink.is_sound (Sink.view self.old.sink) }
-        ensures { Keeps Sink.step Sink.view Sink.asks_cdata Sink.ended Sink.is_sound Sink.number Sink.has_failed Sink.errors self.old self.new c result }
+        ensures { Keeps Sink.step Sink.view Sink.asks_cdata Sink.ended Sink.is_sound Sink.number Sink.has_failed Sink.errors Sink.is_quiet self.old self.new c result }
     {
         self.tell_if(c == '>', "missing attribute value")?;
         self.take_before_value(c)
@@ -193,7 +199,7 @@ impl<Sink: TokenSink> Tokenizer<Sink> {
     fn take_before_value(&mut self, c: char) -> Result<ProcessResult<Sink::Handle>, ParseFault>
         requires at { IsAt self.old state.BeforeAttributeValue }
         requires sound { Sink.is_sound (Sink.view self.old.sink) }
-        ensures { Keeps Sink.step Sink.view Sink.asks_cdata Sink.ended Sink.is_sound Sink.number Sink.has_failed Sink.errors self.old self.new c result }
+        ensures { Keeps Sink.step Sink.view Sink.asks_cdata Sink.ended Sink.is_sound Sink.number Sink.has_failed Sink.errors Sink.is_quiet self.old self.new c result }
     {
         if is_white_space(c) {
             return Ok(ProcessResult::Continue);
@@ -224,7 +230,7 @@ impl<Sink: TokenSink> Tokenizer<Sink> {
     ) -> Result<ProcessResult<Sink::Handle>, ParseFault>
         requires at { IsAt self.old (state.AttributeValue kind) }
         requires sound { Sink.is_sound (Sink.view self.old.sink) }
-        ensures { Keeps Sink.step Sink.view Sink.asks_cdata Sink.ended Sink.is_sound Sink.number Sink.has_failed Sink.errors self.old self.new c result }
+        ensures { Keeps Sink.step Sink.view Sink.asks_cdata Sink.ended Sink.is_sound Sink.number Sink.has_failed Sink.errors Sink.is_quiet self.old self.new c result }
     {
         match kind {
             AttrValueKind::Unquoted => self.unquoted_value_state(c),
@@ -237,7 +243,7 @@ impl<Sink: TokenSink> Tokenizer<Sink> {
     fn unquoted_value_state(&mut self, c: char) -> Result<ProcessResult<Sink::Handle>, ParseFault>
         requires at { IsAt self.old (state.AttributeValue value.Unquoted) }
         requires sound { Sink.is_sound (Sink.view self.old.sink) }
-        ensures { Keeps Sink.step Sink.view Sink.asks_cdata Sink.ended Sink.is_sound Sink.number Sink.has_failed Sink.errors self.old self.new c result }
+        ensures { Keeps Sink.step Sink.view Sink.asks_cdata Sink.ended Sink.is_sound Sink.number Sink.has_failed Sink.errors Sink.is_quiet self.old self.new c result }
     {
         self.tell_fault(unquoted_fault(c))?;
         self.take_in_unquoted_value(c)
@@ -247,7 +253,7 @@ impl<Sink: TokenSink> Tokenizer<Sink> {
     fn take_in_unquoted_value(&mut self, c: char) -> Result<ProcessResult<Sink::Handle>, ParseFault>
         requires at { IsAt self.old (state.AttributeValue value.Unquoted) }
         requires sound { Sink.is_sound (Sink.view self.old.sink) }
-        ensures { Keeps Sink.step Sink.view Sink.asks_cdata Sink.ended Sink.is_sound Sink.number Sink.has_failed Sink.errors self.old self.new c result }
+        ensures { Keeps Sink.step Sink.view Sink.asks_cdata Sink.ended Sink.is_sound Sink.number Sink.has_failed Sink.errors Sink.is_quiet self.old self.new c result }
     {
         if ends_word(c) {
             self.finish_attribute()?;
@@ -272,7 +278,7 @@ impl<Sink: TokenSink> Tokenizer<Sink> {
         requires at { IsAt self.old (state.AttributeValue kind) }
         requires quote { quote_of kind ≡ Some quote }
         requires sound { Sink.is_sound (Sink.view self.old.sink) }
-        ensures { Keeps Sink.step Sink.view Sink.asks_cdata Sink.ended Sink.is_sound Sink.number Sink.has_failed Sink.errors self.old self.new c result }
+        ensures { Keeps Sink.step Sink.view Sink.asks_cdata Sink.ended Sink.is_sound Sink.number Sink.has_failed Sink.errors Sink.is_quiet self.old self.new c result }
     {
         self.tell_null(c)?;
         self.take_in_quoted_value(kind, quote, c)
@@ -288,7 +294,7 @@ impl<Sink: TokenSink> Tokenizer<Sink> {
         requires at { IsAt self.old (state.AttributeValue kind) }
         requires quote { quote_of kind ≡ Some quote }
         requires sound { Sink.is_sound (Sink.view self.old.sink) }
-        ensures { Keeps Sink.step Sink.view Sink.asks_cdata Sink.ended Sink.is_sound Sink.number Sink.has_failed Sink.errors self.old self.new c result }
+        ensures { Keeps Sink.step Sink.view Sink.asks_cdata Sink.ended Sink.is_sound Sink.number Sink.has_failed Sink.errors Sink.is_quiet self.old self.new c result }
     {
         if c == quote {
             self.finish_attribute()?;
@@ -310,7 +316,7 @@ impl<Sink: TokenSink> Tokenizer<Sink> {
     ) -> Result<ProcessResult<Sink::Handle>, ParseFault>
         requires at { IsAt self.old state.AfterAttributeValueQuoted }
         requires sound { Sink.is_sound (Sink.view self.old.sink) }
-        ensures { Keeps Sink.step Sink.view Sink.asks_cdata Sink.ended Sink.is_sound Sink.number Sink.has_failed Sink.errors self.old self.new c result }
+        ensures { Keeps Sink.step Sink.view Sink.asks_cdata Sink.ended Sink.is_sound Sink.number Sink.has_failed Sink.errors Sink.is_quiet self.old self.new c result }
     {
         self.tell_if(!ends_tag_name(c), "missing whitespace between attributes")?;
         self.take_behind_value(c)
@@ -320,7 +326,7 @@ impl<Sink: TokenSink> Tokenizer<Sink> {
     fn take_behind_value(&mut self, c: char) -> Result<ProcessResult<Sink::Handle>, ParseFault>
         requires at { IsAt self.old state.AfterAttributeValueQuoted }
         requires sound { Sink.is_sound (Sink.view self.old.sink) }
-        ensures { Keeps Sink.step Sink.view Sink.asks_cdata Sink.ended Sink.is_sound Sink.number Sink.has_failed Sink.errors self.old self.new c result }
+        ensures { Keeps Sink.step Sink.view Sink.asks_cdata Sink.ended Sink.is_sound Sink.number Sink.has_failed Sink.errors Sink.is_quiet self.old self.new c result }
     {
         self.state = State::BeforeAttributeName;
         self.before_attribute_name_state(c)

@@ -5,8 +5,9 @@ ghost use Rattle.html_tokens.specs.declared.states.RawKind.TheVariants as raw;
 ghost use Rattle.html_tokens.specs.declared.states.State.TheVariants as state;
 ghost use Rattle.html_tokenizer.specs.Calls.{Closes};
 ghost use Rattle.html_tokenizer.specs.CharRefs.{fits_in, is_held, may_hold};
-ghost use Rattle.html_tokenizer.specs.EndText.{is_told_text, is_tag_part};
-ghost use Rattle.html_tokenizer.specs.Steps.{IsAt};
+ghost use Rattle.html_tokenizer.specs.EndText.{is_told_text, is_tag_part, is_escaped};
+ghost use Rattle.html_tokenizer.specs.Steps.{IsAt, Errs, owed_for};
+ghost use Rattle.html_tokens.specs.Item.{grave_if};
 
 use crate::held_reference::HeldReference;
 use crate::raw_states::ends_at_tag;
@@ -16,7 +17,9 @@ use html_tokens::states::{AttrValueKind, RawKind, ScriptEscapeKind, State};
 use markup::ParseFault;
 
 /// Whether a state is one of a script's escaped text, behind `<!--`.
-fn is_escaped(state: State) -> bool {
+fn is_escaped(state: State) -> bool
+    ensures { result ≡ is_escaped state }
+{
     matches!(
         state,
         State::RawData(RawKind::ScriptDataEscaped(_))
@@ -31,21 +34,33 @@ fn is_escaped(state: State) -> bool {
 }
 
 impl<Sink: TokenSink> Tokenizer<Sink> {
+    /// Tells of the end of the input, if it stands in a script's escaped text.
+    fn tell_escaped_end(&mut self) -> Result<(), ParseFault>
+        requires sound { Sink.is_sound (Sink.view self.old.sink) }
+        ensures { Errs Sink.step Sink.view Sink.asks_cdata Sink.ended Sink.is_sound Sink.number Sink.has_failed Sink.errors Sink.is_quiet (owed_for (grave_if (is_escaped self.old.state))) self.old self.new result }
+    {
+        self.tell_if(
+            is_escaped(self.state),
+            "end of input in script html comment like text",
+        )
+    }
+
     /// The input ends in text of which nothing is held.
     fn end_told_text(&mut self) -> Result<(), ParseFault>
         requires at { is_told_text self.old.state ≡ true }
         requires fresh { self.old.char_ref ≡ None }
         requires sound { Sink.is_sound (Sink.view self.old.sink) }
-        ensures { Closes Sink.step Sink.view Sink.asks_cdata Sink.ended Sink.is_sound Sink.number Sink.has_failed Sink.errors self.old self.new result }
+        ensures { Closes Sink.step Sink.view Sink.asks_cdata Sink.ended Sink.is_sound Sink.number Sink.has_failed Sink.errors Sink.is_quiet self.old self.new result }
     {
-        Ok(())
+        let _letters = self.word.as_str();
+        self.tell_escaped_end()
     }
 
     /// The input ends behind `<`, which was text.
     fn end_tag_open(&mut self) -> Result<(), ParseFault>
         requires at { IsAt self.old state.TagOpen }
         requires sound { Sink.is_sound (Sink.view self.old.sink) }
-        ensures { Closes Sink.step Sink.view Sink.asks_cdata Sink.ended Sink.is_sound Sink.number Sink.has_failed Sink.errors self.old self.new result }
+        ensures { Closes Sink.step Sink.view Sink.asks_cdata Sink.ended Sink.is_sound Sink.number Sink.has_failed Sink.errors Sink.is_quiet self.old self.new result }
     {
         self.tell_unopened("end of input before tag name")
     }
@@ -54,7 +69,7 @@ impl<Sink: TokenSink> Tokenizer<Sink> {
     fn end_end_tag_open(&mut self) -> Result<(), ParseFault>
         requires at { IsAt self.old state.EndTagOpen }
         requires sound { Sink.is_sound (Sink.view self.old.sink) }
-        ensures { Closes Sink.step Sink.view Sink.asks_cdata Sink.ended Sink.is_sound Sink.number Sink.has_failed Sink.errors self.old self.new result }
+        ensures { Closes Sink.step Sink.view Sink.asks_cdata Sink.ended Sink.is_sound Sink.number Sink.has_failed Sink.errors Sink.is_quiet self.old self.new result }
     {
         self.tell_unopened_end("end of input before tag name")
     }
@@ -63,37 +78,40 @@ impl<Sink: TokenSink> Tokenizer<Sink> {
     fn end_raw_less_than_sign(&mut self, kind: RawKind) -> Result<(), ParseFault>
         requires at { IsAt self.old (state.RawLessThanSign kind) }
         requires sound { Sink.is_sound (Sink.view self.old.sink) }
-        ensures { Closes Sink.step Sink.view Sink.asks_cdata Sink.ended Sink.is_sound Sink.number Sink.has_failed Sink.errors self.old self.new result }
+        ensures { Closes Sink.step Sink.view Sink.asks_cdata Sink.ended Sink.is_sound Sink.number Sink.has_failed Sink.errors Sink.is_quiet self.old self.new result }
     {
-        if ends_at_tag(kind) {
-            return self.tell_char('<');
+        if !ends_at_tag(kind) {
+            return self.tell_escaped_end();
         }
-        Ok(())
+        self.tell_char('<')?;
+        self.tell_escaped_end()
     }
 
     /// The input ends in raw text behind `</`, which was text.
     fn end_raw_end_tag_open(&mut self, kind: RawKind) -> Result<(), ParseFault>
         requires at { IsAt self.old (state.RawEndTagOpen kind) }
         requires sound { Sink.is_sound (Sink.view self.old.sink) }
-        ensures { Closes Sink.step Sink.view Sink.asks_cdata Sink.ended Sink.is_sound Sink.number Sink.has_failed Sink.errors self.old self.new result }
+        ensures { Closes Sink.step Sink.view Sink.asks_cdata Sink.ended Sink.is_sound Sink.number Sink.has_failed Sink.errors Sink.is_quiet self.old self.new result }
     {
-        self.tell_two('<', '/')
+        self.tell_two('<', '/')?;
+        self.tell_escaped_end()
     }
 
     /// The input ends in raw text behind `</` and letters, which were text.
     fn end_raw_end_tag_name(&mut self, kind: RawKind) -> Result<(), ParseFault>
         requires at { IsAt self.old (state.RawEndTagName kind) }
         requires sound { Sink.is_sound (Sink.view self.old.sink) }
-        ensures { Closes Sink.step Sink.view Sink.asks_cdata Sink.ended Sink.is_sound Sink.number Sink.has_failed Sink.errors self.old self.new result }
+        ensures { Closes Sink.step Sink.view Sink.asks_cdata Sink.ended Sink.is_sound Sink.number Sink.has_failed Sink.errors Sink.is_quiet self.old self.new result }
     {
-        self.tell_end_tag()
+        self.tell_end_tag()?;
+        self.tell_escaped_end()
     }
 
     /// The input ends in a CDATA section.
     fn end_cdata_section(&mut self) -> Result<(), ParseFault>
         requires at { IsAt self.old state.CdataSection }
         requires sound { Sink.is_sound (Sink.view self.old.sink) }
-        ensures { Closes Sink.step Sink.view Sink.asks_cdata Sink.ended Sink.is_sound Sink.number Sink.has_failed Sink.errors self.old self.new result }
+        ensures { Closes Sink.step Sink.view Sink.asks_cdata Sink.ended Sink.is_sound Sink.number Sink.has_failed Sink.errors Sink.is_quiet self.old self.new result }
     {
         self.tell_error("end of input in a CDATA section")
     }
@@ -102,20 +120,20 @@ impl<Sink: TokenSink> Tokenizer<Sink> {
     fn end_cdata_section_bracket(&mut self) -> Result<(), ParseFault>
         requires at { IsAt self.old state.CdataSectionBracket }
         requires sound { Sink.is_sound (Sink.view self.old.sink) }
-        ensures { Closes Sink.step Sink.view Sink.asks_cdata Sink.ended Sink.is_sound Sink.number Sink.has_failed Sink.errors self.old self.new result }
+        ensures { Closes Sink.step Sink.view Sink.asks_cdata Sink.ended Sink.is_sound Sink.number Sink.has_failed Sink.errors Sink.is_quiet self.old self.new result }
     {
-        self.tell_error("end of input in a CDATA section")?;
-        self.tell_char(']')
+        self.tell_char(']')?;
+        self.tell_error("end of input in a CDATA section")
     }
 
     /// The input ends in a CDATA section behind `]]`, which was text.
     fn end_cdata_section_end(&mut self) -> Result<(), ParseFault>
         requires at { IsAt self.old state.CdataSectionEnd }
         requires sound { Sink.is_sound (Sink.view self.old.sink) }
-        ensures { Closes Sink.step Sink.view Sink.asks_cdata Sink.ended Sink.is_sound Sink.number Sink.has_failed Sink.errors self.old self.new result }
+        ensures { Closes Sink.step Sink.view Sink.asks_cdata Sink.ended Sink.is_sound Sink.number Sink.has_failed Sink.errors Sink.is_quiet self.old self.new result }
     {
-        self.tell_error("end of input in a CDATA section")?;
-        self.tell_two(']', ']')
+        self.tell_two(']', ']')?;
+        self.tell_error("end of input in a CDATA section")
     }
 
     /// The input ends in a tag, which is not told.
@@ -123,7 +141,7 @@ impl<Sink: TokenSink> Tokenizer<Sink> {
         requires at { is_tag_part self.old.state ≡ true }
         requires fresh { self.old.char_ref ≡ None }
         requires sound { Sink.is_sound (Sink.view self.old.sink) }
-        ensures { Closes Sink.step Sink.view Sink.asks_cdata Sink.ended Sink.is_sound Sink.number Sink.has_failed Sink.errors self.old self.new result }
+        ensures { Closes Sink.step Sink.view Sink.asks_cdata Sink.ended Sink.is_sound Sink.number Sink.has_failed Sink.errors Sink.is_quiet self.old self.new result }
     {
         self.tell_error("end of input in a tag")
     }
@@ -132,20 +150,7 @@ impl<Sink: TokenSink> Tokenizer<Sink> {
     fn end_state(&mut self) -> Result<(), ParseFault>
         requires fresh { self.old.char_ref ≡ None }
         requires sound { Sink.is_sound (Sink.view self.old.sink) }
-        ensures { Closes Sink.step Sink.view Sink.asks_cdata Sink.ended Sink.is_sound Sink.number Sink.has_failed Sink.errors self.old self.new result }
-    {
-        self.tell_if(
-            is_escaped(self.state),
-            "end of input in script html comment like text",
-        )?;
-        self.end_told_state()
-    }
-
-    /// The same, where an error of a script's escaped text was told.
-    fn end_told_state(&mut self) -> Result<(), ParseFault>
-        requires fresh { self.old.char_ref ≡ None }
-        requires sound { Sink.is_sound (Sink.view self.old.sink) }
-        ensures { Closes Sink.step Sink.view Sink.asks_cdata Sink.ended Sink.is_sound Sink.number Sink.has_failed Sink.errors self.old self.new result }
+        ensures { Closes Sink.step Sink.view Sink.asks_cdata Sink.ended Sink.is_sound Sink.number Sink.has_failed Sink.errors Sink.is_quiet self.old self.new result }
     {
         match self.state {
             State::Data
@@ -203,7 +208,7 @@ impl<Sink: TokenSink> Tokenizer<Sink> {
         requires at { IsAt self.old state.Data }
         requires held { list_all is_held held.now ≡ true }
         requires sound { Sink.is_sound (Sink.view self.old.sink) }
-        ensures { Closes Sink.step Sink.view Sink.asks_cdata Sink.ended Sink.is_sound Sink.number Sink.has_failed Sink.errors (record self.old { char_ref = Some held.now }) self.new result }
+        ensures { Closes Sink.step Sink.view Sink.asks_cdata Sink.ended Sink.is_sound Sink.number Sink.has_failed Sink.errors Sink.is_quiet (record self.old { char_ref = Some held.now }) self.new result }
     {
         self.tell_reference(held)
     }
@@ -213,7 +218,7 @@ impl<Sink: TokenSink> Tokenizer<Sink> {
         requires at { IsAt self.old (state.RawData raw.Rcdata) }
         requires held { list_all is_held held.now ≡ true }
         requires sound { Sink.is_sound (Sink.view self.old.sink) }
-        ensures { Closes Sink.step Sink.view Sink.asks_cdata Sink.ended Sink.is_sound Sink.number Sink.has_failed Sink.errors (record self.old { char_ref = Some held.now }) self.new result }
+        ensures { Closes Sink.step Sink.view Sink.asks_cdata Sink.ended Sink.is_sound Sink.number Sink.has_failed Sink.errors Sink.is_quiet (record self.old { char_ref = Some held.now }) self.new result }
     {
         self.tell_reference(held)
     }
@@ -227,7 +232,7 @@ impl<Sink: TokenSink> Tokenizer<Sink> {
         requires at { IsAt self.old (state.AttributeValue kind) }
         requires held { list_all is_held held.now ≡ true }
         requires sound { Sink.is_sound (Sink.view self.old.sink) }
-        ensures { Closes Sink.step Sink.view Sink.asks_cdata Sink.ended Sink.is_sound Sink.number Sink.has_failed Sink.errors (record self.old { char_ref = Some held.now }) self.new result }
+        ensures { Closes Sink.step Sink.view Sink.asks_cdata Sink.ended Sink.is_sound Sink.number Sink.has_failed Sink.errors Sink.is_quiet (record self.old { char_ref = Some held.now }) self.new result }
     {
         self.tell_error("end of input in a tag")
     }
@@ -238,7 +243,7 @@ impl<Sink: TokenSink> Tokenizer<Sink> {
         requires fits { may_hold self.old.state ≡ true }
         requires held { list_all is_held held.now ≡ true }
         requires sound { Sink.is_sound (Sink.view self.old.sink) }
-        ensures { Closes Sink.step Sink.view Sink.asks_cdata Sink.ended Sink.is_sound Sink.number Sink.has_failed Sink.errors (record self.old { char_ref = Some held.now }) self.new result }
+        ensures { Closes Sink.step Sink.view Sink.asks_cdata Sink.ended Sink.is_sound Sink.number Sink.has_failed Sink.errors Sink.is_quiet (record self.old { char_ref = Some held.now }) self.new result }
     {
         match self.state {
             State::Data => self.end_data_reference(held),
@@ -252,7 +257,7 @@ impl<Sink: TokenSink> Tokenizer<Sink> {
     pub(crate) fn tell_held(&mut self) -> Result<(), ParseFault>
         requires fits { fits_in self.old.char_ref self.old.state ≡ true }
         requires sound { Sink.is_sound (Sink.view self.old.sink) }
-        ensures { Closes Sink.step Sink.view Sink.asks_cdata Sink.ended Sink.is_sound Sink.number Sink.has_failed Sink.errors self.old self.new result }
+        ensures { Closes Sink.step Sink.view Sink.asks_cdata Sink.ended Sink.is_sound Sink.number Sink.has_failed Sink.errors Sink.is_quiet self.old self.new result }
     {
         match self.char_ref.take() {
             Some(held) => self.end_reference(&held),

@@ -1,26 +1,33 @@
 //! Laws over the calls of a tokenizer. Each function's contract is one law.
-ghost use Rattle.html_tokenizer.specs.Laws.{IsAnyPieces, IsEachFaultTold, IsOwing, IsSameRoad};
+ghost use Rattle.html_tokenizer.specs.Laws.{IsAnyPieces, IsCleanTextQuiet, IsEachFaultTold, IsOwing, IsSameRoad};
+ghost use Rattle.html_tokenizer.specs.Steps.{nothing};
 
 use html_tokens::sink::TokenSink;
 
 /// In whatever pieces a text is fed to a tokenizer, put in at pauses too, and with control characters told or not: the
 /// sink is left in one state, and the pauses are the same.
 pub fn any_pieces<Sink: TokenSink>()
-    ensures { IsAnyPieces Sink.step Sink.view Sink.asks_cdata Sink.ended Sink.is_sound Sink.number Sink.has_failed Sink.errors }
+    ensures { IsAnyPieces Sink.step Sink.view Sink.asks_cdata Sink.ended Sink.is_sound Sink.number Sink.has_failed Sink.errors Sink.is_quiet }
 {}
 
 /// Telling control characters or not changes nothing of what is to come.
 pub fn same_road<Sink: TokenSink>()
-    ensures { IsSameRoad Sink.step Sink.view Sink.asks_cdata Sink.ended Sink.is_sound Sink.number Sink.has_failed Sink.errors }
+    ensures { IsSameRoad Sink.step Sink.view Sink.asks_cdata Sink.ended Sink.is_sound Sink.number Sink.has_failed Sink.errors Sink.is_quiet }
 {}
 
 /// From a new tokenizer to its end, in whatever pieces the text came, the number of errors rises by as many as the text has
 /// faulty items at least, or is at `u64::MAX`.
 pub fn each_fault_is_told<Sink: TokenSink>()
-    ensures { IsEachFaultTold Sink.step Sink.view Sink.asks_cdata Sink.ended Sink.is_sound Sink.number Sink.has_failed Sink.errors }
+    ensures { IsEachFaultTold Sink.step Sink.view Sink.asks_cdata Sink.ended Sink.is_sound Sink.number Sink.has_failed Sink.errors Sink.is_quiet }
 {}
 
 /// What a tokenizer owes of errors is told, call by call, or still owed; at the end it is told.
 pub fn owed_errors_are_told<Sink: TokenSink>()
-    ensures { IsOwing Sink.step Sink.view Sink.asks_cdata Sink.ended Sink.is_sound Sink.number Sink.has_failed Sink.errors }
+    ensures { IsOwing Sink.step Sink.view Sink.asks_cdata Sink.ended Sink.is_sound Sink.number Sink.has_failed Sink.errors Sink.is_quiet }
+{}
+
+/// Under the default options a text that is read without anything that is not clean, in whatever pieces it came, leaves the
+/// number of errors as it was, up to the sink's own end; unless the sink itself finds an error in a token.
+pub fn clean_texts_tell_no_error<Sink: TokenSink>()
+    ensures { IsCleanTextQuiet Sink.step Sink.view Sink.asks_cdata Sink.ended Sink.is_sound Sink.number Sink.has_failed Sink.errors Sink.is_quiet }
 {}

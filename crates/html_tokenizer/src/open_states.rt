@@ -1,9 +1,10 @@
 //! Behind `<` and `</` outside of raw text (HTML Standard, sections 13.2.5.6 and 13.2.5.7).
-ghost use Rattle.std.specs.Prelude.{◌≡◌, ◌∷◌, [], true};
+ghost use Rattle.std.specs.Prelude.{◌≡◌, ◌∷◌, [], true, Some};
 ghost use Rattle.std.specs.Char.{is_ascii_alphabetic};
 ghost use Rattle.html_tokens.specs.declared.states.State.TheVariants as state;
 ghost use Rattle.html_tokens.specs.declared.token.Token.TheVariants.{CharacterTokens};
-ghost use Rattle.html_tokenizer.specs.Steps.{IsAt, Tells, Keeps};
+ghost use Rattle.html_tokenizer.specs.Steps.{IsAt, Tells, Keeps, nothing, owed_for};
+ghost use Rattle.html_tokens.specs.Item.{Slight};
 
 use crate::keyword::Keyword;
 use crate::tag_states::nameless;
@@ -18,7 +19,7 @@ impl<Sink: TokenSink> Tokenizer<Sink> {
     /// Hands out `<` as text, since it opened nothing, which is a parse error.
     pub(crate) fn tell_unopened(&mut self, message: &'static str) -> Result<(), ParseFault>
         requires sound { Sink.is_sound (Sink.view self.old.sink) }
-        ensures { Tells Sink.step Sink.view Sink.asks_cdata Sink.ended Sink.is_sound Sink.number Sink.has_failed Sink.errors 0 (CharacterTokens (60 ∷ [])) self.old self.new result }
+        ensures { Tells Sink.step Sink.view Sink.asks_cdata Sink.ended Sink.is_sound Sink.number Sink.has_failed Sink.errors Sink.is_quiet (owed_for (Some Slight)) (CharacterTokens (60 ∷ [])) self.old self.new result }
     {
         self.tell_error(message)?;
         self.tell_char('<')
@@ -27,7 +28,7 @@ impl<Sink: TokenSink> Tokenizer<Sink> {
     /// Hands out `</` as text, since it opened nothing, which is a parse error.
     pub(crate) fn tell_unopened_end(&mut self, message: &'static str) -> Result<(), ParseFault>
         requires sound { Sink.is_sound (Sink.view self.old.sink) }
-        ensures { Tells Sink.step Sink.view Sink.asks_cdata Sink.ended Sink.is_sound Sink.number Sink.has_failed Sink.errors 0 (CharacterTokens (60 ∷ 47 ∷ [])) self.old self.new result }
+        ensures { Tells Sink.step Sink.view Sink.asks_cdata Sink.ended Sink.is_sound Sink.number Sink.has_failed Sink.errors Sink.is_quiet (owed_for (Some Slight)) (CharacterTokens (60 ∷ 47 ∷ [])) self.old self.new result }
     {
         self.tell_error(message)?;
         self.tell_two('<', '/')
@@ -40,7 +41,7 @@ impl<Sink: TokenSink> Tokenizer<Sink> {
     ) -> Result<ProcessResult<Sink::Handle>, ParseFault>
         requires at { IsAt self.old state.TagOpen }
         requires sound { Sink.is_sound (Sink.view self.old.sink) }
-        ensures { Keeps Sink.step Sink.view Sink.asks_cdata Sink.ended Sink.is_sound Sink.number Sink.has_failed Sink.errors self.old self.new c result }
+        ensures { Keeps Sink.step Sink.view Sink.asks_cdata Sink.ended Sink.is_sound Sink.number Sink.has_failed Sink.errors Sink.is_quiet self.old self.new c result }
     {
         if c == '/' {
             self.state = State::EndTagOpen;
@@ -73,7 +74,7 @@ impl<Sink: TokenSink> Tokenizer<Sink> {
     ) -> Result<ProcessResult<Sink::Handle>, ParseFault>
         requires at { IsAt self.old state.EndTagOpen }
         requires sound { Sink.is_sound (Sink.view self.old.sink) }
-        ensures { Keeps Sink.step Sink.view Sink.asks_cdata Sink.ended Sink.is_sound Sink.number Sink.has_failed Sink.errors self.old self.new c result }
+        ensures { Keeps Sink.step Sink.view Sink.asks_cdata Sink.ended Sink.is_sound Sink.number Sink.has_failed Sink.errors Sink.is_quiet self.old self.new c result }
     {
         if c.is_ascii_alphabetic() {
             self.tag = nameless(self.stream.alloc);

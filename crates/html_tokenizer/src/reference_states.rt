@@ -1,13 +1,12 @@
 //! Character references in text and in attributes' values (HTML Standard, sections 13.2.5.72 to 13.2.5.80).
 ghost use Rattle.std.specs.Prelude.{◌≡◌, Some, None, true, false};
-ghost use Rattle.html_tokens.specs.Notes.{one_if};
-ghost use Rattle.html_tokens.specs.Reference.{names_no_character};
+ghost use Rattle.html_tokens.specs.Reference.{fault_of_reference};
 ghost use Rattle.html_tokens.specs.declared.states.RawKind.TheVariants as raw;
 ghost use Rattle.html_tokens.specs.declared.states.State.TheVariants as state;
 ghost use Rattle.html_tokens.specs.declared.token.Token.TheVariants.{CharacterTokens};
 ghost use Rattle.html_tokenizer.specs.CharRefs.{IsDecided, may_hold, resolved};
 ghost use Rattle.html_tokenizer.specs.Rest.{rows_of};
-ghost use Rattle.html_tokenizer.specs.Steps.{IsAt, Keeps, Tells};
+ghost use Rattle.html_tokenizer.specs.Steps.{IsAt, Keeps, Tells, owed_for};
 
 use crate::held_reference::HeldReference;
 use crate::references::{decided, goes_on_at, may_go_on, push_resolved};
@@ -22,7 +21,7 @@ impl<Sink: TokenSink> Tokenizer<Sink> {
     /// Hands out what a reference in text stands for.
     pub(crate) fn tell_reference(&mut self, held: &HeldReference) -> Result<(), ParseFault>
         requires sound { Sink.is_sound (Sink.view self.old.sink) }
-        ensures { Tells Sink.step Sink.view Sink.asks_cdata Sink.ended Sink.is_sound Sink.number Sink.has_failed Sink.errors (one_if (names_no_character held.now)) (CharacterTokens (resolved false (rows_of self.old) held.now false)) self.old self.new result }
+        ensures { Tells Sink.step Sink.view Sink.asks_cdata Sink.ended Sink.is_sound Sink.number Sink.has_failed Sink.errors Sink.is_quiet (owed_for (fault_of_reference (rows_of self.old) held.now)) (CharacterTokens (resolved false (rows_of self.old) held.now false)) self.old self.new result }
     {
         let decision = decided(&self.stream.table, false, held, false);
         let mut text = empty(self.stream.alloc);
@@ -43,7 +42,7 @@ impl<Sink: TokenSink> Tokenizer<Sink> {
         requires at { IsAt self.old state.Data }
         requires decided { IsDecided (rows_of self.old) held.now c }
         requires sound { Sink.is_sound (Sink.view self.old.sink) }
-        ensures { Keeps Sink.step Sink.view Sink.asks_cdata Sink.ended Sink.is_sound Sink.number Sink.has_failed Sink.errors (record self.old { char_ref = Some held.now }) self.new c result }
+        ensures { Keeps Sink.step Sink.view Sink.asks_cdata Sink.ended Sink.is_sound Sink.number Sink.has_failed Sink.errors Sink.is_quiet (record self.old { char_ref = Some held.now }) self.new c result }
     {
         self.tell_reference(held)?;
         self.data_state(c)
@@ -58,7 +57,7 @@ impl<Sink: TokenSink> Tokenizer<Sink> {
         requires at { IsAt self.old (state.RawData raw.Rcdata) }
         requires decided { IsDecided (rows_of self.old) held.now c }
         requires sound { Sink.is_sound (Sink.view self.old.sink) }
-        ensures { Keeps Sink.step Sink.view Sink.asks_cdata Sink.ended Sink.is_sound Sink.number Sink.has_failed Sink.errors (record self.old { char_ref = Some held.now }) self.new c result }
+        ensures { Keeps Sink.step Sink.view Sink.asks_cdata Sink.ended Sink.is_sound Sink.number Sink.has_failed Sink.errors Sink.is_quiet (record self.old { char_ref = Some held.now }) self.new c result }
     {
         self.tell_reference(held)?;
         self.raw_data_state(RawKind::Rcdata, c)
@@ -74,7 +73,7 @@ impl<Sink: TokenSink> Tokenizer<Sink> {
         requires at { IsAt self.old (state.AttributeValue kind) }
         requires decided { IsDecided (rows_of self.old) held.now c }
         requires sound { Sink.is_sound (Sink.view self.old.sink) }
-        ensures { Keeps Sink.step Sink.view Sink.asks_cdata Sink.ended Sink.is_sound Sink.number Sink.has_failed Sink.errors (record self.old { char_ref = Some held.now }) self.new c result }
+        ensures { Keeps Sink.step Sink.view Sink.asks_cdata Sink.ended Sink.is_sound Sink.number Sink.has_failed Sink.errors Sink.is_quiet (record self.old { char_ref = Some held.now }) self.new c result }
     {
         let decision = decided(&self.stream.table, true, held, goes_on_at(c));
         self.tell_fault(decision.fault)?;
@@ -91,7 +90,7 @@ impl<Sink: TokenSink> Tokenizer<Sink> {
         requires fresh { self.old.char_ref ≡ None }
         requires fits { may_hold self.old.state ≡ true }
         requires sound { Sink.is_sound (Sink.view self.old.sink) }
-        ensures { Keeps Sink.step Sink.view Sink.asks_cdata Sink.ended Sink.is_sound Sink.number Sink.has_failed Sink.errors (record self.old { char_ref = Some held }) self.new c result }
+        ensures { Keeps Sink.step Sink.view Sink.asks_cdata Sink.ended Sink.is_sound Sink.number Sink.has_failed Sink.errors Sink.is_quiet (record self.old { char_ref = Some held }) self.new c result }
     {
         if may_go_on(&self.stream.table, &held, c) {
             held.push(c)?;

@@ -1,12 +1,12 @@
 //! Tags up to their attributes, and their end (HTML Standard, sections 13.2.5.8, 13.2.5.32 and 13.2.5.40).
 ghost use Rattle.std.specs.Prelude.{◌≡◌, [], None, IfOk, IfErr};
-ghost use Rattle.html_tokens.specs.Notes.{one_if};
 ghost use Rattle.html_tokens.specs.Tags.{last_name, is_faulty_tag};
 ghost use Rattle.html_tokens.specs.declared.states.State.TheVariants as state;
 ghost use Rattle.html_tokens.specs.declared.tags.TagKind.TheVariants.{StartTag};
 ghost use Rattle.html_tokens.specs.Tags.{named};
 ghost use Rattle.markup.specs.declared.fault.ParseFault.TheVariants.{Memory};
-ghost use Rattle.html_tokenizer.specs.Steps.{IsAt, Keeps, Errs, EndsTag, state_behind, answer_to};
+ghost use Rattle.html_tokenizer.specs.Steps.{IsAt, Keeps, Errs, EndsTag, state_behind, answer_to, owed_for};
+ghost use Rattle.html_tokens.specs.Item.{grave_if};
 
 use crate::characters::{is_white_space, lowered};
 use crate::tokenizer::Tokenizer;
@@ -61,7 +61,7 @@ impl<Sink: TokenSink> Tokenizer<Sink> {
     /// Tells an error, if the tag that is read is faulty.
     fn tell_faulty_tag(&mut self) -> Result<(), ParseFault>
         requires sound { Sink.is_sound (Sink.view self.old.sink) }
-        ensures { Errs Sink.step Sink.view Sink.asks_cdata Sink.ended Sink.is_sound Sink.number Sink.has_failed Sink.errors (one_if (is_faulty_tag self.old.tag)) self.old self.new result }
+        ensures { Errs Sink.step Sink.view Sink.asks_cdata Sink.ended Sink.is_sound Sink.number Sink.has_failed Sink.errors Sink.is_quiet (owed_for (grave_if (is_faulty_tag self.old.tag))) self.old self.new result }
     {
         if is_faulty(&self.tag) {
             return self.tell_error("repeated attribute, or more than a name in an end tag");
@@ -94,7 +94,7 @@ impl<Sink: TokenSink> Tokenizer<Sink> {
     pub(crate) fn emit_tag(&mut self) -> Result<ProcessResult<Sink::Handle>, ParseFault>
         requires fresh { self.old.char_ref ≡ None }
         requires sound { Sink.is_sound (Sink.view self.old.sink) }
-        ensures { EndsTag Sink.step Sink.view Sink.asks_cdata Sink.ended Sink.is_sound Sink.number Sink.has_failed Sink.errors self.old self.new result }
+        ensures { EndsTag Sink.step Sink.view Sink.asks_cdata Sink.ended Sink.is_sound Sink.number Sink.has_failed Sink.errors Sink.is_quiet self.old self.new result }
     {
         let last_start_tag = self.next_last_start_tag()?;
         self.tell_faulty_tag()?;
@@ -112,7 +112,7 @@ impl<Sink: TokenSink> Tokenizer<Sink> {
     ) -> Result<ProcessResult<Sink::Handle>, ParseFault>
         requires at { IsAt self.old state.TagName }
         requires sound { Sink.is_sound (Sink.view self.old.sink) }
-        ensures { Keeps Sink.step Sink.view Sink.asks_cdata Sink.ended Sink.is_sound Sink.number Sink.has_failed Sink.errors self.old self.new c result }
+        ensures { Keeps Sink.step Sink.view Sink.asks_cdata Sink.ended Sink.is_sound Sink.number Sink.has_failed Sink.errors Sink.is_quiet self.old self.new c result }
     {
         self.tell_null(c)?;
         self.take_in_tag_name(c)
@@ -122,7 +122,7 @@ impl<Sink: TokenSink> Tokenizer<Sink> {
     fn take_in_tag_name(&mut self, c: char) -> Result<ProcessResult<Sink::Handle>, ParseFault>
         requires at { IsAt self.old state.TagName }
         requires sound { Sink.is_sound (Sink.view self.old.sink) }
-        ensures { Keeps Sink.step Sink.view Sink.asks_cdata Sink.ended Sink.is_sound Sink.number Sink.has_failed Sink.errors self.old self.new c result }
+        ensures { Keeps Sink.step Sink.view Sink.asks_cdata Sink.ended Sink.is_sound Sink.number Sink.has_failed Sink.errors Sink.is_quiet self.old self.new c result }
     {
         if is_white_space(c) {
             self.state = State::BeforeAttributeName;
@@ -146,7 +146,7 @@ impl<Sink: TokenSink> Tokenizer<Sink> {
     ) -> Result<ProcessResult<Sink::Handle>, ParseFault>
         requires at { IsAt self.old state.SelfClosingStartTag }
         requires sound { Sink.is_sound (Sink.view self.old.sink) }
-        ensures { Keeps Sink.step Sink.view Sink.asks_cdata Sink.ended Sink.is_sound Sink.number Sink.has_failed Sink.errors self.old self.new c result }
+        ensures { Keeps Sink.step Sink.view Sink.asks_cdata Sink.ended Sink.is_sound Sink.number Sink.has_failed Sink.errors Sink.is_quiet self.old self.new c result }
     {
         self.tell_if(c != '>', "unexpected solidus in tag")?;
         self.take_behind_solidus(c)
@@ -156,7 +156,7 @@ impl<Sink: TokenSink> Tokenizer<Sink> {
     fn take_behind_solidus(&mut self, c: char) -> Result<ProcessResult<Sink::Handle>, ParseFault>
         requires at { IsAt self.old state.SelfClosingStartTag }
         requires sound { Sink.is_sound (Sink.view self.old.sink) }
-        ensures { Keeps Sink.step Sink.view Sink.asks_cdata Sink.ended Sink.is_sound Sink.number Sink.has_failed Sink.errors self.old self.new c result }
+        ensures { Keeps Sink.step Sink.view Sink.asks_cdata Sink.ended Sink.is_sound Sink.number Sink.has_failed Sink.errors Sink.is_quiet self.old self.new c result }
     {
         if c == '>' {
             self.tag.self_closing = true;

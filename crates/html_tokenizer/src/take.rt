@@ -1,7 +1,7 @@
 //! One character of the input, with its line and its own errors.
 ghost use Rattle.std.specs.Prelude.{◌≡◌, min, ◌+◌, true, nat_eq};
 ghost use Rattle.html_tokens.specs.Reading.{line_break};
-ghost use Rattle.html_tokenizer.specs.Calls.{Passes, counted};
+ghost use Rattle.html_tokenizer.specs.Calls.{Passes, counted, owed_for_own};
 ghost use Rattle.html_tokenizer.specs.CharRefs.{fits_in};
 ghost use Rattle.html_tokenizer.specs.Steps.{Errs, Keeps};
 
@@ -26,19 +26,19 @@ impl<Sink: TokenSink> Tokenizer<Sink> {
     /// Tells of a control character or a noncharacter, where such are told.
     fn tell_forbidden(&mut self, c: char) -> Result<(), ParseFault>
         requires sound { Sink.is_sound (Sink.view self.old.sink) }
-        ensures { Errs Sink.step Sink.view Sink.asks_cdata Sink.ended Sink.is_sound Sink.number Sink.has_failed Sink.errors 0 self.old self.new result }
+        ensures { Errs Sink.step Sink.view Sink.asks_cdata Sink.ended Sink.is_sound Sink.number Sink.has_failed Sink.errors Sink.is_quiet (owed_for_own self.old.stream.exact_errors c) self.old self.new result }
     {
-        if self.stream.exact_errors && is_forbidden(c) {
-            return self.tell_error("control character or noncharacter");
-        }
-        Ok(())
+        self.tell_if(
+            self.stream.exact_errors && is_forbidden(c),
+            "control character or noncharacter",
+        )
     }
 
     /// Takes a character, by the reference that is held if there is one.
     fn advance(&mut self, c: char) -> Result<ProcessResult<Sink::Handle>, ParseFault>
         requires sound { Sink.is_sound (Sink.view self.old.sink) }
         requires fits { fits_in self.old.char_ref self.old.state ≡ true }
-        ensures { Keeps Sink.step Sink.view Sink.asks_cdata Sink.ended Sink.is_sound Sink.number Sink.has_failed Sink.errors self.old self.new c result }
+        ensures { Keeps Sink.step Sink.view Sink.asks_cdata Sink.ended Sink.is_sound Sink.number Sink.has_failed Sink.errors Sink.is_quiet self.old self.new c result }
     {
         match self.char_ref.take() {
             Some(held) => self.reference_state(held, c),
@@ -50,7 +50,7 @@ impl<Sink: TokenSink> Tokenizer<Sink> {
     pub(crate) fn take(&mut self, c: char) -> Result<ProcessResult<Sink::Handle>, ParseFault>
         requires sound { Sink.is_sound (Sink.view self.old.sink) }
         requires fits { fits_in self.old.char_ref self.old.state ≡ true }
-        ensures { Passes Sink.step Sink.view Sink.asks_cdata Sink.ended Sink.is_sound Sink.number Sink.has_failed Sink.errors self.old self.new c result }
+        ensures { Passes Sink.step Sink.view Sink.asks_cdata Sink.ended Sink.is_sound Sink.number Sink.has_failed Sink.errors Sink.is_quiet self.old self.new c result }
     {
         self.tell_forbidden(c)?;
         let result = self.advance(c)?;

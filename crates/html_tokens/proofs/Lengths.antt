@@ -10,7 +10,7 @@ use Rattle.html_tokens.specs.declared.token.Doctype.{Doctype}
 use Rattle.html_tokens.specs.Characters
 use Rattle.html_tokens.specs.Comments
 use Rattle.html_tokens.specs.Doctypes
-use Rattle.html_tokens.specs.Item.{Place, InData, InRaw, InPlaintext, InCdata, InTag, Stand, moved, Item, behind_all, reference_item, null_by}
+use Rattle.html_tokens.specs.Item.{Place, InData, InRaw, InPlaintext, InCdata, InTag, Stand, moved, Item, Fault, behind_all, reference_item, null_by}
 use Rattle.html_tokens.specs.Items
 use Rattle.html_tokens.specs.RawText
 use Rattle.html_tokens.specs.Reference
@@ -267,25 +267,25 @@ reference-≤ : (v : Bool) (rows : List Row) (t : List ℕ) → ReferenceFits (R
 reference-≤ v rows [] = tt
 reference-≤ v rows (c ∷ t) = reference_by-≤ (nat_eq c 35) v rows c t
 
-reference_item-≤ : (faulty : Bool) (o : Option Reference.Reference) (st : Stand) (m : ℕ) → ReferenceFits o m → (reference_item faulty o st).len ≤ suc m
-reference_item-≤ faulty None st m h = omega arith
-reference_item-≤ faulty (Some r) st m h = omega arith
+reference_item-≤ : (fault : Option Fault) (o : Option Reference.Reference) (st : Stand) (m : ℕ) → ReferenceFits o m → (reference_item fault o st).len ≤ suc m
+reference_item-≤ fault None st m h = omega arith
+reference_item-≤ fault (Some r) st m h = omega arith
 
 -- TAGS
 
 name_after-≤ : (st : Stand) (tag : Tag) (t : List ℕ) → Within (Tags.name_after st tag t) t
 name_after-≤ st tag t = run-≤ _ t
 
-value_by-≤ : (rows : List Row) (a b : Bool) (c : ℕ) (t : List ℕ) (go : ℕ → Tags.Value) (m : ℕ) → ((n : ℕ) → (go n).len ≤ m) → (Tags.value_by rows a b c t go).len ≤ suc m
-value_by-≤ rows true b c t go m h = omega arith
-value_by-≤ rows false true c t go m h = let k = h (Tags.reference_len (Reference.reference_at true rows t)) in omega arith
-value_by-≤ rows false false c t go m h = let k = h 0 in omega arith
+value_by-≤ : (rows : List Row) (odd a b : Bool) (c : ℕ) (t : List ℕ) (go : ℕ → Tags.Value) (m : ℕ) → ((n : ℕ) → (go n).len ≤ m) → (Tags.value_by rows odd a b c t go).len ≤ suc m
+value_by-≤ rows odd true b c t go m h = omega arith
+value_by-≤ rows odd false true c t go m h = let k = h (Tags.reference_len (Reference.reference_at true rows t)) in omega arith
+value_by-≤ rows odd false false c t go m h = let k = h 0 in omega arith
 
-value-≤ : (rows : List Row) (ends : ℕ → Bool) (n : ℕ) (t : List ℕ) → (Tags.value_from rows ends n t).len ≤ length t
+value-≤ : (rows : List Row) (odd ends : ℕ → Bool) (n : ℕ) (t : List ℕ) → (Tags.value_from rows odd ends n t).len ≤ length t
 unfolding Tags.value_from
-value-≤ rows ends n [] = omega arith
-value-≤ rows ends zero (c ∷ t) = value_by-≤ rows (ends c) (nat_eq c 38) c t _ (length t) (λ n. value-≤ rows ends n t)
-value-≤ rows ends (suc n) (c ∷ t) = let k = value-≤ rows ends n t in omega arith
+value-≤ rows odd ends n [] = omega arith
+value-≤ rows odd ends zero (c ∷ t) = value_by-≤ rows (odd c) (ends c) (nat_eq c 38) c t _ (length t) (λ n. value-≤ rows odd ends n t)
+value-≤ rows odd ends (suc n) (c ∷ t) = let k = value-≤ rows odd ends n t in omega arith
 
 quote_at-≤ : (n : ℕ) (st : Stand) (u : List ℕ) → (Tags.quote_at n st u).len ≤ n + length u
 quote_at-≤ n st [] = omega arith
@@ -293,14 +293,14 @@ quote_at-≤ n st (c ∷ u) = omega arith
 
 quoted-≤ : (rows : List Row) (q : ℕ) (st : Stand) (tag : Tag) (name front t : List ℕ) → Within (Tags.quoted_after rows q st tag name front t) t
 quoted-≤ rows q st tag name front t =
-    let v = Tags.value_from rows (nat_eq q) 0 t in
-    let k = value-≤ rows (nat_eq q) 0 t in
+    let v = Tags.value_from rows Characters.is_null (nat_eq q) 0 t in
+    let k = value-≤ rows Characters.is_null (nat_eq q) 0 t in
     omega (arith, quote_at-≤ v.len (moved st (InTag (Tags.with_attribute tag name (front ++ v.chars)))) (drop v.len t), length-drop v.len t)
 
 opened_by-≤ : (o : Tags.Opening) (rows : List Row) (st : Stand) (tag : Tag) (name : List ℕ) (c : ℕ) (t : List ℕ) → Within (Tags.opened_by o rows st tag name c t) (c ∷ t)
 opened_by-≤ Tags.Quote rows st tag name c t = let k = quoted-≤ rows c st tag name [] t in omega arith
 opened_by-≤ Tags.Close rows st tag name c t = omega arith
-opened_by-≤ Tags.Other rows st tag name c t = value-≤ rows _ 0 (c ∷ t)
+opened_by-≤ Tags.Other rows st tag name c t = value-≤ rows _ _ 0 (c ∷ t)
 
 opened_at-≤ : (rows : List Row) (st : Stand) (tag : Tag) (name t : List ℕ) → Within (Tags.opened_at rows st tag name t) t
 opened_at-≤ rows st tag name [] = omega arith
@@ -348,12 +348,12 @@ fits-≤ None t h = absurd (true≢false (sym h))
 fits-≤ (Some name) [] h = absurd (true≢false (sym (and_parts _ _ h).1))
 fits-≤ (Some name) (c ∷ t) h = omega arith
 
-some_reference : (faulty : Bool) (o : Option Reference.Reference) (st : Stand) → 1 ≤ (reference_item faulty o st).len
-some_reference faulty None st = omega arith
-some_reference faulty (Some r) st = omega arith
+some_reference : (fault : Option Fault) (o : Option Reference.Reference) (st : Stand) → 1 ≤ (reference_item fault o st).len
+some_reference fault None st = omega arith
+some_reference fault (Some r) st = omega arith
 
-reference-takes : (rows : List Row) (st : Stand) (c : ℕ) (t : List ℕ) → Takes (reference_item (Reference.names_no_character t) (Reference.reference_at false rows t) st) (c ∷ t)
-reference-takes rows st c t = record { some = some_reference (Reference.names_no_character t) (Reference.reference_at false rows t) st; within = reference_item-≤ _ _ st _ (reference-≤ false rows t) }
+reference-takes : (rows : List Row) (st : Stand) (c : ℕ) (t : List ℕ) → Takes (reference_item (Reference.fault_of_reference rows t) (Reference.reference_at false rows t) st) (c ∷ t)
+reference-takes rows st c t = record { some = some_reference (Reference.fault_of_reference rows t) (Reference.reference_at false rows t) st; within = reference_item-≤ _ _ st _ (reference-≤ false rows t) }
 
 raw_by-≤ : (a b : Bool) (rows : List Row) (st : Stand) (kind : RawKind) (c : ℕ) (t : List ℕ) → (a ≡ true → 1 ≤ length t) → Takes (RawText.raw_by a b rows st kind c t) (c ∷ t)
 raw_by-≤ true b rows st kind c t h = more 1 _ (c ∷ t) (let k = h refl in omega arith) (name_after-≤ st (Tags.named EndTag []) (drop 1 t))

@@ -1,9 +1,11 @@
 pub mod CleanItems
+pub mod CleanTags
 pub mod Lengths
 pub mod ListingLaws
 pub mod NewlineLaws
 pub mod Permutations
 pub mod Readings
+pub mod ReferenceNames
 pub mod SinkTexts
 pub mod SoundItems
 pub mod TextLaws

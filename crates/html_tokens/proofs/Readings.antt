@@ -3,7 +3,7 @@ use Rattle.std.proofs.Common.{◌≡◌, ◌∙◌, ℕ, zero, suc, ◌+◌, ◌
 use Rattle.std.specs.Prelude.{IfOk}
 use Rattle.html_tokens.specs.declared.replies.TokenSinkResult.{TokenSinkResult}
 use Rattle.html_tokens.specs.declared.token.Token.{Token}
-use Rattle.html_tokens.specs.Item.{Stand}
+use Rattle.html_tokens.specs.Item.{Fault, Stand}
 use Rattle.html_tokens.specs.Items.{item}
 use Rattle.html_tokens.specs.Reading.{◌>>=◌, said, next_stand, line_breaks, reading_from, reading, play}
 use Rattle.html_tokens.specs.Table.{Row}
@@ -24,7 +24,7 @@ drop-more : (n : ℕ) (c : ℕ) (t : List ℕ) → 1 ≤ n → drop n (c ∷ t) 
 drop-more zero c t h = absurd (omega arith)
 drop-more (suc n) c t h = rw sub-one refl
 
-module _ {S H F : Type 0} (step : S → Token → ℕ → Result (S × TokenSinkResult H) F) (erred : S → S) (cdata : S → Bool) (ends : S → S) (rows : List Row) where
+module _ {S H F : Type 0} (step : S → Token → ℕ → Result (S × TokenSinkResult H) F) (erred : Fault → S → S) (cdata : S → Bool) (ends : S → S) (rows : List Row) where
   pub reading-skip : (n : ℕ) (st : Stand) (breaks : ℕ) (s : S) (t : List ℕ) → reading_from step erred cdata ends rows n st breaks s t ≡ reading step erred cdata ends rows st breaks s (drop n t)
   unfolding reading_from
   reading-skip zero st breaks s t = refl
@@ -35,5 +35,5 @@ module _ {S H F : Type 0} (step : S → Token → ℕ → Result (S × TokenSink
   unfolding reading_from
   reading-item st breaks s c t =
       let i = item rows (cdata s) st c t in
-      bind_same (said step erred i.is_faulty i.token (breaks + line_breaks (take i.len (c ∷ t))) s) _ _
+      bind_same (said step erred i.fault i.token (breaks + line_breaks (take i.len (c ∷ t))) s) _ _
       (λ p. reading-skip (i.len - 1) _ _ p.0 t ∙ ap (λ u. reading step erred cdata ends rows (next_stand i.next p.1) (breaks + line_breaks (take i.len (c ∷ t))) p.0 u) (sym (drop-more i.len c t (item-takes rows (cdata s) st c t).some)))

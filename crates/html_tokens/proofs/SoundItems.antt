@@ -19,7 +19,7 @@ use Rattle.html_tokens.specs.declared.token.Token.TheVariants.{TagToken}
 use Rattle.html_tokens.specs.Characters
 use Rattle.html_tokens.specs.Comments
 use Rattle.html_tokens.specs.Doctypes
-use Rattle.html_tokens.specs.Item.{Place, InData, InRaw, InPlaintext, InCdata, InTag, Stand, moved, Item, behind_all, reference_item, null_by}
+use Rattle.html_tokens.specs.Item.{Place, InData, InRaw, InPlaintext, InCdata, InTag, Stand, moved, Item, Fault, behind_all, reference_item, null_by}
 use Rattle.html_tokens.specs.Items
 use Rattle.html_tokens.specs.Laws.{is_not_null, has_no_null, are_distinct, IsSoundToken, IsSoundPlace, IsSoundItem, has_values}
 use Rattle.html_tokens.specs.RawText
@@ -232,10 +232,10 @@ unfolding ReferenceSound
 reference v rows [] h = tt
 reference v rows (c ∷ t) h = reference_by (nat_eq c 35) v rows c t h
 
-reference-item : (faulty : Bool) (o : Option Reference.Reference) (st : Stand) → IsSoundPlace st.place → ReferenceSound o → IsSoundItem (reference_item faulty o st)
+reference-item : (fault : Option Fault) (o : Option Reference.Reference) (st : Stand) → IsSoundPlace st.place → ReferenceSound o → IsSoundItem (reference_item fault o st)
 unfolding ReferenceSound
-reference-item faulty None st p h = (refl, p)
-reference-item faulty (Some r) st p h = (h, p)
+reference-item fault None st p h = (refl, p)
+reference-item fault (Some r) st p h = (h, p)
 
 -- NAMES
 
@@ -316,10 +316,10 @@ quote_at n st (c ∷ u) p = (tt, p)
 
 opened_by : (o : Tags.Opening) (rows : List Row) (st : Stand) (tag : Tag) (name : List ℕ) (c : ℕ) (t : List ℕ) → IsSoundToken (TagToken tag) → IsSoundItem (Tags.opened_by o rows st tag name c t)
 opened_by Tags.Quote rows st tag name c t h =
-    let v = Tags.value_from rows (nat_eq c) 0 t in
+    let v = Tags.value_from rows Characters.is_null (nat_eq c) 0 t in
     quote_at v.len (moved st (InTag (Tags.with_attribute tag name v.chars))) (drop v.len t) (with_attribute tag name v.chars h)
 opened_by Tags.Close rows st tag name c t h = (tt, with_attribute tag name [] h)
-opened_by Tags.Other rows st tag name c t h = (tt, with_attribute tag name (Tags.value_from rows Characters.ends_word 0 (c ∷ t)).chars h)
+opened_by Tags.Other rows st tag name c t h = (tt, with_attribute tag name (Tags.value_from rows Tags.is_odd_unquoted Characters.ends_word 0 (c ∷ t)).chars h)
 
 opened_at : (rows : List Row) (st : Stand) (tag : Tag) (name t : List ℕ) → IsSoundToken (TagToken tag) → IsSoundItem (Tags.opened_at rows st tag name t)
 opened_at rows st tag name [] h = (tt, with_attribute tag name [] h)

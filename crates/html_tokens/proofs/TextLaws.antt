@@ -8,12 +8,13 @@ use Rattle.html_tokens.specs.declared.replies.TokenSinkResult.{TokenSinkResult}
 use Rattle.html_tokens.specs.declared.replies.TokenSinkResult.TheVariants.{Continue}
 use Rattle.html_tokens.specs.declared.token.Token.{Token}
 use Rattle.html_tokens.specs.declared.token.Token.TheVariants.{CharacterTokens}
-use Rattle.html_tokens.specs.Item.{Stand, character, told}
+use Rattle.html_tokens.specs.Item.{Fault, Stand, character, told}
 use Rattle.html_tokens.specs.Items.{item}
 use Rattle.html_tokens.specs.Laws.{JoinsText, is_itself, in_data, escaped_by, escaped, escape, ReadsEscapes, is_not_null}
 use Rattle.html_tokens.specs.Reading.{◌>>=◌, next_stand, line_number, line_breaks, reading, play}
 use Rattle.html_tokens.specs.Table.{Row}
 use Rattle.html_tokens.proofs.Readings.{bind_where, reading-item}
+use Rattle.html_tokens.proofs.ReferenceNames.{whole-faultless}
 
 not-false : (b : Bool) → not b ≡ true → b ≡ false
 not-false true h = cc
@@ -27,7 +28,7 @@ bind-assoc : {A B C F : Type 0} (r : Result A F) (f : A → Result B F) (g : B �
 bind-assoc (Ok x) f g = refl
 bind-assoc (Err e) f g = refl
 
-module _ {S H F : Type 0} (step : S → Token → ℕ → Result (S × TokenSinkResult H) F) (erred : S → S) (cdata : S → Bool) (ends : S → S) (rows : List Row) (is_sound : S → Type 0) (joins : JoinsText is_sound step) where
+module _ {S H F : Type 0} (step : S → Token → ℕ → Result (S × TokenSinkResult H) F) (erred : Fault → S → S) (cdata : S → Bool) (ends : S → S) (rows : List Row) (is_sound : S → Type 0) (joins : JoinsText is_sound step) where
   -- behind text the reading stands where it stood
   stays : (st : Stand) (breaks : ℕ) (r : Result (S × TokenSinkResult H) F) (t : List ℕ) → IfOk r (λ p. p.1 ≡ Continue)
       → (r >>= λ p. reading step erred cdata ends rows (next_stand st p.1) breaks p.0 t) ≡ (r >>= λ p. reading step erred cdata ends rows st breaks p.0 t)
@@ -94,13 +95,13 @@ module _ {S H F : Type 0} (step : S → Token → ℕ → Result (S × TokenSink
     escaped_by-one : (last : Option (List ℕ)) (breaks : ℕ) (s : S) → is_sound s → (c : ℕ) (u : List ℕ) (l : ℕ) (a b d e : Bool) → nat_eq c 38 ≡ a → nat_eq c 60 ≡ b → nat_eq c 62 ≡ d → nat_eq c 0xA0 ≡ e → nat_eq c 0 ≡ false
         → reading step erred cdata ends rows (in_data last) breaks s (escaped_by a b d e c ++ u) ≡ (step s (CharacterTokens (c ∷ [])) l >>= λ p. reading step erred cdata ends rows (in_data last) (breaks + line_breaks (c ∷ [])) p.0 u)
     escaped_by-one last breaks s sound c u l true b d e ea eb ed ee z =
-        rw (eqb-true c 38 ea) (told_text (in_data last) breaks s sound 38 (codes "amp;" ++ u) (38 ∷ []) 5 l (rw (reads.amp u) refl))
+        rw (eqb-true c 38 ea) (told_text (in_data last) breaks s sound 38 (codes "amp;" ++ u) (38 ∷ []) 5 l (rw (whole-faultless rows 97 (codes "mp;") u _ refl (reads.amp u) refl refl, reads.amp u) refl))
     escaped_by-one last breaks s sound c u l false true d e ea eb ed ee z =
-        rw (eqb-true c 60 eb) (told_text (in_data last) breaks s sound 38 (codes "lt;" ++ u) (60 ∷ []) 4 l (rw (reads.lt u) refl))
+        rw (eqb-true c 60 eb) (told_text (in_data last) breaks s sound 38 (codes "lt;" ++ u) (60 ∷ []) 4 l (rw (whole-faultless rows 108 (codes "t;") u _ refl (reads.lt u) refl refl, reads.lt u) refl))
     escaped_by-one last breaks s sound c u l false false true e ea eb ed ee z =
-        rw (eqb-true c 62 ed) (told_text (in_data last) breaks s sound 38 (codes "gt;" ++ u) (62 ∷ []) 4 l (rw (reads.gt u) refl))
+        rw (eqb-true c 62 ed) (told_text (in_data last) breaks s sound 38 (codes "gt;" ++ u) (62 ∷ []) 4 l (rw (whole-faultless rows 103 (codes "t;") u _ refl (reads.gt u) refl refl, reads.gt u) refl))
     escaped_by-one last breaks s sound c u l false false false true ea eb ed ee z =
-        rw (eqb-true c 0xA0 ee) (told_text (in_data last) breaks s sound 38 (codes "nbsp;" ++ u) (0xA0 ∷ []) 6 l (rw (reads.nbsp u) refl))
+        rw (eqb-true c 0xA0 ee) (told_text (in_data last) breaks s sound 38 (codes "nbsp;" ++ u) (0xA0 ∷ []) 6 l (rw (whole-faultless rows 110 (codes "bsp;") u _ refl (reads.nbsp u) refl refl, reads.nbsp u) refl))
     escaped_by-one last breaks s sound c u l false false false false ea eb ed ee z =
         told_text (in_data last) breaks s sound c u (c ∷ []) 1 l (plain_item last (cdata s) c u eb ea z)
 

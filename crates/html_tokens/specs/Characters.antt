@@ -1,6 +1,7 @@
 -- Characters of markup, and runs of them (HTML Standard, section 13.2.5; Infra Standard, section 4.7).
 use Rattle.std.specs.Prelude.{ℕ, suc, Bool, true, false, ◌||◌, not, nat_eq, List, [], ◌∷◌, map, if◌then◌else◌}
 use Rattle.std.specs.Char.{to_ascii_lowercase}
+use Rattle.std.specs.List.{list_any}
 
 -- tab, line feed, form feed and space
 abbrev pub is_white_space : ℕ → Bool
@@ -21,6 +22,13 @@ ends_word c = is_white_space c || nat_eq c 62
 -- U+FFFD in place of U+0000
 abbrev pub shown : ℕ → ℕ
 shown c = if nat_eq c 0 then 0xFFFD else c
+
+-- U+0000, and whether it stands in a text
+abbrev pub is_null : ℕ → Bool
+is_null c = nat_eq c 0
+
+abbrev pub has_null : List ℕ → Bool
+has_null t = list_any is_null t
 
 -- a character of a name
 abbrev pub lowered : ℕ → ℕ

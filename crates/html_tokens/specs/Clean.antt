@@ -1,17 +1,19 @@
--- Which items tell no error under the default options.
-use Rattle.std.specs.Prelude.{ℕ, zero, suc, ◌+◌, ◌-◌, Bool, true, false, ◌||◌, ◌&&◌, not, nat_eq, nat_le, List, [], ◌∷◌, take, drop, codes, Option, Some, None, Result, Ok, Err}
+-- Which items tell no error under the default options, and which readings.
+use Rattle.std.specs.Prelude.{ℕ, zero, suc, ◌+◌, ◌-◌, Bool, true, false, ◌||◌, ◌&&◌, not, nat_eq, nat_le, List, [], ◌∷◌, take, drop, codes, Option, Some, None, is_none, Result, Ok, Err}
 use Rattle.std.specs.Char.{is_ascii_lowercase, is_ascii_digit}
-use Rattle.std.specs.List.{ends_with}
+use Rattle.std.specs.List.{list_any}
 use Rattle.html_tokens.specs.declared.replies.TokenSinkResult.{TokenSinkResult}
 use Rattle.html_tokens.specs.declared.tags.Tag.{Tag}
 use Rattle.html_tokens.specs.declared.tags.TagKind.{TagKind}
 use Rattle.html_tokens.specs.declared.tags.TagKind.TheVariants.{StartTag, EndTag}
 use Rattle.html_tokens.specs.declared.token.Token.{Token}
+use Rattle.html_tokens.specs.declared.token.Token.TheVariants.{EOFToken}
 use Rattle.html_tokens.specs.Characters.{ends_word, run, begins}
 use Rattle.html_tokens.specs.Table.{Row, longest}
-use Rattle.html_tokens.specs.Item.{Place, InData, InRaw, InPlaintext, InCdata, InTag, Stand, is_cut}
+use Rattle.html_tokens.specs.Item.{Place, InData, InRaw, InPlaintext, InCdata, InTag, Stand, fault_at_end}
 use Rattle.html_tokens.specs.Items.{item, Opening as Markup, Letter, Slash, Mark, Question, Close, Other, opening}
 use Rattle.html_tokens.specs.Tags.{Part, Space, Solidus, End, Attributes, part, has_attribute, is_faulty_tag}
+use Rattle.html_tokens.specs.Reference.{ends_in_semicolon}
 use Rattle.html_tokens.specs.RawText.{is_fitting_end, ends_at_tag}
 use Rattle.html_tokens.specs.Reading.{said, next_stand, line_breaks}
 
@@ -31,14 +33,17 @@ is_word_end (c ∷ t) = ends_word c
 abbrev pub is_clean_name : List ℕ → Bool
 is_clean_name t = nat_le 1 (clean_name t) && is_word_end (drop (clean_name t) t)
 
-abbrev pub ends_in_semicolon : Option Row → Bool
-ends_in_semicolon None = false
-ends_in_semicolon (Some row) = ends_with nat_eq row.name (codes ";")
+-- a name without a double quote, which would end a value
+abbrev pub lacks_quote : Option Row → Bool
+lacks_quote None = true
+lacks_quote (Some row) = not (list_any (nat_eq 34) row.name)
 
--- a named reference with ";" behind "&"
+-- a named reference with ";" and without a double quote behind "&"
 abbrev pub is_named : List Row → List ℕ → Bool
 is_named rows [] = false
-is_named rows (c ∷ t) = not (nat_eq c 35) && ends_in_semicolon (longest rows (c ∷ t))
+is_named rows (c ∷ t) =
+    let row = longest rows (c ∷ t) in
+    not (nat_eq c 35) && ends_in_semicolon row && lacks_quote row
 
 -- a character of text or of a value that tells nothing: no "<", no U+0000, and "&" only as the beginning of a named reference with ";"
 abbrev pub is_clean_text : List Row → ℕ → List ℕ → Bool
@@ -95,21 +100,26 @@ is_clean_in (InTag tag) rows st c t = is_clean_part (part c) tag.kind rows tag (
 abbrev pub is_clean : List Row → Stand → ℕ → List ℕ → Bool
 is_clean rows st c t = is_clean_in st.place rows st c t
 
-module _ {S H F : Type 0} (step : S → Token → ℕ → Result (S × TokenSinkResult H) F) (cdata : S → Bool) (rows : List Row) where
+-- whether a token, if there is one, is quiet
+abbrev pub quiet_by : {S : Type 0} → (S → Token → Bool) → Option Token → S → Bool
+quiet_by quiet None s = true
+quiet_by quiet (Some token) s = quiet s token
+
+module _ {S H F : Type 0} (step : S → Token → ℕ → Result (S × TokenSinkResult H) F) (quiet : S → Token → Bool) (cdata : S → Bool) (rows : List Row) where
   abbrev pub clean_by : Bool → Result (S × TokenSinkResult H) F → (S × TokenSinkResult H → Bool) → Bool
   clean_by false r go = false
   clean_by true (Ok p) go = go p
   clean_by true (Err e) go = true
 
-  -- whether each item of a reading is clean behind n characters, up to a refusal
+  -- whether each item of a reading is clean behind n characters, and the sink finds no error in its token, up to a refusal
   unfoldable pub clean_from : ℕ → Stand → ℕ → S → List ℕ → Bool
-  clean_from n st breaks s [] = not (is_cut st.place)
+  clean_from n st breaks s [] = is_none (fault_at_end st.place) && quiet s EOFToken
   clean_from zero st breaks s (c ∷ t) =
       let i = item rows (cdata s) st c t in
       let read = breaks + line_breaks (take i.len (c ∷ t)) in
-      clean_by (is_clean rows st c t) (said step (λ s. s) i.is_faulty i.token read s) (λ p. clean_from (i.len - 1) (next_stand i.next p.1) read p.0 t)
+      clean_by (is_clean rows st c t && quiet_by quiet i.token s) (said step (λ fault s. s) i.fault i.token read s) (λ p. clean_from (i.len - 1) (next_stand i.next p.1) read p.0 t)
   clean_from (suc n) st breaks s (c ∷ t) = clean_from n st breaks s t
 
-  -- whether a text is read without a fault and without anything that is not clean
+  -- whether a text is read without anything that is not clean, and without an error of the sink
   abbrev pub is_clean_reading : Stand → ℕ → S → List ℕ → Bool
   is_clean_reading st breaks s t = clean_from 0 st breaks s t

@@ -1,9 +1,9 @@
 -- Doctypes (HTML Standard, sections 13.2.5.53 to 13.2.5.68).
-use Rattle.std.specs.Prelude.{ℕ, Bool, true, false, ◌||◌, nat_eq, List, [], ◌∷◌, ◌++◌, take, drop, codes, Some, None, if◌then◌else◌}
+use Rattle.std.specs.Prelude.{ℕ, Bool, true, false, ◌||◌, not, nat_eq, List, [], ◌∷◌, ◌++◌, take, drop, codes, Some, None, if◌then◌else◌}
 use Rattle.html_tokens.specs.declared.token.Doctype.{Doctype}
 use Rattle.html_tokens.specs.declared.token.Token.TheVariants.{DoctypeToken}
-use Rattle.html_tokens.specs.Characters.{shown, all_lowered, ends_word, run, white, begins_any_case}
-use Rattle.html_tokens.specs.Item.{Stand, Item, behind, behind_all, told_as}
+use Rattle.html_tokens.specs.Characters.{shown, has_null, all_lowered, ends_word, run, white, begins_any_case}
+use Rattle.html_tokens.specs.Item.{Stand, Item, grave_if, behind, behind_all, marked, told_as}
 
 -- a doctype of which nothing was read
 abbrev pub no_doctype : Doctype
@@ -12,17 +12,21 @@ no_doctype = record { name = None; public_id = None; system_id = None; force_qui
 abbrev pub forced : Doctype → Doctype
 forced d = record d { force_quirks = true }
 
--- a doctype that sets quirks is a fault
+-- a doctype that sets quirks is faulty
 abbrev pub given : Stand → Doctype → ℕ → Item
-given st d n = told_as d.force_quirks (DoctypeToken d) n st
+given st d n = told_as (grave_if d.force_quirks) (DoctypeToken d) n st
+
+-- the same of a doctype with more than a name, of which errors may be told
+abbrev pub given_more : Stand → Doctype → ℕ → Item
+given_more st d n = marked true (given st d n)
 
 abbrev pub junk_by : Bool → Stand → Doctype → (Unit {0} → Item) → Item
-junk_by true st d go = given st d 1
+junk_by true st d go = given_more st d 1
 junk_by false st d go = behind (go tt)
 
 -- what is dropped up to ">" or the end of input (section 13.2.5.68)
 abbrev pub junk_after : Stand → Doctype → List ℕ → Item
-junk_after st d [] = given st d 0
+junk_after st d [] = given_more st d 0
 junk_after st d (c ∷ t) = junk_by (nat_eq c 62) st d (λ _. junk_after st d t)
 
 -- behind a system identifier: junk here sets nothing (section 13.2.5.67)
@@ -77,7 +81,7 @@ system_at st d (c ∷ t) = system_by (opening c) st d c t
 
 abbrev pub second_by : Opening → Stand → Doctype → ℕ → List ℕ → Item
 second_by Quote st d c t = behind (system_after c st d [] t)
-second_by Close st d c t = given st d 1
+second_by Close st d c t = given_more st d 1
 second_by Junk st d c t = junk_after st (forced d) (c ∷ t)
 
 -- behind a public identifier and white space (sections 13.2.5.61 and 13.2.5.62)
@@ -128,7 +132,7 @@ after_name st d t = behind_all (white t) (keyword_at st d (drop (white t) t))
 abbrev pub doctype_name_after : Stand → List ℕ → List ℕ → Item
 doctype_name_after st front t =
     let n = run ends_word t in
-    behind_all n (after_name st (record no_doctype { name = Some (front ++ all_lowered (take n t)) }) (drop n t))
+    marked (has_null (take n t)) (behind_all n (after_name st (record no_doctype { name = Some (front ++ all_lowered (take n t)) }) (drop n t)))
 
 abbrev pub name_by : Bool → Stand → List ℕ → Item
 name_by true st t = given st (forced no_doctype) 1
@@ -138,6 +142,15 @@ abbrev pub doctype_name_at : Stand → List ℕ → Item
 doctype_name_at st [] = given st (forced no_doctype) 0
 doctype_name_at st (c ∷ t) = name_by (nat_eq c 62) st (c ∷ t)
 
--- behind "<!doctype" (sections 13.2.5.53 and 13.2.5.54)
+-- behind "<!doctype" and what white space was read (section 13.2.5.54)
+abbrev pub doctype_behind : Stand → List ℕ → Item
+doctype_behind st t = behind_all (white t) (doctype_name_at st (drop (white t) t))
+
+-- whether a character stands at the front that ends no word
+abbrev pub goes_on : List ℕ → Bool
+goes_on [] = false
+goes_on (c ∷ t) = not (ends_word c)
+
+-- behind "<!doctype": white space is to stand here (section 13.2.5.53)
 abbrev pub doctype_at : Stand → List ℕ → Item
-doctype_at st t = behind_all (white t) (doctype_name_at st (drop (white t) t))
+doctype_at st t = marked (goes_on t) (doctype_behind st t)

@@ -1,10 +1,12 @@
 -- Where a reading stands, and what stands at a place of the text.
 use Rattle.std.specs.Prelude.{ℕ, zero, suc, Bool, true, false, nat_eq, List, [], ◌∷◌, Option, Some, None}
 use Rattle.html_tokens.specs.declared.states.RawKind.{RawKind}
+use Rattle.html_tokens.specs.declared.states.RawKind.TheVariants.{Rcdata, Rawtext, ScriptData, ScriptDataEscaped}
 use Rattle.html_tokens.specs.declared.tags.Tag.{Tag}
 use Rattle.html_tokens.specs.declared.token.Token.{Token}
 use Rattle.html_tokens.specs.declared.token.Token.TheVariants.{CharacterTokens, NullCharacterToken}
 use Rattle.html_tokens.specs.Characters.{shown}
+pub use Rattle.html_tokens.specs.Fault.{Fault, Grave, Slight, grave_if, slight_if, and_slight, and_slight_if}
 use Rattle.html_tokens.specs.Reference.{Reference}
 
 -- text of one of the five text states, a script's escaped text, a CDATA section, or a tag that was read so far
@@ -23,11 +25,10 @@ pub record Stand : Type 0 where
 abbrev pub moved : Stand → Place → Stand
 moved st place = record st { place = place }
 
--- an item: the token that it gives, whether the Standard names an error for it, how many characters it takes, and where
--- the reading stands behind it
+-- an item: the token that it gives, its fault if it has one, how many characters it takes, and where the reading stands behind it
 pub record Item : Type 0 where
   pub token : Option Token
-  pub is_faulty : Bool
+  pub fault : Option Fault
   pub len : ℕ
   pub next : Stand
 
@@ -40,43 +41,58 @@ abbrev pub behind_all : ℕ → Item → Item
 behind_all zero i = i
 behind_all (suc n) i = behind (behind_all n i)
 
+-- the item, with something slight in it where this is so
+abbrev pub marked : Bool → Item → Item
+marked odd i = record i { fault = and_slight_if odd i.fault }
+
 -- characters that give no token
 abbrev pub silent : ℕ → Stand → Item
-silent n st = record { token = None; is_faulty = false; len = n; next = st }
+silent n st = record { token = None; fault = None; len = n; next = st }
 
--- n characters that give a token, and whether they are faulty
-abbrev pub told_as : Bool → Token → ℕ → Stand → Item
-told_as faulty token n st = record { token = Some token; is_faulty = faulty; len = n; next = st }
+-- n characters that give a token, with this fault
+abbrev pub told_as : Option Fault → Token → ℕ → Stand → Item
+told_as fault token n st = record { token = Some token; fault = fault; len = n; next = st }
 
 -- n characters without fault that give a token
 abbrev pub told : Token → ℕ → Stand → Item
-told token n st = told_as false token n st
+told token n st = told_as None token n st
 
 -- one character of text
 abbrev pub character : ℕ → Stand → Item
 character c st = told (CharacterTokens (c ∷ [])) 1 st
 
 abbrev pub null_by : Bool → ℕ → Stand → Item
-null_by true c st = told_as true NullCharacterToken 1 st
+null_by true c st = told_as (Some Grave) NullCharacterToken 1 st
 null_by false c st = character c st
 
 -- one character of text in which U+FFFD stands for U+0000, which is a fault
 abbrev pub shown_character : ℕ → Stand → Item
-shown_character c st = told_as (nat_eq c 0) (CharacterTokens (shown c ∷ [])) 1 st
+shown_character c st = told_as (grave_if (nat_eq c 0)) (CharacterTokens (shown c ∷ [])) 1 st
 
 -- one character of text whose reader decides what becomes of U+0000, which is a fault
 abbrev pub character_or_null : ℕ → Stand → Item
 character_or_null c st = null_by (nat_eq c 0) c st
 
--- a reference, or "&" as text; a number that names no character is a fault
-abbrev pub reference_item : Bool → Option Reference → Stand → Item
-reference_item faulty None st = character 38 st
-reference_item faulty (Some r) st = told_as faulty (CharacterTokens r.chars) (suc r.len) st
+-- a "<" that opens nothing, which is wrong
+abbrev pub unopened : Stand → Item
+unopened st = marked true (character 60 st)
 
--- whether the end of input cuts off what was begun: a tag or a CDATA section
-abbrev pub is_cut : Place → Bool
-is_cut InData = false
-is_cut (InRaw kind) = false
-is_cut InPlaintext = false
-is_cut InCdata = true
-is_cut (InTag tag) = true
+-- a reference, or "&" as text
+abbrev pub reference_item : Option Fault → Option Reference → Stand → Item
+reference_item fault None st = told_as fault (CharacterTokens (38 ∷ [])) 1 st
+reference_item fault (Some r) st = told_as fault (CharacterTokens r.chars) (suc r.len) st
+
+-- whether text of this kind is a script's, behind "<!--"
+abbrev pub is_escaped_kind : RawKind → Bool
+is_escaped_kind Rcdata = false
+is_escaped_kind Rawtext = false
+is_escaped_kind ScriptData = false
+is_escaped_kind (ScriptDataEscaped kind) = true
+
+-- what is wrong where the input ends here: something is cut off, or a script's text is escaped
+abbrev pub fault_at_end : Place → Option Fault
+fault_at_end InData = None
+fault_at_end (InRaw kind) = slight_if (is_escaped_kind kind)
+fault_at_end InPlaintext = None
+fault_at_end InCdata = Some Grave
+fault_at_end (InTag tag) = Some Grave

@@ -1,11 +1,11 @@
 -- The item at the front of a text (HTML Standard, sections 13.2.5.1, 13.2.5.6, 13.2.5.7, 13.2.5.42 and 13.2.5.69).
-use Rattle.std.specs.Prelude.{ℕ, Bool, true, false, ◌&&◌, nat_eq, List, [], ◌∷◌, drop, codes, if◌then◌else◌}
+use Rattle.std.specs.Prelude.{ℕ, Bool, true, false, ◌&&◌, nat_eq, List, [], ◌∷◌, drop, codes, Some, if◌then◌else◌}
 use Rattle.std.specs.Char.{is_ascii_alphabetic}
 use Rattle.html_tokens.specs.declared.tags.TagKind.TheVariants.{StartTag, EndTag}
 use Rattle.html_tokens.specs.Characters.{begins, begins_any_case}
 use Rattle.html_tokens.specs.Table.{Row}
-use Rattle.html_tokens.specs.Reference.{reference_at, names_no_character}
-use Rattle.html_tokens.specs.Item.{Place, InData, InRaw, InPlaintext, InCdata, InTag, Stand, moved, Item, behind, behind_all, silent, character, shown_character, character_or_null, reference_item}
+use Rattle.html_tokens.specs.Reference.{reference_at, fault_of_reference}
+use Rattle.html_tokens.specs.Item.{Place, InData, InRaw, InPlaintext, InCdata, InTag, Stand, moved, Item, Grave, behind, behind_all, silent, unopened, shown_character, character_or_null, reference_item}
 use Rattle.html_tokens.specs.Comments.{comment_at, bogus_comment_after}
 use Rattle.html_tokens.specs.Doctypes.{doctype_at}
 use Rattle.html_tokens.specs.Tags.{named, name_after, tag_at}
@@ -41,7 +41,7 @@ opening c =
 
 abbrev pub end_by : Opening → Stand → ℕ → List ℕ → Item
 end_by Letter st c t = behind_all 2 (name_after st (named EndTag []) (c ∷ t))
-end_by Close st c t = record (silent 3 st) { is_faulty = true }
+end_by Close st c t = record (silent 3 st) { fault = Some Grave }
 end_by Slash st c t = behind_all 2 (bogus_comment_after st [] (c ∷ t))
 end_by Mark st c t = behind_all 2 (bogus_comment_after st [] (c ∷ t))
 end_by Question st c t = behind_all 2 (bogus_comment_after st [] (c ∷ t))
@@ -49,7 +49,7 @@ end_by Other st c t = behind_all 2 (bogus_comment_after st [] (c ∷ t))
 
 -- behind "</"; "</>" gives nothing and is a fault (section 13.2.5.7)
 abbrev pub end_at : Stand → List ℕ → Item
-end_at st [] = character 60 st
+end_at st [] = unopened st
 end_at st (c ∷ t) = end_by (opening c) st c t
 
 abbrev pub open_by : Opening → Bool → Stand → ℕ → List ℕ → Item
@@ -57,17 +57,17 @@ open_by Letter cdata st c t = behind (name_after st (named StartTag []) (c ∷ t
 open_by Slash cdata st c t = end_at st t
 open_by Mark cdata st c t = declaration_at cdata st t
 open_by Question cdata st c t = behind (bogus_comment_after st [] (c ∷ t))
-open_by Close cdata st c t = character 60 st
-open_by Other cdata st c t = character 60 st
+open_by Close cdata st c t = unopened st
+open_by Other cdata st c t = unopened st
 
 -- behind "<" (section 13.2.5.6)
 abbrev pub open_at : Bool → Stand → List ℕ → Item
-open_at cdata st [] = character 60 st
+open_at cdata st [] = unopened st
 open_at cdata st (c ∷ t) = open_by (opening c) cdata st c t
 
 abbrev pub data_by : Bool → Bool → List Row → Bool → Stand → ℕ → List ℕ → Item
 data_by true amp rows cdata st c t = open_at cdata st t
-data_by false true rows cdata st c t = reference_item (names_no_character t) (reference_at false rows t) st
+data_by false true rows cdata st c t = reference_item (fault_of_reference rows t) (reference_at false rows t) st
 data_by false false rows cdata st c t = character_or_null c st
 
 abbrev pub cdata_by : Bool → Stand → ℕ → Item

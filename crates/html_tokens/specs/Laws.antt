@@ -10,10 +10,10 @@ use Rattle.html_tokens.specs.declared.replies.TokenSinkResult.{TokenSinkResult}
 use Rattle.html_tokens.specs.declared.replies.TokenSinkResult.TheVariants.{Continue}
 use Rattle.html_tokens.specs.declared.token.Token.{Token}
 use Rattle.html_tokens.specs.declared.token.Token.TheVariants.{DoctypeToken, TagToken, CommentToken, CharacterTokens, NullCharacterToken, EOFToken, ParseError}
-use Rattle.html_tokens.specs.Item.{Place, InData, InRaw, InPlaintext, InCdata, InTag, Stand, Item}
+use Rattle.html_tokens.specs.Item.{Fault, Place, InData, InRaw, InPlaintext, InCdata, InTag, Stand, Item}
 use Rattle.html_tokens.specs.Items.{item}
 use Rattle.html_tokens.specs.Clean.{is_clean_reading}
-use Rattle.html_tokens.specs.Notes.{owed}
+use Rattle.html_tokens.specs.Notes.{owed, is_quiet_reading}
 use Rattle.html_tokens.specs.NormalText.{newlines_behind}
 use Rattle.html_tokens.specs.Reading.{◌>>=◌, reading, reading_from, play, line_breaks}
 use Rattle.html_tokens.specs.Reference.{reference_at}
@@ -28,13 +28,13 @@ IsItemInText =
 -- reading a text is reading its first item, told on the line of its slice's end, and then what follows
 abbrev pub IsReadByItems : {S H F : Type 0} → (S → Token → ℕ → Result (S × TokenSinkResult H) F) → (S → Bool) → (S → S) → Type 0
 IsReadByItems {S} step cdata ends =
-    (erred : S → S) (rows : List Row) (st : Stand) (breaks : ℕ) (s : S) (c : ℕ) (t : List ℕ)
+    (erred : Fault → S → S) (rows : List Row) (st : Stand) (breaks : ℕ) (s : S) (c : ℕ) (t : List ℕ)
     → reading step erred cdata ends rows st breaks s (c ∷ t) ≡ play step erred cdata ends rows (item rows (cdata s) st c t) breaks s (c ∷ t)
 
 -- a reading may be cut anywhere: behind as many characters as an item took, it goes on as for what is left
 abbrev pub IsSkipped : {S H F : Type 0} → (S → Token → ℕ → Result (S × TokenSinkResult H) F) → (S → Bool) → (S → S) → Type 0
 IsSkipped {S} step cdata ends =
-    (erred : S → S) (rows : List Row) (n : ℕ) (st : Stand) (breaks : ℕ) (s : S) (t : List ℕ)
+    (erred : Fault → S → S) (rows : List Row) (n : ℕ) (st : Stand) (breaks : ℕ) (s : S) (t : List ℕ)
     → reading_from step erred cdata ends rows n st breaks s t ≡ reading step erred cdata ends rows st breaks s (drop n t)
 
 -- whether a text, behind a carriage return or behind none, ends in one
@@ -75,7 +75,7 @@ in_data last = record { place = InData; last_start_tag = last }
 -- from a sound state a run of such characters is read as one text, so it is nothing to a reading where the run is cut
 abbrev pub IsRunOneText : {S H F : Type 0} → (S → Type 0) → (S → Token → ℕ → Result (S × TokenSinkResult H) F) → (S → Bool) → (S → S) → Type 0
 IsRunOneText {S} is_sound step cdata ends =
-    (erred : S → S) (rows : List Row) (last : Option (List ℕ)) (breaks : ℕ) (s : S) → is_sound s
+    (erred : Fault → S → S) (rows : List Row) (last : Option (List ℕ)) (breaks : ℕ) (s : S) → is_sound s
     → (c : ℕ) (front t : List ℕ) (line : ℕ) → list_all is_itself (c ∷ front) ≡ true
     → reading step erred cdata ends rows (in_data last) breaks s ((c ∷ front) ++ t)
     ≡ (step s (CharacterTokens (c ∷ front)) line >>= λ p. reading step erred cdata ends rows (in_data last) (breaks + line_breaks (c ∷ front)) p.0 t)
@@ -95,10 +95,11 @@ abbrev pub escape : List ℕ → List ℕ
 escape [] = []
 escape (c ∷ cs) = escaped c ++ escape cs
 
--- a text that is read without anything that is not clean owes no error
-abbrev pub IsCleanOwingNone : {S H F : Type 0} → (S → Token → ℕ → Result (S × TokenSinkResult H) F) → (S → Bool) → (S → S) → Type 0
-IsCleanOwingNone {S} step cdata ends =
-    (rows : List Row) (st : Stand) (breaks : ℕ) (s : S) (t : List ℕ) → is_clean_reading step cdata rows st breaks s t ≡ true → owed step cdata ends rows st breaks s t ≡ 0
+-- a text that is read without anything that is not clean owes no error, and is quiet
+abbrev pub IsCleanQuiet : {S H F : Type 0} → (S → Token → ℕ → Result (S × TokenSinkResult H) F) → (S → Token → Bool) → (S → Bool) → (S → S) → Type 0
+IsCleanQuiet {S} step quiet cdata ends =
+    (rows : List Row) (st : Stand) (breaks : ℕ) (s : S) (t : List ℕ) → is_clean_reading step quiet cdata rows st breaks s t ≡ true
+    → (owed step quiet cdata ends rows st breaks s t ≡ 0) × (is_quiet_reading step quiet cdata ends rows st breaks s t ≡ true)
 
 -- the references that escaping writes are read by a table as their characters
 pub record ReadsEscapes (rows : List Row) : Type 0 where
@@ -113,7 +114,7 @@ is_not_null c = not (nat_eq c 0)
 -- escaped text without U+0000, read in data from a sound state, is told as that text
 abbrev pub IsEscapeRead : {S H F : Type 0} → (S → Type 0) → (S → Token → ℕ → Result (S × TokenSinkResult H) F) → (S → Bool) → (S → S) → Type 0
 IsEscapeRead {S} is_sound step cdata ends =
-    (erred : S → S) (rows : List Row) → ReadsEscapes rows
+    (erred : Fault → S → S) (rows : List Row) → ReadsEscapes rows
     → (last : Option (List ℕ)) (breaks : ℕ) (s : S) → is_sound s
     → (c : ℕ) (cs t : List ℕ) (line : ℕ) → list_all is_not_null (c ∷ cs) ≡ true
     → reading step erred cdata ends rows (in_data last) breaks s (escape (c ∷ cs) ++ t)

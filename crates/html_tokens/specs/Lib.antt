@@ -3,6 +3,7 @@ pub mod Clean
 pub mod Comments
 pub mod Counting
 pub mod Doctypes
+pub mod Fault
 pub mod Item
 pub mod Items
 pub mod Laws

@@ -55,7 +55,7 @@ told_by (Err fault) = []
 
 -- the tokens of a whole stream with their lines
 abbrev pub lined : {H : Type 0} → List Row → (Tag → TokenSinkResult H) → Bool → Stand → List ℕ → List (Token × ℕ)
-lined rows replies cdata st t = told_by (reading (step replies) (λ s. s) (λ s. s.cdata) end rows st 0 (empty cdata) (normal_text true t))
+lined rows replies cdata st t = told_by (reading (step replies) (λ fault s. s) (λ s. s.cdata) end rows st 0 (empty cdata) (normal_text true t))
 
 -- the tokens of a whole stream
 abbrev pub tokens : {H : Type 0} → List Row → (Tag → TokenSinkResult H) → Bool → Stand → List ℕ → List Token

@@ -8,7 +8,7 @@ use Rattle.html_tokens.specs.declared.states.ScriptEscapeKind.TheVariants.{Escap
 use Rattle.html_tokens.specs.declared.tags.TagKind.TheVariants.{EndTag}
 use Rattle.html_tokens.specs.Characters.{begins, begins_name}
 use Rattle.html_tokens.specs.Table.{Row}
-use Rattle.html_tokens.specs.Reference.{reference_at, names_no_character}
+use Rattle.html_tokens.specs.Reference.{reference_at, fault_of_reference}
 use Rattle.html_tokens.specs.Item.{InRaw, Stand, moved, Item, behind, shown_character, reference_item}
 use Rattle.html_tokens.specs.Tags.{named, name_after}
 
@@ -57,7 +57,7 @@ kind_behind (ScriptDataEscaped DoubleEscaped) c t =
 
 abbrev pub raw_by : Bool → Bool → List Row → Stand → RawKind → ℕ → List ℕ → Item
 raw_by true amp rows st kind c t = behind (behind (name_after st (named EndTag []) (drop 1 t)))
-raw_by false true rows st kind c t = reference_item (names_no_character t) (reference_at false rows t) st
+raw_by false true rows st kind c t = reference_item (fault_of_reference rows t) (reference_at false rows t) st
 raw_by false false rows st kind c t = shown_character c (moved st (InRaw (kind_behind kind c t)))
 
 -- the item at the front of raw text

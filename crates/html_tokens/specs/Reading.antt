@@ -7,7 +7,7 @@ use Rattle.html_tokens.specs.declared.states.State.TheVariants as state
 use Rattle.html_tokens.specs.declared.token.Token.{Token}
 use Rattle.html_tokens.specs.declared.token.Token.TheVariants.{EOFToken}
 use Rattle.html_tokens.specs.Table.{Row}
-use Rattle.html_tokens.specs.Item.{Place, InData, InRaw, InPlaintext, Stand, moved, Item, is_cut}
+use Rattle.html_tokens.specs.Item.{Place, InData, InRaw, InPlaintext, Stand, moved, Item, Fault, fault_at_end}
 use Rattle.html_tokens.specs.Items.{item}
 pub use Rattle.html_tokens.specs.Sink.{◌>>=◌}
 
@@ -44,24 +44,24 @@ abbrev pub line_number : ℕ → ℕ
 line_number breaks = min (breaks + 1) 0xffff_ffff_ffff_ffff
 
 -- what a fault, if there is one, makes of a sink
-abbrev pub erred_if : {S : Type 0} → (S → S) → Bool → S → S
-erred_if erred true s = erred s
-erred_if erred false s = s
+abbrev pub erred_by : {S : Type 0} → (Fault → S → S) → Option Fault → S → S
+erred_by erred None s = s
+erred_by erred (Some fault) s = erred fault s
 
 -- what an item's token, or none, makes of a sink behind so many line breaks, where its fault, if it has one, comes first
-abbrev pub said : {S H F : Type 0} → (S → Token → ℕ → Result (S × TokenSinkResult H) F) → (S → S) → Bool → Option Token → ℕ → S → Result (S × TokenSinkResult H) F
-said step erred faulty None breaks s = Ok (erred_if erred faulty s, Continue)
-said step erred faulty (Some token) breaks s = step (erred_if erred faulty s) token (line_number breaks)
+abbrev pub said : {S H F : Type 0} → (S → Token → ℕ → Result (S × TokenSinkResult H) F) → (Fault → S → S) → Option Fault → Option Token → ℕ → S → Result (S × TokenSinkResult H) F
+said step erred fault None breaks s = Ok (erred_by erred fault s, Continue)
+said step erred fault (Some token) breaks s = step (erred_by erred fault s) token (line_number breaks)
 
 -- over a sink: what a token makes of it, what a fault makes of it, whether it asks for CDATA sections, and what its end makes of it
-module _ {S H F : Type 0} (step : S → Token → ℕ → Result (S × TokenSinkResult H) F) (erred : S → S) (cdata : S → Bool) (ends : S → S) (rows : List Row) where
+module _ {S H F : Type 0} (step : S → Token → ℕ → Result (S × TokenSinkResult H) F) (erred : Fault → S → S) (cdata : S → Bool) (ends : S → S) (rows : List Row) where
   -- what a text behind n characters of it makes of a sink, where so many line breaks were read
   unfoldable pub reading_from : ℕ → Stand → ℕ → S → List ℕ → Result S F
-  reading_from n st breaks s [] = said step erred (is_cut st.place) (Some EOFToken) breaks s >>= λ p. Ok (ends p.0)
+  reading_from n st breaks s [] = said step erred (fault_at_end st.place) (Some EOFToken) breaks s >>= λ p. Ok (ends p.0)
   reading_from zero st breaks s (c ∷ t) =
       let i = item rows (cdata s) st c t in
       let read = breaks + line_breaks (take i.len (c ∷ t)) in
-      said step erred i.is_faulty i.token read s >>= λ p. reading_from (i.len - 1) (next_stand i.next p.1) read p.0 t
+      said step erred i.fault i.token read s >>= λ p. reading_from (i.len - 1) (next_stand i.next p.1) read p.0 t
   reading_from (suc n) st breaks s (c ∷ t) = reading_from n st breaks s t
 
   -- what a text makes of a sink
@@ -72,4 +72,4 @@ module _ {S H F : Type 0} (step : S → Token → ℕ → Result (S × TokenSink
   abbrev pub play : Item → ℕ → S → List ℕ → Result S F
   play i breaks s t =
       let read = breaks + line_breaks (take i.len t) in
-      said step erred i.is_faulty i.token read s >>= λ p. reading (next_stand i.next p.1) read p.0 (drop i.len t)
+      said step erred i.fault i.token read s >>= λ p. reading (next_stand i.next p.1) read p.0 (drop i.len t)

@@ -1,9 +1,10 @@
 -- Character references, behind their "&" (HTML Standard, sections 13.2.5.72 to 13.2.5.80).
-use Rattle.std.specs.Prelude.{ℕ, zero, suc, ◌+◌, ◌-◌, ◌*◌, Bool, true, false, ◌||◌, ◌&&◌, not, nat_eq, nat_lt, nat_le, List, [], ◌∷◌, length, take, drop, Option, Some, None, if◌then◌else◌}
+use Rattle.std.specs.Prelude.{ℕ, zero, suc, ◌+◌, ◌-◌, ◌*◌, Bool, true, false, ◌||◌, ◌&&◌, not, nat_eq, nat_lt, nat_le, List, [], ◌∷◌, length, take, drop, codes, Option, Some, None, if◌then◌else◌}
 use Rattle.std.specs.Char.{is_ascii_digit, is_ascii_hexdigit, is_ascii_alphanumeric}
 use Rattle.std.specs.List.{ends_with}
 use Rattle.html_tokens.specs.Characters.{run}
 use Rattle.html_tokens.specs.Table.{Row, values, longest}
+use Rattle.html_tokens.specs.Fault.{Fault, Grave, Slight, slight_if}
 
 -- what a reference stands for, and how many characters it takes behind "&"
 pub record Reference : Type 0 where
@@ -66,18 +67,23 @@ abbrev pub numeric : List ℕ → Option Number
 numeric [] = None
 numeric (c ∷ t) = numeric_by (nat_eq c 120 || nat_eq c 88) c t
 
-abbrev pub is_none_number : Option Number → Bool
-is_none_number None = false
-is_none_number (Some n) = is_no_character n.value
+-- what is wrong with a numeric reference: it is no clean text, and a fault where its number names no character
+abbrev pub fault_of_number : Option Number → Fault
+fault_of_number None = Slight
+fault_of_number (Some n) = if is_no_character n.value then Grave else Slight
 
-abbrev pub names_none_by : Bool → List ℕ → Bool
-names_none_by true t = is_none_number (numeric t)
-names_none_by false t = false
+abbrev pub ends_in_semicolon : Option Row → Bool
+ends_in_semicolon None = false
+ends_in_semicolon (Some row) = ends_with nat_eq row.name (codes ";")
 
--- whether a numeric reference to no character stands behind "&"
-abbrev pub names_no_character : List ℕ → Bool
-names_no_character [] = false
-names_no_character (c ∷ t) = names_none_by (nat_eq c 35) t
+abbrev pub fault_of_reference_by : Bool → List Row → ℕ → List ℕ → Option Fault
+fault_of_reference_by true rows c t = Some (fault_of_number (numeric t))
+fault_of_reference_by false rows c t = slight_if (not (ends_in_semicolon (longest rows (c ∷ t))))
+
+-- what is wrong with a "&" before this text, which is clean only with a name of the table that ends in ";"
+abbrev pub fault_of_reference : List Row → List ℕ → Option Fault
+fault_of_reference rows [] = Some Slight
+fault_of_reference rows (c ∷ t) = fault_of_reference_by (nat_eq c 35) rows c t
 
 abbrev pub numbered_reference : Option Number → Option Reference
 numbered_reference None = None

@@ -38,7 +38,7 @@ owed_rows =
     ∷ []
 
 abbrev pub owed_of : Bool → List ℕ → ℕ
-owed_of cdata t = owed (step raw_text) (λ s. s.cdata) finished five data_stand 0 (empty cdata) (normal_text true t)
+owed_of cdata t = owed (step raw_text) (λ s token. true) (λ s. s.cdata) finished five data_stand 0 (empty cdata) (normal_text true t)
 
 abbrev pub AreErrorRowsRead : Type 0
 AreErrorRowsRead =
@@ -61,7 +61,7 @@ unclean_rows =
     ∷ codes "<!doctype html>" ∷ codes "<!DOCTYPE html >" ∷ codes "<!--a-->" ∷ codes "</>" ∷ codes "<?>" ∷ codes "<a-B>" ∷ codes "<title></Title>" ∷ codes "<title><" ∷ (0 ∷ []) ∷ []
 
 abbrev pub is_clean_of : List ℕ → Bool
-is_clean_of t = is_clean_reading (step raw_text) (λ s. s.cdata) five data_stand 0 (empty false) (normal_text true t)
+is_clean_of t = is_clean_reading (step raw_text) (λ s token. true) (λ s. s.cdata) five data_stand 0 (empty false) (normal_text true t)
 
 abbrev pub AreCleanRowsRead : Type 0
 AreCleanRowsRead = (map is_clean_of clean_rows ≡ map (λ t. true) clean_rows) × (map is_clean_of unclean_rows ≡ map (λ t. false) unclean_rows)

@@ -44,7 +44,7 @@ abbrev pub pausing : Tag → TokenSinkResult ℕ
 pausing tag = if bytes_eq tag.name (codes "a") then Script 7 else if bytes_eq tag.name (codes "m") then EncodingIndicator (codes "utf8") else Continue
 
 abbrev pub pauses_of : List ℕ → Result (List (TokenSinkResult ℕ)) (ParseFault × ℕ)
-pauses_of t = pauses (step pausing) (λ s. s.cdata) finished five data_stand 0 (empty false) t
+pauses_of t = pauses (step pausing) (λ s token. true) (λ s. s.cdata) finished five data_stand 0 (empty false) t
 
 -- a pause comes behind its tag, and the reading goes on behind it as it would with no pause
 abbrev pub ArePauseRowsRead : Type 0
@@ -57,4 +57,4 @@ ArePauseRowsRead =
 -- at the end of input the sink is told the end once, and `end` is called behind it
 abbrev pub IsEndRowRead : Type 0
 IsEndRowRead =
-    reading (step goes_on) (λ s. s) (λ s. s.cdata) finished five data_stand 0 (empty false) (codes "a" ++ 10 ∷ codes "<b") ≡ Ok (record { told = (text_of (codes "a" ++ 10 ∷ []), 0) ∷ []; cdata = false; ended_at = Some 2; ended = true })
+    reading (step goes_on) (λ fault s. s) (λ s. s.cdata) finished five data_stand 0 (empty false) (codes "a" ++ 10 ∷ codes "<b") ≡ Ok (record { told = (text_of (codes "a" ++ 10 ∷ []), 0) ∷ []; cdata = false; ended_at = Some 2; ended = true })

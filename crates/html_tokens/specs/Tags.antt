@@ -1,5 +1,5 @@
 -- Tags and their attributes (HTML Standard, sections 13.2.5.8 and 13.2.5.32 to 13.2.5.40).
-use Rattle.std.specs.Prelude.{ℕ, zero, suc, Bool, true, false, ◌||◌, not, nat_eq, List, [], ◌∷◌, ◌++◌, take, drop, codes, Option, Some, None, if◌then◌else◌}
+use Rattle.std.specs.Prelude.{ℕ, zero, suc, Bool, true, false, ◌||◌, not, nat_eq, List, [], ◌∷◌, ◌++◌, take, drop, codes, Option, Some, None, is_some, if◌then◌else◌}
 use Rattle.std.specs.List.{list_any}
 use Rattle.std.specs.Str.{bytes_eq}
 use Rattle.markup.specs.declared.attributes.Attribute.{Attribute}
@@ -7,10 +7,10 @@ use Rattle.html_tokens.specs.declared.tags.Tag.{Tag}
 use Rattle.html_tokens.specs.declared.tags.TagKind.{TagKind}
 use Rattle.html_tokens.specs.declared.tags.TagKind.TheVariants.{StartTag, EndTag}
 use Rattle.html_tokens.specs.declared.token.Token.TheVariants.{TagToken}
-use Rattle.html_tokens.specs.Characters.{is_white_space, ends_tag_name, ends_attribute_name, ends_word, shown, lowered, all_lowered, run, white, begins}
+use Rattle.html_tokens.specs.Characters.{is_white_space, ends_tag_name, ends_attribute_name, ends_word, shown, is_null, has_null, lowered, all_lowered, run, white, begins}
 use Rattle.html_tokens.specs.Table.{Row}
-use Rattle.html_tokens.specs.Reference.{Reference, reference_at}
-use Rattle.html_tokens.specs.Item.{InData, InTag, Stand, moved, Item, behind, behind_all, silent, told_as}
+use Rattle.html_tokens.specs.Reference.{Reference, reference_at, fault_of_reference}
+use Rattle.html_tokens.specs.Item.{InData, InTag, Stand, moved, Item, behind, behind_all, marked, silent, told_as, grave_if}
 
 abbrev pub named : TagKind → List ℕ → Tag
 named kind name = record { kind = kind; name = name; self_closing = false; attrs = []; had_duplicate_attributes = false }
@@ -34,15 +34,20 @@ with_attribute tag name value = attribute_by (has_attribute tag name) tag name v
 abbrev pub name_after : Stand → Tag → List ℕ → Item
 name_after st tag t =
     let n = run ends_tag_name t in
-    silent n (moved st (InTag (record tag { name = tag.name ++ all_lowered (take n t) })))
+    marked (has_null (take n t)) (silent n (moved st (InTag (record tag { name = tag.name ++ all_lowered (take n t) }))))
 
--- a value, and how many characters it takes
+-- a value, how many characters it takes, and whether something is wrong in it
 pub record Value : Type 0 where
   pub chars : List ℕ
   pub len : ℕ
+  pub is_odd : Bool
 
-abbrev pub later : List ℕ → Value → Value
-later cs v = record { chars = cs ++ v.chars; len = suc v.len }
+abbrev pub later : Bool → List ℕ → Value → Value
+later odd cs v = record { chars = cs ++ v.chars; len = suc v.len; is_odd = odd || v.is_odd }
+
+-- no more of a value
+abbrev pub no_more : Value
+no_more = record { chars = []; len = 0; is_odd = false }
 
 abbrev pub reference_chars : Option Reference → List ℕ
 reference_chars None = 38 ∷ []
@@ -53,34 +58,43 @@ reference_len None = 0
 reference_len (Some r) = r.len
 
 -- a value by whether it ends here and whether a reference may stand here; `go` has what follows so many characters
-abbrev pub value_by : List Row → Bool → Bool → ℕ → List ℕ → (ℕ → Value) → Value
-value_by rows true amp c t go = record { chars = []; len = 0 }
-value_by rows false true c t go = later (reference_chars (reference_at true rows t)) (go (reference_len (reference_at true rows t)))
-value_by rows false false c t go = later (shown c ∷ []) (go 0)
+abbrev pub value_by : List Row → Bool → Bool → Bool → ℕ → List ℕ → (ℕ → Value) → Value
+value_by rows odd true amp c t go = no_more
+value_by rows odd false true c t go = later (is_some (fault_of_reference rows t)) (reference_chars (reference_at true rows t)) (go (reference_len (reference_at true rows t)))
+value_by rows odd false false c t go = later odd (shown c ∷ []) (go 0)
 
 -- what a value still has behind n characters, up to its end or the end of input (sections 13.2.5.36 to 13.2.5.38)
-unfoldable pub value_from : List Row → (ℕ → Bool) → ℕ → List ℕ → Value
-value_from rows ends n [] = record { chars = []; len = 0 }
-value_from rows ends zero (c ∷ t) = value_by rows (ends c) (nat_eq c 38) c t (λ n. value_from rows ends n t)
-value_from rows ends (suc n) (c ∷ t) = later [] (value_from rows ends n t)
+unfoldable pub value_from : List Row → (ℕ → Bool) → (ℕ → Bool) → ℕ → List ℕ → Value
+value_from rows odd ends n [] = no_more
+value_from rows odd ends zero (c ∷ t) = value_by rows (odd c) (ends c) (nat_eq c 38) c t (λ n. value_from rows odd ends n t)
+value_from rows odd ends (suc n) (c ∷ t) = later false [] (value_from rows odd ends n t)
+
+-- a character of a value without quotes for which an error is told: U+0000, a quote, "<", "=" and "`"
+abbrev pub is_odd_unquoted : ℕ → Bool
+is_odd_unquoted c = nat_eq c 0 || nat_eq c 34 || nat_eq c 39 || nat_eq c 60 || nat_eq c 61 || nat_eq c 96
 
 abbrev pub no_value : Stand → Tag → List ℕ → Item
 no_value st tag name = silent 0 (moved st (InTag (with_attribute tag name [])))
 
 abbrev pub unquoted_after : List Row → Stand → Tag → List ℕ → List ℕ → List ℕ → Item
 unquoted_after rows st tag name front t =
-    let v = value_from rows ends_word 0 t in
-    silent v.len (moved st (InTag (with_attribute tag name (front ++ v.chars))))
+    let v = value_from rows is_odd_unquoted ends_word 0 t in
+    marked v.is_odd (silent v.len (moved st (InTag (with_attribute tag name (front ++ v.chars)))))
 
--- n characters up to the quote, and the quote
+-- whether something but white space, "/" and ">" stands at the front, where one of them is to stand
+abbrev pub lacks_space : List ℕ → Bool
+lacks_space [] = false
+lacks_space (c ∷ t) = not (ends_tag_name c)
+
+-- n characters up to the quote, and the quote, behind which no attribute may stand
 abbrev pub quote_at : ℕ → Stand → List ℕ → Item
 quote_at n st [] = silent n st
-quote_at n st (c ∷ t) = silent (suc n) st
+quote_at n st (c ∷ t) = marked (lacks_space t) (silent (suc n) st)
 
 abbrev pub quoted_after : List Row → ℕ → Stand → Tag → List ℕ → List ℕ → List ℕ → Item
 quoted_after rows quote st tag name front t =
-    let v = value_from rows (nat_eq quote) 0 t in
-    quote_at v.len (moved st (InTag (with_attribute tag name (front ++ v.chars)))) (drop v.len t)
+    let v = value_from rows is_null (nat_eq quote) 0 t in
+    marked v.is_odd (quote_at v.len (moved st (InTag (with_attribute tag name (front ++ v.chars)))) (drop v.len t))
 
 -- how a value begins: with a quote, not at all before ">", or with its first character
 pub data Opening : Type 0 where
@@ -93,7 +107,7 @@ opening c = if nat_eq c 34 || nat_eq c 39 then Quote else if nat_eq c 62 then Cl
 
 abbrev pub opened_by : Opening → List Row → Stand → Tag → List ℕ → ℕ → List ℕ → Item
 opened_by Quote rows st tag name c t = behind (quoted_after rows c st tag name [] t)
-opened_by Close rows st tag name c t = no_value st tag name
+opened_by Close rows st tag name c t = marked true (no_value st tag name)
 opened_by Other rows st tag name c t = unquoted_after rows st tag name [] (c ∷ t)
 
 abbrev pub opened_at : List Row → Stand → Tag → List ℕ → List ℕ → Item
@@ -112,11 +126,19 @@ equals_by false rows st tag name t = no_value st tag name
 abbrev pub equals_at : List Row → Stand → Tag → List ℕ → List ℕ → Item
 equals_at rows st tag name t = equals_by (begins (codes "=") (drop (white t) t)) rows st tag name t
 
+-- a character of an attribute's name for which an error is told: U+0000, a quote and "<"
+abbrev pub is_odd_in_name : ℕ → Bool
+is_odd_in_name c = nat_eq c 0 || nat_eq c 34 || nat_eq c 39 || nat_eq c 60
+
+-- the same of its first character: also "="
+abbrev pub is_odd_first : ℕ → Bool
+is_odd_first c = nat_eq c 61 || is_odd_in_name c
+
 -- the rest of an attribute's name, and its value (section 13.2.5.33)
 abbrev pub attribute_after : List Row → Stand → Tag → List ℕ → List ℕ → Item
 attribute_after rows st tag front t =
     let n = run ends_attribute_name t in
-    behind_all n (equals_at rows st tag (front ++ all_lowered (take n t)) (drop n t))
+    marked (list_any is_odd_in_name (take n t)) (behind_all n (equals_at rows st tag (front ++ all_lowered (take n t)) (drop n t)))
 
 abbrev pub last_name : TagKind → List ℕ → Option (List ℕ) → Option (List ℕ)
 last_name StartTag name last = Some name
@@ -139,11 +161,11 @@ abbrev pub is_faulty_tag : Tag → Bool
 is_faulty_tag tag = tag.had_duplicate_attributes || is_faulty_end tag.kind tag
 
 abbrev pub tag_end : Stand → Tag → ℕ → Item
-tag_end st tag n = told_as (is_faulty_tag tag) (TagToken tag) n (behind_tag st tag)
+tag_end st tag n = told_as (grave_if (is_faulty_tag tag)) (TagToken tag) n (behind_tag st tag)
 
 abbrev pub slash_by : Bool → Stand → Tag → Item
 slash_by true st tag = tag_end st (record tag { self_closing = true }) 2
-slash_by false st tag = silent 1 (moved st (InTag tag))
+slash_by false st tag = marked true (silent 1 (moved st (InTag tag)))
 
 -- what a character inside a tag begins: white space, "/", ">" or an attribute
 pub data Part : Type 0 where
@@ -159,7 +181,7 @@ abbrev pub tag_by : Part → List Row → Stand → Tag → ℕ → List ℕ →
 tag_by Space rows st tag c t = silent 1 (moved st (InTag tag))
 tag_by Solidus rows st tag c t = slash_by (begins (codes ">") t) st tag
 tag_by End rows st tag c t = tag_end st tag 1
-tag_by Attributes rows st tag c t = behind (attribute_after rows st tag (lowered c ∷ []) t)
+tag_by Attributes rows st tag c t = marked (is_odd_first c) (behind (attribute_after rows st tag (lowered c ∷ []) t))
 
 -- behind a tag's name (sections 13.2.5.32, 13.2.5.39 and 13.2.5.40)
 abbrev pub tag_at : List Row → Stand → Tag → ℕ → List ℕ → Item

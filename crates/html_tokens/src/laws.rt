@@ -1,6 +1,6 @@
 //! Laws over the definitions of tokenizing. Each function's contract is one law.
 ghost use Rattle.std.specs.Prelude.{⊤};
-ghost use Rattle.html_tokens.specs.Laws.{IsCleanOwingNone, IsItemInText, IsReadByItems, IsSkipped, AreNewlinesJoined, IsCutAnywhere, IsRunOneText, IsEscapeRead, IsOwnNormalText, IsFirstKept, IsEachTokenSound, ReadsEscapes, AreLinesCounted, JoinsText};
+ghost use Rattle.html_tokens.specs.Laws.{IsCleanQuiet, IsItemInText, IsReadByItems, IsSkipped, AreNewlinesJoined, IsCutAnywhere, IsRunOneText, IsEscapeRead, IsOwnNormalText, IsFirstKept, IsEachTokenSound, ReadsEscapes, AreLinesCounted, JoinsText};
 ghost use Rattle.html_tokens.specs.RowForms.{five, raw_text};
 ghost use Rattle.html_tokens.specs.Listing;
 ghost use Rattle.html_tokens.specs.TagEquality.{IsTagEquivalence};
@@ -57,9 +57,9 @@ pub fn tokens_are_sound()
     ensures { IsEachTokenSound }
 {}
 
-/// A text that is read without anything that is not clean owes no error.
-pub fn clean_texts_owe_no_error<S: TokenSink>()
-    ensures { IsCleanOwingNone S.step S.asks_cdata S.ended }
+/// A text that is read without anything that is not clean owes no error, and is quiet.
+pub fn clean_texts_are_quiet<S: TokenSink>()
+    ensures { IsCleanQuiet S.step S.is_quiet S.asks_cdata S.ended }
 {}
 
 /// The table of five names reads what escaping writes.

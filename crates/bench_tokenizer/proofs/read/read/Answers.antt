@@ -1,8 +1,11 @@
-use Rattle.bench_tokenizer.proofs.Pages.{no-bytes, read-on, whole-page}
+use Rattle.bench_tokenizer.proofs.Pages.{begun, no-bytes, read-on, whole-page}
 use Rattle.std.proofs.Common.{rules, ◌++◌}
 use Rattle.std.specs.Str.{chars}
 use Rattle.bench_tokenizer.specs.Readings.{HasRead, Reads}
 use Rattle.bench_tokenizer.proofs.read.read.Goals as goal
+
+pub loop-rest-init : goal.loop-rest-init
+loop-rest-init c = (search rules, begun (chars c.args.page.now) c.in_ok-tokenizer.tokenizer (search rules), search rules)
 
 pub loop-rest-preserved : goal.loop-rest-preserved
 loop-rest-preserved c =

@@ -1,4 +1,4 @@
-use Rattle.std.proofs.Common.{◌∙◌, sym}
+use Rattle.std.proofs.Common.{true, ◌∙◌, sym}
 use Rattle.std.proofs.lemmas.Bool.{ne_eqb}
 use Rattle.html_tokens.specs.declared.states.State.TheVariants as state
 use Rattle.html_tokenizer.proofs.Doctypes.{between-white, second-double, second-single, between-says, between-other, doctype-took, doctype-failed}
@@ -23,13 +23,13 @@ pub returns-in_err-emit_doctype : goal.returns-in_err-emit_doctype
 returns-in_err-emit_doctype g c =
     let m = g.Sink.TokenSink in
     doctype-failed m.step m.view m.asks_cdata m.ended m.is_sound m.number m.has_failed m.errors m.is_quiet g.met.Sink.TokenSink.laws
-    c.args.self.now _ _ state.BetweenDoctypePublicAndSystemIdentifiers c.args.self.now.temporary c.args.self.now.doctype _ _ c.if-c-eq62.true c.requires.at c.requires.sound c.from_residual.ensures.1 c.in_err-emit_doctype.ensures (between-says m.step m.view m.asks_cdata m.ended m.is_sound m.number m.has_failed m.errors m.is_quiet g.met.Sink.TokenSink.laws c.args.self.now c.args.self.now.temporary)
+    c.args.self.now _ _ state.BetweenDoctypePublicAndSystemIdentifiers c.args.self.now.temporary true c.args.self.now.doctype _ _ c.if-c-eq62.true c.requires.at c.requires.sound c.from_residual.ensures.1 c.in_err-emit_doctype.ensures (between-says m.step m.view m.asks_cdata m.ended m.is_sound m.number m.has_failed m.errors m.is_quiet g.met.Sink.TokenSink.laws c.args.self.now c.args.self.now.temporary)
 
 pub returns-then-c-eq62 : goal.returns-then-c-eq62
 returns-then-c-eq62 g c =
     let m = g.Sink.TokenSink in
     doctype-took m.step m.view m.asks_cdata m.ended m.is_sound m.number m.has_failed m.errors m.is_quiet g.met.Sink.TokenSink.laws
-    c.args.self.now _ _ state.BetweenDoctypePublicAndSystemIdentifiers c.args.self.now.temporary c.args.self.now.doctype c.if-c-eq62.true c.requires.at c.requires.sound c.in_ok-emit_doctype.ensures (between-says m.step m.view m.asks_cdata m.ended m.is_sound m.number m.has_failed m.errors m.is_quiet g.met.Sink.TokenSink.laws c.args.self.now c.args.self.now.temporary)
+    c.args.self.now _ _ state.BetweenDoctypePublicAndSystemIdentifiers c.args.self.now.temporary true c.args.self.now.doctype c.if-c-eq62.true c.requires.at c.requires.sound c.in_ok-emit_doctype.ensures (between-says m.step m.view m.asks_cdata m.ended m.is_sound m.number m.has_failed m.errors m.is_quiet g.met.Sink.TokenSink.laws c.args.self.now c.args.self.now.temporary)
 
 pub returns : goal.returns
 returns g c =

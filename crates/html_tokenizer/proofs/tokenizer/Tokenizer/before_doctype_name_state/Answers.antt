@@ -1,4 +1,4 @@
-use Rattle.std.proofs.Common.{◌∙◌, sym}
+use Rattle.std.proofs.Common.{false, ◌∙◌, sym}
 use Rattle.std.proofs.lemmas.Bool.{ne_eqb}
 use Rattle.html_tokens.specs.Doctypes.{forced}
 use Rattle.html_tokens.specs.declared.states.State.TheVariants as state
@@ -14,13 +14,13 @@ pub returns-in_err-emit_doctype : goal.returns-in_err-emit_doctype
 returns-in_err-emit_doctype g c =
     let m = g.Sink.TokenSink in
     doctype-failed m.step m.view m.asks_cdata m.ended m.is_sound m.number m.has_failed m.errors m.is_quiet g.met.Sink.TokenSink.laws
-    c.args.self.now _ _ state.BeforeDoctypeName c.args.self.now.temporary (forced c.no_doctype.result) _ _ c.if-c-eq62.true c.requires.at c.requires.sound c.from_residual.ensures.1 c.in_err-emit_doctype.ensures (rw c.no_doctype.ensures (before_name-says m.step m.view m.asks_cdata m.ended m.is_sound m.number m.has_failed m.errors m.is_quiet g.met.Sink.TokenSink.laws c.args.self.now c.args.self.now.temporary))
+    c.args.self.now _ _ state.BeforeDoctypeName c.args.self.now.temporary false (forced c.no_doctype.result) _ _ c.if-c-eq62.true c.requires.at c.requires.sound c.from_residual.ensures.1 c.in_err-emit_doctype.ensures (rw c.no_doctype.ensures (before_name-says m.step m.view m.asks_cdata m.ended m.is_sound m.number m.has_failed m.errors m.is_quiet g.met.Sink.TokenSink.laws c.args.self.now c.args.self.now.temporary))
 
 pub returns-then-c-eq62 : goal.returns-then-c-eq62
 returns-then-c-eq62 g c =
     let m = g.Sink.TokenSink in
     doctype-took m.step m.view m.asks_cdata m.ended m.is_sound m.number m.has_failed m.errors m.is_quiet g.met.Sink.TokenSink.laws
-    c.args.self.now _ _ state.BeforeDoctypeName c.args.self.now.temporary (forced c.no_doctype.result) c.if-c-eq62.true c.requires.at c.requires.sound c.in_ok-emit_doctype.ensures (rw c.no_doctype.ensures (before_name-says m.step m.view m.asks_cdata m.ended m.is_sound m.number m.has_failed m.errors m.is_quiet g.met.Sink.TokenSink.laws c.args.self.now c.args.self.now.temporary))
+    c.args.self.now _ _ state.BeforeDoctypeName c.args.self.now.temporary false (forced c.no_doctype.result) c.if-c-eq62.true c.requires.at c.requires.sound c.in_ok-emit_doctype.ensures (rw c.no_doctype.ensures (before_name-says m.step m.view m.asks_cdata m.ended m.is_sound m.number m.has_failed m.errors m.is_quiet g.met.Sink.TokenSink.laws c.args.self.now c.args.self.now.temporary))
 
 pub returns : goal.returns
 returns g c =

@@ -1,6 +1,7 @@
 use Rattle.std.proofs.Common.{sym}
 use Rattle.std.proofs.lemmas.Bool.{ne_eqb}
 use Rattle.html_tokens.specs.declared.states.State.TheVariants as state
+use Rattle.html_tokenizer.specs.Steps.{a_fault}
 use Rattle.html_tokenizer.proofs.Comments.{start-says, start-dash, start-other, comment-took, comment-failed}
 use Rattle.html_tokenizer.proofs.tokenizer.Tokenizer.comment_start_state.Goals as goal
 
@@ -13,7 +14,7 @@ pub returns-in_err-emit_faulty_comment : goal.returns-in_err-emit_faulty_comment
 returns-in_err-emit_faulty_comment g c =
     let m = g.Sink.TokenSink in
     comment-failed m.step m.view m.asks_cdata m.ended m.is_sound m.number m.has_failed m.errors m.is_quiet g.met.Sink.TokenSink.laws
-    1 _ _ _ state.CommentStart c.empty.result _ _ c.if-c-eq62.true c.requires.at c.requires.sound c.from_residual.ensures.1 c.in_err-emit_faulty_comment.ensures (rw c.empty.ensures (start-says m.step m.view m.asks_cdata m.ended m.is_sound m.number m.has_failed m.errors m.is_quiet g.met.Sink.TokenSink.laws _))
+    a_fault _ _ _ state.CommentStart c.empty.result _ _ c.if-c-eq62.true c.requires.at c.requires.sound c.from_residual.ensures.1 c.in_err-emit_faulty_comment.ensures (rw c.empty.ensures (start-says m.step m.view m.asks_cdata m.ended m.is_sound m.number m.has_failed m.errors m.is_quiet g.met.Sink.TokenSink.laws _))
 
 pub returns-then-c-eq62 : goal.returns-then-c-eq62
 returns-then-c-eq62 g c =

@@ -1,13 +1,18 @@
 use Rattle.std.proofs.Common.{sym}
-use Rattle.html_tokenizer.proofs.EndTextStates.{raw_open-closes, deep-closed}
+use Rattle.html_tokenizer.proofs.EndTextStates.{raw_open-closes, raw_open-untold, deep-closes}
 use Rattle.html_tokenizer.proofs.tokenizer.Tokenizer.end_raw_less_than_sign.Goals as goal
 
-pub returns-then-ends_at_tag : goal.returns-then-ends_at_tag
-returns-then-ends_at_tag g c =
+pub returns-then-not-ends_at_tag : goal.returns-then-not-ends_at_tag
+returns-then-not-ends_at_tag g c =
     let m = g.Sink.TokenSink in
-    raw_open-closes m.step m.view m.asks_cdata m.ended m.is_sound m.number m.has_failed m.errors m.is_quiet g.met.Sink.TokenSink.laws _ _ _ _ c.requires.at c.requires.sound (sym c.if-ends_at_tag.ensures) c.tell_char.ensures
+    deep-closes m.step m.view m.asks_cdata m.ended m.is_sound m.number m.has_failed m.errors m.is_quiet _ _ _ _ c.requires.at (sym c.if-not-ends_at_tag.ensures) c.requires.sound c.tell_escaped_end.ensures
+
+pub returns-in_err-tell_char : goal.returns-in_err-tell_char
+returns-in_err-tell_char g c =
+    let m = g.Sink.TokenSink in
+    raw_open-untold m.step m.view m.asks_cdata m.ended m.is_sound m.number m.has_failed m.errors m.is_quiet g.met.Sink.TokenSink.laws _ _ _ _ _ c.requires.at c.requires.sound (sym c.if-not-ends_at_tag.ensures) c.in_err-tell_char.ensures c.from_residual.ensures.1
 
 pub returns : goal.returns
 returns g c =
     let m = g.Sink.TokenSink in
-    deep-closed m.step m.view m.asks_cdata m.ended m.is_sound m.number m.has_failed m.errors _ _ c.requires.at (sym c.if-ends_at_tag.ensures) c.requires.sound
+    raw_open-closes m.step m.view m.asks_cdata m.ended m.is_sound m.number m.has_failed m.errors m.is_quiet g.met.Sink.TokenSink.laws _ c.tell_char.new.self _ _ _ c.requires.at c.requires.sound (sym c.if-not-ends_at_tag.ensures) c.in_ok-tell_char.ensures c.tell_escaped_end-2.ensures

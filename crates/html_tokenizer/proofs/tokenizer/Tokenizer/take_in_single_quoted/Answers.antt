@@ -1,4 +1,4 @@
-use Rattle.std.proofs.Common.{[], refl}
+use Rattle.std.proofs.Common.{false, [], refl}
 use Rattle.std.proofs.lemmas.Bool.{ne_eqb}
 use Rattle.html_tokens.specs.Doctypes.{forced}
 use Rattle.html_tokens.specs.declared.states.State.TheVariants as state
@@ -15,13 +15,13 @@ pub returns-in_err-emit_doctype : goal.returns-in_err-emit_doctype
 returns-in_err-emit_doctype g c =
     let m = g.Sink.TokenSink in
     doctype-failed m.step m.view m.asks_cdata m.ended m.is_sound m.number m.has_failed m.errors m.is_quiet g.met.Sink.TokenSink.laws
-    c.args.self.now _ _ (state.DoctypeIdentifierSingleQuoted c.args.kind) [] (forced (with_identifier c.args.kind c.args.self.now.doctype c.args.self.now.temporary)) _ _ c.if-c-eq62.true c.requires.at c.requires.sound c.from_residual.ensures.1 (rw c.finish_identifier-then-c-eq62.ensures at c.in_err-emit_doctype.ensures) (single-says m.step m.view m.asks_cdata m.ended m.is_sound m.number m.has_failed m.errors m.is_quiet g.met.Sink.TokenSink.laws c.args.kind c.args.self.now [])
+    c.args.self.now _ _ (state.DoctypeIdentifierSingleQuoted c.args.kind) [] false (forced (with_identifier c.args.kind c.args.self.now.doctype c.args.self.now.temporary)) _ _ c.if-c-eq62.true c.requires.at c.requires.sound c.from_residual.ensures.1 (rw c.finish_identifier-then-c-eq62.ensures at c.in_err-emit_doctype.ensures) (single-says m.step m.view m.asks_cdata m.ended m.is_sound m.number m.has_failed m.errors m.is_quiet g.met.Sink.TokenSink.laws c.args.kind c.args.self.now [])
 
 pub returns-then-c-eq62 : goal.returns-then-c-eq62
 returns-then-c-eq62 g c =
     let m = g.Sink.TokenSink in
     doctype-took m.step m.view m.asks_cdata m.ended m.is_sound m.number m.has_failed m.errors m.is_quiet g.met.Sink.TokenSink.laws
-    c.args.self.now _ _ (state.DoctypeIdentifierSingleQuoted c.args.kind) [] (forced (with_identifier c.args.kind c.args.self.now.doctype c.args.self.now.temporary)) c.if-c-eq62.true c.requires.at c.requires.sound (rw c.finish_identifier-then-c-eq62.ensures at c.in_ok-emit_doctype.ensures) (single-says m.step m.view m.asks_cdata m.ended m.is_sound m.number m.has_failed m.errors m.is_quiet g.met.Sink.TokenSink.laws c.args.kind c.args.self.now [])
+    c.args.self.now _ _ (state.DoctypeIdentifierSingleQuoted c.args.kind) [] false (forced (with_identifier c.args.kind c.args.self.now.doctype c.args.self.now.temporary)) c.if-c-eq62.true c.requires.at c.requires.sound (rw c.finish_identifier-then-c-eq62.ensures at c.in_ok-emit_doctype.ensures) (single-says m.step m.view m.asks_cdata m.ended m.is_sound m.number m.has_failed m.errors m.is_quiet g.met.Sink.TokenSink.laws c.args.kind c.args.self.now [])
 
 pub returns : goal.returns
 returns g c =

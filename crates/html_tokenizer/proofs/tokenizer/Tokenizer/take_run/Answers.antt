@@ -4,7 +4,7 @@ use Rattle.html_tokenizer.proofs.tokenizer.Tokenizer.take_run.Goals as goal
 pub returns-in-AttributeValue : goal.returns-in-AttributeValue
 returns-in-AttributeValue g c =
     let m = g.Sink.TokenSink in
-    value_run-kept m.step m.view m.asks_cdata m.ended m.is_sound m.number m.has_failed m.errors _ _ _ _ _ c.requires.run c.requires.sound c.in-AttributeValue.is c.append.ensures.ok c.append.ensures.fault
+    value_run-kept m.step m.view m.asks_cdata m.ended m.is_sound m.number m.has_failed m.errors m.is_quiet _ _ _ _ _ c.requires.run c.requires.sound c.in-AttributeValue.is c.append.ensures.ok c.append.ensures.fault
 
 pub returns-in-BogusComment : goal.returns-in-BogusComment
 returns-in-BogusComment g c =

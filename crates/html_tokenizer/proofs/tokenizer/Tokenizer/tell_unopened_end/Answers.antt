@@ -1,14 +1,17 @@
-use Rattle.std.proofs.Common.{arith}
-use Rattle.html_tokenizer.proofs.Errors.{tells-erred, tells-failed, tells-fewer}
+use Rattle.std.proofs.Common.{Some}
+use Rattle.html_tokens.specs.Item.{Slight}
+use Rattle.html_tokenizer.proofs.Errors.{tells-erred, tells-failed, tells-less}
 use Rattle.html_tokenizer.proofs.tokenizer.Tokenizer.tell_unopened_end.Goals as goal
+use Rattle.html_tokenizer.specs.Steps.{a_fault, owed_for}
+use Rattle.html_tokenizer.proofs.Rises.{slight-no-more}
 
 pub returns-in_err-tell_error : goal.returns-in_err-tell_error
 returns-in_err-tell_error g c =
     let m = g.Sink.TokenSink in
-    tells-failed m.step m.view m.asks_cdata m.ended m.is_sound m.number m.has_failed m.errors m.is_quiet g.met.Sink.TokenSink.laws 0 _ c.tell_error.new.self _ _ _ _ c.in_err-tell_error.ensures c.from_residual.ensures.1
+    tells-failed m.step m.view m.asks_cdata m.ended m.is_sound m.number m.has_failed m.errors m.is_quiet g.met.Sink.TokenSink.laws (owed_for (Some Slight)) _ c.tell_error.new.self _ _ _ _ c.in_err-tell_error.ensures c.from_residual.ensures.1
 
 pub returns : goal.returns
 returns g c =
     let m = g.Sink.TokenSink in
-    tells-fewer m.step m.view m.asks_cdata m.ended m.is_sound m.number m.has_failed m.errors m.is_quiet g.met.Sink.TokenSink.laws 1 0 _ _ _ _ (omega arith)
-    (tells-erred m.step m.view m.asks_cdata m.ended m.is_sound m.number m.has_failed m.errors m.is_quiet g.met.Sink.TokenSink.laws 1 _ c.tell_error.new.self _ _ _ c.in_ok-tell_error.ensures c.tell_two.ensures)
+    tells-less m.step m.view m.asks_cdata m.ended m.is_sound m.number m.has_failed m.errors m.is_quiet g.met.Sink.TokenSink.laws a_fault (owed_for (Some Slight)) _ _ _ _ slight-no-more
+    (tells-erred m.step m.view m.asks_cdata m.ended m.is_sound m.number m.has_failed m.errors m.is_quiet g.met.Sink.TokenSink.laws a_fault _ c.tell_error.new.self _ _ _ c.in_ok-tell_error.ensures c.tell_two.ensures)
