@@ -5,7 +5,7 @@ use Rattle.std.specs.Str.{chars}
 use Rattle.std.proofs.lemmas.List.{nil_from_length, take-append-drop}
 use Rattle.std.proofs.lemmas.Bool.{eqb-true}
 use Rattle.std.proofs.lemmas.Str.{chars-append, chars-nil}
-use Rattle.html_tokenizer.specs.Calls.{EndGives, refusal}
+use Rattle.html_tokenizer.specs.Calls.{EndGives, owed_for_text, refusal}
 use Rattle.html_tokenizer.specs.Steps.{and_more}
 use Rattle.html_tokenizer.specs.Steps as steps
 use Rattle.html_tokenizer.specs.declared.tokenizer.Tokenizer.{Tokenizer}
@@ -23,6 +23,10 @@ chars-cut bs n front = ap chars (sym (take-append-drop n bs)) ∙ chars-append (
 pub no-bytes : (rest : List ℕ) (b : Bool) → b ≡ (length rest == 0) → b ≡ true → rest ≡ []
 no-bytes rest b e t = nil_from_length rest (eqb-true (length rest) 0 (sym e ∙ t))
 
+-- where errors were told for faulty items and for single characters, one was told for each faulty item
+told-fewer : (before rise own n : ℕ) → min (before + (rise + own)) 0xffff_ffff_ffff_ffff ≤ n → min (before + rise) 0xffff_ffff_ffff_ffff ≤ n
+told-fewer before rise own n h = omega arith
+
 -- where an error was told for each faulty item, and then one for each further one, one was told for each of them all
 told-all : (before rise m n : ℕ) → min before 0xffff_ffff_ffff_ffff ≤ m → min (m + rise) 0xffff_ffff_ffff_ffff ≤ n → min (and_more rise before) 0xffff_ffff_ffff_ffff ≤ n
 told-all before rise m n h k = let sum = more-sum rise before in omega (arith, sum, h, k)
@@ -38,7 +42,7 @@ begun page k begins = record { owed = steps.nothing; told = omega arith; same = 
 pub read-on : (page text behind : List ℕ) (old new : Tokenizer Counts) → HasRead page old (text ++ behind) → Reads old new text → HasRead page new behind
 read-on page text behind old new read reads = record {
   owed = owed_behind reads.owed read.owed;
-  told = told-all read.owed.faults reads.owed.faults old.sink.errors new.sink.errors read.told reads.rises.enough;
+  told = told-all read.owed.faults reads.owed.faults old.sink.errors new.sink.errors read.told (told-fewer old.sink.errors reads.owed.faults (owed_for_text old.stream.exact_errors reads.came).faults new.sink.errors reads.rises.enough);
   same = read.same ∙ reads.same read.owed behind;
   takes = reads.takes;
 }

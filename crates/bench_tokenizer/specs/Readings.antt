@@ -5,9 +5,9 @@ use Rattle.html_tokens.specs.NormalText.{normal_text}
 use Rattle.html_tokens.specs.Reading.{first_stand}
 use Rattle.html_tokens.specs.Sink.{Refusal}
 use Rattle.html_references.specs.References.{five_rows}
-use Rattle.html_tokenizer.specs.Calls.{IsReady, refusal, and_own}
+use Rattle.html_tokenizer.specs.Calls.{IsReady, refusal, owed_for_text}
 use Rattle.html_tokenizer.specs.Calls as calls
-use Rattle.html_tokenizer.specs.Steps.{Owed, Rises, and_more}
+use Rattle.html_tokenizer.specs.Steps.{Owed, Rises, together, and_more}
 use Rattle.html_tokenizer.specs.Steps as steps
 use Rattle.html_tokenizer.specs.declared.tokenizer.Tokenizer.{Tokenizer}
 use Rattle.bench_tokenizer.specs.Counts.{Counted, IsWithin, counted_by, step, ended, asks_cdata, number, has_failed, errors, is_quiet}
@@ -47,11 +47,12 @@ pub record Takes (k : Tokenizer Counts) : Type 0 where
   pub ready : IsReady step counted_by asks_cdata ended IsWithin number has_failed errors is_quiet k
   pub begun : refusal k.stream ≡ None
 
--- A tokenizer read a text, which owed this: whatever follows, what was to come over the text and that is what is now to come
+-- A tokenizer read a text, of which these characters came, which owed this: whatever follows, what was to come over the text and that is what is now to come
 -- over that.
 pub record Reads (old new : Tokenizer Counts) (text : List ℕ) : Type 0 where
   pub owed : Owed
-  pub rises : Rises errors (and_own old.stream.exact_errors owed) old.sink new.sink
+  pub came : List ℕ
+  pub rises : Rises errors (together owed (owed_for_text old.stream.exact_errors came)) old.sink new.sink
   pub same : (before : Owed) (t : List ℕ) → to_come old before (text ++ t) ≡ to_come new (owed_behind owed before) t
   pub takes : Takes new
 

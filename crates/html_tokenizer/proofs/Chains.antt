@@ -1,20 +1,21 @@
 -- Calls of one tokenizer make of all that they take what the tokenizer was to make of it.
-use Rattle.std.proofs.Common.{◌≡◌, ◌∙◌, ℕ, ◌+◌, ◌≤◌, Bool, List, [], ◌∷◌, ◌++◌, Result, Ok, Err, sym, ap, subst, append_assoc, append-nil, arith}
-use Rattle.std.specs.Prelude.{◌&&◌, not, min}
+use Rattle.std.proofs.Common.{◌≡◌, ◌∙◌, ℕ, ◌+◌, ◌≤◌, Bool, List, [], ◌∷◌, ◌++◌, Result, Ok, Err, sym, ap, subst, append_assoc, append-nil, arith, refl, true, false}
+use Rattle.std.specs.Prelude.{◌&&◌, min}
 use Rattle.std.proofs.lemmas.Bool.{and_parts, and_from}
 use Rattle.html_tokens.specs.declared.token.Token.{Token}
 use Rattle.html_tokens.specs.Notes.{Notes, no_notes, errors_of, was_quiet, noted_reading}
 use Rattle.html_tokens.specs.declared.options.TokenizerOpts.{TokenizerOpts}
-use Rattle.html_tokens.specs.NormalText.{normal_text}
+use Rattle.html_tokens.specs.NormalText.{newlines_behind, without_mark}
 use Rattle.html_tokens.specs.Reading.{first_stand}
 use Rattle.html_tokens.specs.Table.{Row}
 use Rattle.html_tokens.proofs.CleanItems.{reading-clean}
 use Rattle.html_tokens.specs.Sink.{Step, Refusal}
 use Rattle.html_tokenizer.specs.declared.tokenizer.Tokenizer.{Tokenizer}
-use Rattle.html_tokenizer.specs.Calls.{to_come, noted_with, HasEnded, IsNew, and_own}
+use Rattle.html_tokenizer.specs.Calls.{to_come, noted_with, HasEnded, IsNew, owed_for_text}
 use Rattle.html_tokenizer.specs.Steps.{Owed, more, together, Rises}
-use Rattle.html_tokenizer.proofs.Rises.{more-sum, own-nothing, rises-same, rises-less, rises-besides}
-use Rattle.html_tokenizer.specs.Laws.{Call, IsChain, taken_by, noted_behind, IsAnyPieces, IsSameRoad, IsEachFaultTold, IsCleanTextQuiet}
+use Rattle.html_tokenizer.proofs.Rises.{more-sum, none-no-more, rises-same, rises-less, rises-besides}
+use Rattle.html_tokenizer.specs.Laws.{Call, text_of, IsChain, taken_by, noted_behind, IsAnyPieces, IsSameRoad, IsEachFaultTold, IsCleanTextQuiet}
+use Rattle.html_tokenizer.specs.Rest.{coming}
 
 -- two values that are given as one
 abbrev given : {A B : Type 0} → A → B → Result (A × B) (Refusal × ℕ)
@@ -40,8 +41,16 @@ owed_in notes = record { faults = notes.errors; is_quiet = notes.is_quiet }
 owed-more : (owed : Owed) (notes : Notes ℕ) → owed_in (more owed notes) ≡ together owed (owed_in notes)
 owed-more owed notes = ap (λ n. record { faults = n; is_quiet = owed.is_quiet && notes.is_quiet }) (more-sum owed.faults notes.errors)
 
-told-enough : (a b c d m n : ℕ) → min (a + m) 0xffff_ffff_ffff_ffff ≤ b → min (b + n) 0xffff_ffff_ffff_ffff ≤ c → c ≤ d → min (a + (n + m)) 0xffff_ffff_ffff_ffff ≤ d
-told-enough a b c d m n h k l = omega arith
+told-enough : (a b c d m n o : ℕ) → min (a + (m + o)) 0xffff_ffff_ffff_ffff ≤ b → min (b + n) 0xffff_ffff_ffff_ffff ≤ c → c ≤ d → min (a + ((n + m) + o)) 0xffff_ffff_ffff_ffff ≤ d
+told-enough a b c d m n o h k l = omega arith
+
+no-text : (cr mark : Bool) → newlines_behind cr (without_mark mark []) ≡ []
+no-text cr true = refl
+no-text cr false = refl
+
+-- of nothing that is taken nothing comes
+nothing-comes : {K : Type 0} (k : Tokenizer K) → coming k [] ≡ []
+nothing-comes k = no-text k.stream.ignore_lf k.stream.discard_bom
 
 module _ {K S H : Type 0} (step : Step S) (view : K → S) (cdata : S → Bool) (ends : S → S) (sound : S → Type 0) (number : H → ℕ) (broken : K → Bool) (errors : K → ℕ) (quiet : S → Token → Bool) where
   -- what was to come over all that was taken, and any text, is what is to come over the text
@@ -70,26 +79,49 @@ module _ {K S H : Type 0} (step : Step S) (view : K → S) (cdata : S → Bool) 
   pub same-road : IsSameRoad step view cdata ends sound number broken errors quiet
   same-road k other sink sink' opts exact_errors table h h' same = λ notes t. h.same notes t ∙ rw same (sym (h'.same notes t))
 
-  -- what each call's errors rose by comes to what was noted
-  chain-rises : (k new : Tokenizer K) (cs : List (Call step view cdata ends sound number broken errors quiet)) (notes : Notes ℕ) (first : K) (exact : Bool) → IsChain step view cdata ends sound number broken errors quiet k cs new → k.stream.exact_errors ≡ exact
-      → Rises errors (and_own exact (owed_in notes)) first k.sink → Rises errors (and_own exact (owed_in (noted_behind step view cdata ends sound number broken errors quiet notes cs))) first new.sink
-  chain-rises k new [] notes first exact h same r = rw (← h) r
-  chain-rises k new (c ∷ cs) notes first exact h same r =
-      let r' : Rises errors (and_own exact (owed_in notes)) first c.before.sink = rw (← h.0) r in
-      let same' : c.before.stream.exact_errors ≡ exact = ap (λ (k : Tokenizer K). k.stream.exact_errors) (sym h.0) ∙ same in
-      let call : Rises errors (and_own exact c.fed.owed) c.before.sink c.after.sink = subst (λ b. Rises errors (and_own b c.fed.owed) c.before.sink c.after.sink) same' c.fed.rises in
-      chain-rises c.after new cs (noted_with number c.fed.owed notes c.result) first exact h.1 (c.fed.exact ∙ same')
-      (subst (λ o. Rises errors (and_own exact o) first c.after.sink) (sym (owed-more c.fed.owed notes)) (rises-besides errors exact (owed_in notes) c.fed.owed first c.before.sink c.after.sink r' call))
+  -- the characters that came in the calls
+  abbrev came_by : List (Call step view cdata ends sound number broken errors quiet) → List ℕ
+  came_by [] = []
+  came_by (c ∷ cs) = c.fed.came ++ came_by cs
 
-  -- from a new tokenizer on
+  -- of all that was taken
+  chain-comes : (k new : Tokenizer K) (cs : List (Call step view cdata ends sound number broken errors quiet)) (t : List ℕ) → IsChain step view cdata ends sound number broken errors quiet k cs new → coming k (taken_by step view cdata ends sound number broken errors quiet cs ++ t) ≡ came_by cs ++ coming new t
+  chain-comes k new [] t h = ap (λ x. coming x t) h
+  chain-comes k new (c ∷ cs) t h =
+      ap (coming k) (append_assoc c.fed.taken (taken_by step view cdata ends sound number broken errors quiet cs) t)
+      ∙ ap (λ x. coming x (c.fed.taken ++ (taken_by step view cdata ends sound number broken errors quiet cs ++ t))) h.0
+      ∙ c.fed.comes (taken_by step view cdata ends sound number broken errors quiet cs ++ t)
+      ∙ ap (λ u. c.fed.came ++ u) (chain-comes c.after new cs t h.1)
+      ∙ sym (append_assoc c.fed.came (came_by cs) (coming new t))
+
+  -- what each call's errors rose by comes to what was noted, and what the characters owe on their own
+  chain-rises : (k new : Tokenizer K) (cs : List (Call step view cdata ends sound number broken errors quiet)) (notes : Notes ℕ) (before : List ℕ) (first : K) (exact : Bool) → IsChain step view cdata ends sound number broken errors quiet k cs new → k.stream.exact_errors ≡ exact
+      → Rises errors (together (owed_in notes) (owed_for_text exact before)) first k.sink → Rises errors (together (owed_in (noted_behind step view cdata ends sound number broken errors quiet notes cs)) (owed_for_text exact (before ++ came_by cs))) first new.sink
+  chain-rises k new [] notes before first exact h same r =
+      let r' : Rises errors (together (owed_in notes) (owed_for_text exact before)) first new.sink = rw (← h) r in
+      subst (λ t. Rises errors (together (owed_in notes) (owed_for_text exact t)) first new.sink) (sym (append-nil before)) r'
+  chain-rises k new (c ∷ cs) notes before first exact h same r =
+      let r' : Rises errors (together (owed_in notes) (owed_for_text exact before)) first c.before.sink = rw (← h.0) r in
+      let same' : c.before.stream.exact_errors ≡ exact = ap (λ (k : Tokenizer K). k.stream.exact_errors) (sym h.0) ∙ same in
+      let call : Rises errors (together c.fed.owed (owed_for_text exact c.fed.came)) c.before.sink c.after.sink = subst (λ b. Rises errors (together c.fed.owed (owed_for_text b c.fed.came)) c.before.sink c.after.sink) same' c.fed.rises in
+      let both : Rises errors (together (together c.fed.owed (owed_in notes)) (owed_for_text exact (before ++ c.fed.came))) first c.after.sink = rises-besides errors exact (owed_in notes) c.fed.owed before c.fed.came first c.before.sink c.after.sink r' call in
+      let noted : Rises errors (together (owed_in (noted_with number c.fed.owed notes c.result)) (owed_for_text exact (before ++ c.fed.came))) first c.after.sink =
+      subst (λ o. Rises errors (together o (owed_for_text exact (before ++ c.fed.came))) first c.after.sink) (sym (owed-more c.fed.owed notes)) both in
+      subst (λ t. Rises errors (together (owed_in (noted_behind step view cdata ends sound number broken errors quiet (noted_with number c.fed.owed notes c.result) cs)) (owed_for_text exact t)) first new.sink) (append_assoc before c.fed.came (came_by cs))
+      (chain-rises c.after new cs (noted_with number c.fed.owed notes c.result) (before ++ c.fed.came) first exact h.1 (c.fed.exact ∙ same') noted)
+
+  -- from a new tokenizer on, by the text of all that was taken
   new-rises : (k new : Tokenizer K) (cs : List (Call step view cdata ends sound number broken errors quiet)) (sink : K) (opts : TokenizerOpts) (table : List Row) → IsNew step view cdata ends sound number broken errors quiet k sink opts table → IsChain step view cdata ends sound number broken errors quiet k cs new
-      → Rises errors (and_own opts.exact_errors (owed_in (noted_behind step view cdata ends sound number broken errors quiet no_notes cs))) sink new.sink
+      → Rises errors (together (owed_in (noted_behind step view cdata ends sound number broken errors quiet no_notes cs)) (owed_for_text opts.exact_errors (text_of step view cdata ends sound number broken errors quiet opts cs))) sink new.sink
   new-rises k new cs sink opts table is h =
-      chain-rises k new cs no_notes sink opts.exact_errors h is.exact (rises-less errors sink k.sink (own-nothing opts.exact_errors) (rises-same errors sink k.sink is.over))
+      let text : text_of step view cdata ends sound number broken errors quiet opts cs ≡ came_by cs =
+      sym (is.comes (taken_by step view cdata ends sound number broken errors quiet cs)) ∙ (ap (coming k) (sym (append-nil (taken_by step view cdata ends sound number broken errors quiet cs))) ∙ (chain-comes k new cs [] h ∙ (ap (λ u. came_by cs ++ u) (nothing-comes new) ∙ append-nil (came_by cs)))) in
+      subst (λ t. Rises errors (together (owed_in (noted_behind step view cdata ends sound number broken errors quiet no_notes cs)) (owed_for_text opts.exact_errors t)) sink new.sink) (sym text)
+      (chain-rises k new cs no_notes [] sink opts.exact_errors h is.exact (rises-less errors sink k.sink (none-no-more opts.exact_errors) (rises-same errors sink k.sink is.over)))
 
   -- what is noted of all the text
   all-noted : (k new ended : Tokenizer K) (cs : List (Call step view cdata ends sound number broken errors quiet)) (sink : K) (opts : TokenizerOpts) (table : List Row) → IsNew step view cdata ends sound number broken errors quiet k sink opts table → IsChain step view cdata ends sound number broken errors quiet k cs new → (e : HasEnded step view cdata ends sound number broken errors quiet new ended)
-      → noted_reading step quiet cdata ends table (first_stand opts.initial_state opts.last_start_tag_name) 0 (view sink, no_notes) (normal_text opts.discard_bom (taken_by step view cdata ends sound number broken errors quiet cs)) ≡ Ok (view ended.sink, more e.owed (noted_behind step view cdata ends sound number broken errors quiet no_notes cs))
+      → noted_reading step quiet cdata ends table (first_stand opts.initial_state opts.last_start_tag_name) 0 (view sink, no_notes) (text_of step view cdata ends sound number broken errors quiet opts cs) ≡ Ok (view ended.sink, more e.owed (noted_behind step view cdata ends sound number broken errors quiet no_notes cs))
   all-noted k new ended cs sink opts table is h e = sym (is.same no_notes (taken_by step view cdata ends sound number broken errors quiet cs)) ∙ chain-ended k new ended cs h e
 
   pub each-fault : IsEachFaultTold step view cdata ends sound number broken errors quiet
@@ -97,12 +129,12 @@ module _ {K S H : Type 0} (step : Step S) (view : K → S) (cdata : S → Bool) 
       let noted = noted_behind step view cdata ends sound number broken errors quiet no_notes cs in
       let rises = new-rises k new cs sink opts table is h in
       let count = ap errors_of (all-noted k new ended cs sink opts table is h e) ∙ more-sum e.owed.faults noted.errors in
-      rw count (told-enough (errors sink) (errors new.sink) (errors e.told) (errors ended.sink) noted.errors e.owed.faults rises.enough e.rises.enough e.kept)
+      rw count (told-enough (errors sink) (errors new.sink) (errors e.told) (errors ended.sink) noted.errors e.owed.faults (owed_for_text opts.exact_errors (text_of step view cdata ends sound number broken errors quiet opts cs)).faults rises.enough e.rises.enough e.kept)
 
   pub clean-quiet : IsCleanTextQuiet step view cdata ends sound number broken errors quiet
   clean-quiet k new ended cs sink opts table is h e plain clean =
       let noted = noted_behind step view cdata ends sound number broken errors quiet no_notes cs in
       let rises = new-rises k new cs sink opts table is h in
-      let all = sym (ap was_quiet (all-noted k new ended cs sink opts table is h e)) ∙ (reading-clean step quiet cdata ends table (first_stand opts.initial_state opts.last_start_tag_name) 0 (view sink) (normal_text opts.discard_bom (taken_by step view cdata ends sound number broken errors quiet cs)) clean).1 in
+      let all = sym (ap was_quiet (all-noted k new ended cs sink opts table is h e)) ∙ (reading-clean step quiet cdata ends table (first_stand opts.initial_state opts.last_start_tag_name) 0 (view sink) (text_of step view cdata ends sound number broken errors quiet opts cs) clean).1 in
       let parts = and_parts e.owed.is_quiet noted.is_quiet all in
-      e.rises.none parts.0 ∙ rises.none (and_from noted.is_quiet (not opts.exact_errors) parts.1 (ap not plain))
+      e.rises.none parts.0 ∙ rises.none (and_from noted.is_quiet (owed_for_text opts.exact_errors (text_of step view cdata ends sound number broken errors quiet opts cs)).is_quiet parts.1 plain)

@@ -1,5 +1,5 @@
 -- The input is taken piece by piece.
-use Rattle.std.proofs.Common.{◌≡◌, ◌∙◌, ℕ, ◌+◌, ◌<◌, Bool, true, List, [], ◌∷◌, ◌++◌, length, nat_eq, false, Result, Ok, Err, refl, sym, ap, arith, append_assoc, length-append, subst}
+use Rattle.std.proofs.Common.{◌≡◌, ◌∙◌, ℕ, ◌+◌, ◌<◌, Bool, true, List, [], ◌∷◌, ◌++◌, length, nat_eq, false, Result, Ok, Err, refl, sym, ap, arith, append_assoc, length-append, subst, Option, Some}
 use Rattle.std.specs.Result.{IsErrAnd}
 use Rattle.std.proofs.lemmas.Result.{err_from_is_err_and}
 use Rattle.markup.specs.declared.fault.ParseFault.{ParseFault}
@@ -12,16 +12,19 @@ use Rattle.html_tokens.specs.declared.replies.ProcessResult.TheVariants as flow
 use Rattle.html_tokens.specs.declared.token.Token.{Token}
 use Rattle.html_tokens.specs.Notes.{Notes, noting, noting_error, noting_cdata, noting_end}
 use Rattle.html_tokens.specs.Sink.{Step, Reply}
-use Rattle.html_tokenizer.specs.Calls.{ComesAsRunAt, to_come, paused_with, IsReady, Passes, KeepsRun, KeepsText, Leaves, Moved, Moves, Fed, Runs, Rests, and_own}
+use Rattle.html_tokenizer.specs.Calls.{ComesAsRunAt, to_come, paused_with, IsReady, Passes, KeepsRun, KeepsText, Leaves, Moved, Moves, Fed, Runs, Rests, owed_for_text}
 use Rattle.html_tokenizer.specs.Input.{coming_in, newline_for, last_of, ComesAs, Vanishes}
 use Rattle.html_tokenizer.specs.declared.tokenizer.Stream.{Stream}
 use Rattle.html_tokenizer.specs.declared.tokenizer.Tokenizer.{Tokenizer}
-use Rattle.html_tokenizer.specs.Rest.{pending}
+use Rattle.html_tokenizer.specs.Rest.{pending, coming}
 use Rattle.html_tokenizer.specs.Steps.{Owed, PausesAt, paused_by, more, noted_by, Rises, now, nothing, together}
-use Rattle.html_tokenizer.proofs.Rises.{more-more, own-no-more, and_own-no-more, own-nothing, rises-same, rises-less, rises-besides}
+use Rattle.html_tokenizer.proofs.Rises.{more-more, char-no-more, text-no-more, none-no-more, rises-same, rises-less, rises-besides}
 use Rattle.std.specs.Prelude.{if◌then◌else◌}
 use Rattle.html_tokenizer.proofs.InputChars.{takes-more}
 use Rattle.html_tokenizer.proofs.Glue.{held-other, fails-along, fails-before}
+use Rattle.html_tokenizer.specs.Stops.{stops_of}
+use Rattle.html_queue.specs.declared.set.SmallCharSet.{SmallCharSet}
+use Rattle.html_tokens.specs.declared.states.State.{State}
 
 -- what was there is what was taken and what is left
 took-front : (taken : List ℕ) (from to : Queue) (t : List ℕ) → Takes taken from to → from.characters ++ t ≡ taken ++ (to.characters ++ t)
@@ -57,8 +60,10 @@ module _ {K S H : Type 0} (step : Step S) (view : K → S) (cdata : S → Bool) 
   pub record Going (old new : Tokenizer K) (from to : Queue) : Type 0 where
     pub taken : List ℕ
     pub takes : Takes taken from to
+    pub came : List ℕ
+    pub comes : (t : List ℕ) → coming old (taken ++ t) ≡ came ++ coming new t
     pub owed : Owed
-    pub rises : Rises errors (and_own old.stream.exact_errors owed) old.sink new.sink
+    pub rises : Rises errors (together owed (owed_for_text old.stream.exact_errors came)) old.sink new.sink
     pub same : (notes : Notes ℕ) (t : List ℕ) → to_come step view cdata ends sound number broken errors quiet old notes (taken ++ t) ≡ to_come step view cdata ends sound number broken errors quiet new (more owed notes) t
     pub ready : IsReady step view cdata ends sound number broken errors quiet new
     pub works : broken new.sink ≡ true → broken old.sink ≡ true
@@ -67,7 +72,7 @@ module _ {K S H : Type 0} (step : Step S) (view : K → S) (cdata : S → Bool) 
     pub exact : new.stream.exact_errors ≡ old.stream.exact_errors
 
   pub started : (old : Tokenizer K) (from : Queue) → IsReady step view cdata ends sound number broken errors quiet old → Going old old from from
-  started old from ready = record { taken = []; takes = record { split = refl; counted = omega arith }; owed = nothing; rises = rises-less errors old.sink old.sink (own-nothing old.stream.exact_errors) (rises-same errors old.sink old.sink refl); same = λ notes t. refl; ready = ready; works = λ h. h; ended = refl; failed = refl; exact = refl }
+  started old from ready = record { taken = []; takes = record { split = refl; counted = omega arith }; came = []; comes = λ t. refl; owed = nothing; rises = rises-less errors old.sink old.sink (none-no-more old.stream.exact_errors) (rises-same errors old.sink old.sink refl); same = λ notes t. refl; ready = ready; works = λ h. h; ended = refl; failed = refl; exact = refl }
 
   -- what was to come over all that was taken
   both-taken : (old mid new : Tokenizer K) (from via to : Queue) (result : ProcessResult H) (h : Going old mid from via) (m : Moved step view cdata ends sound number broken errors quiet mid new via to result) (notes : Notes ℕ) (t : List ℕ)
@@ -78,12 +83,29 @@ module _ {K S H : Type 0} (step : Step S) (view : K → S) (cdata : S → Bool) 
       ∙ m.same (more h.owed notes) t
       ∙ ap (λ n. to_come step view cdata ends sound number broken errors quiet new (record n { pauses = paused_by number notes.pauses result }) t) (more-more m.owed h.owed notes)
 
+  -- the characters that came of all that was taken
+  both-come : (old mid new : Tokenizer K) (from via to : Queue) (result : ProcessResult H) (h : Going old mid from via) (m : Moved step view cdata ends sound number broken errors quiet mid new via to result) (t : List ℕ)
+      → coming old ((h.taken ++ m.taken) ++ t) ≡ (h.came ++ m.came) ++ coming new t
+  both-come old mid new from via to result h m t =
+      ap (coming old) (append_assoc h.taken m.taken t)
+      ∙ h.comes (m.taken ++ t)
+      ∙ ap (λ u. h.came ++ u) (m.comes t)
+      ∙ sym (append_assoc h.came m.came (coming new t))
+
+  -- what errors rose by
+  both-rise : (old mid new : Tokenizer K) (from via to : Queue) (result : ProcessResult H) (h : Going old mid from via) (m : Moved step view cdata ends sound number broken errors quiet mid new via to result)
+      → Rises errors (together (together m.owed h.owed) (owed_for_text old.stream.exact_errors (h.came ++ m.came))) old.sink new.sink
+  both-rise old mid new from via to result h m =
+      rises-besides errors old.stream.exact_errors h.owed m.owed h.came m.came old.sink mid.sink new.sink h.rises (subst (λ b. Rises errors (together m.owed (owed_for_text b m.came)) mid.sink new.sink) h.exact m.rises)
+
   pub going-on : (old mid new : Tokenizer K) (from via to : Queue) → Going old mid from via → Moved step view cdata ends sound number broken errors quiet mid new via to flow.Continue → Going old new from to
   going-on old mid new from via to h m = record {
     taken = h.taken ++ m.taken;
     takes = takes-more h.taken m.taken from via to h.takes m.takes;
+    came = h.came ++ m.came;
+    comes = both-come old mid new from via to flow.Continue h m;
     owed = together m.owed h.owed;
-    rises = rises-besides errors old.stream.exact_errors h.owed m.owed old.sink mid.sink new.sink h.rises (subst (λ b. Rises errors (and_own b m.owed) mid.sink new.sink) h.exact m.rises);
+    rises = both-rise old mid new from via to flow.Continue h m;
     same = both-taken old mid new from via to flow.Continue h m;
     ready = m.ready;
     works = λ x. h.works (m.works x);
@@ -105,8 +127,10 @@ module _ {K S H : Type 0} (step : Step S) (view : K → S) (cdata : S → Bool) 
   fed old mid new from via to result given h m pauses_same rests = record {
     taken = h.taken ++ m.taken;
     takes = takes-more h.taken m.taken from via to h.takes m.takes;
+    came = h.came ++ m.came;
+    comes = both-come old mid new from via to result h m;
     owed = together m.owed h.owed;
-    rises = rises-besides errors old.stream.exact_errors h.owed m.owed old.sink mid.sink new.sink h.rises (subst (λ b. Rises errors (and_own b m.owed) mid.sink new.sink) h.exact m.rises);
+    rises = both-rise old mid new from via to result h m;
     same = λ notes t. both-taken old mid new from via to result h m notes t ∙ ap (λ x. to_come step view cdata ends sound number broken errors quiet new (record (more (together m.owed h.owed) notes) { pauses = x }) t) (pauses_same notes.pauses);
     ready = m.ready;
     works = λ x. h.works (m.works x);
@@ -143,8 +167,10 @@ module _ {K S H : Type 0} (step : Step S) (view : K → S) (cdata : S → Bool) 
   moved-nowhere old mid from to is h ready = record {
     taken = h.taken;
     takes = h.takes;
+    came = [];
+    comes = h.all;
     owed = nothing;
-    rises = rises-less errors old.sink mid.sink (own-nothing old.stream.exact_errors) (rises-same errors old.sink mid.sink (ap (λ (k : Tokenizer K). k.sink) is));
+    rises = rises-less errors old.sink mid.sink (none-no-more old.stream.exact_errors) (rises-same errors old.sink mid.sink (ap (λ (k : Tokenizer K). k.sink) is));
     same = λ notes t. comes-to old mid (h.taken ++ t) (coming_in mid.stream t) notes h.changed is (h.all t);
     ready = other-fits old mid is ready;
     works = λ x. ap (λ (k : Tokenizer K). broken k.sink) (sym is) ∙ x;
@@ -161,17 +187,24 @@ module _ {K S H : Type 0} (step : Step S) (view : K → S) (cdata : S → Bool) 
   leaves (flow.EncodingIndicator label) c new taken to filled last h = (newline-close (last_of taken) (nat_eq (last_of taken) 13) refl (last ∙ h.0), h.1)
 
   -- what errors rose by from the machine whose input's front was taken
-  from-mid : (old mid new : Tokenizer K) (owed : Owed) → mid ≡ record old { stream = mid.stream } → mid.stream.exact_errors ≡ old.stream.exact_errors → Rises errors (and_own mid.stream.exact_errors owed) mid.sink new.sink → Rises errors (and_own old.stream.exact_errors owed) old.sink new.sink
-  from-mid old mid new owed is exact h =
-      subst (λ s. Rises errors (and_own old.stream.exact_errors owed) s new.sink) (ap (λ (k : Tokenizer K). k.sink) is) (subst (λ b. Rises errors (and_own b owed) mid.sink new.sink) exact h)
+  from-mid : (old mid new : Tokenizer K) (owed : Owed) (came : List ℕ) → mid ≡ record old { stream = mid.stream } → mid.stream.exact_errors ≡ old.stream.exact_errors → Rises errors (together owed (owed_for_text mid.stream.exact_errors came)) mid.sink new.sink → Rises errors (together owed (owed_for_text old.stream.exact_errors came)) old.sink new.sink
+  from-mid old mid new owed came is exact h =
+      subst (λ s. Rises errors (together owed (owed_for_text old.stream.exact_errors came)) s new.sink) (ap (λ (k : Tokenizer K). k.sink) is) (subst (λ b. Rises errors (together owed (owed_for_text b came)) mid.sink new.sink) exact h)
+
+  -- a run comes only where control characters and noncharacters are not told
+  run-plain : (exact : Bool) (held : Option (List ℕ)) (st : State) (set : SmallCharSet) → stops_of exact held st ≡ Some set → exact ≡ false
+  run-plain true held st set e = absurd cc
+  run-plain false held st set e = refl
 
   pub moved-one : (old mid new : Tokenizer K) (from to : Queue) (c : ℕ) (result : Result (ProcessResult H) ParseFault) → mid ≡ record old { stream = mid.stream } → ComesAs old.stream mid.stream from to c
       → Passes step view cdata ends sound number broken errors quiet mid new c result → Moves step view cdata ends sound number broken errors quiet old new from to result
   moved-one old mid new from to c (Ok result) is h p = record {
     taken = h.taken;
     takes = h.takes;
+    came = c ∷ [];
+    comes = λ t. h.front t ∙ ap (λ s. c ∷ coming_in s t) (sym p.stream);
     owed = p.owed;
-    rises = from-mid old mid new p.owed is (ap (λ s. s.exact_errors) h.changed) (rises-less errors mid.sink new.sink (own-no-more mid.stream.exact_errors c p.owed) p.rises);
+    rises = from-mid old mid new p.owed (c ∷ []) is (ap (λ s. s.exact_errors) h.changed) (rises-less errors mid.sink new.sink (char-no-more mid.stream.exact_errors c p.owed) p.rises);
     same = λ notes t.
         comes-to old mid (h.taken ++ t) (c ∷ coming_in mid.stream t) notes h.changed is (h.front t)
         ∙ p.same notes (coming_in mid.stream t)
@@ -192,8 +225,13 @@ module _ {K S H : Type 0} (step : Step S) (view : K → S) (cdata : S → Bool) 
   moved-run old mid new from to run (Ok flow.Continue) is h p = record {
     taken = run;
     takes = h.comes.takes;
+    came = run;
+    comes = λ t. h.comes.front t ∙ ap (λ s. run ++ coming_in s t) (sym p.stream);
     owed = p.owed;
-    rises = from-mid old mid new p.owed is (ap (λ s. s.exact_errors) h.comes.changed) (rises-less errors mid.sink new.sink (and_own-no-more mid.stream.exact_errors p.owed) p.rises);
+    rises =
+        let plain : old.stream.exact_errors ≡ false = run-plain old.stream.exact_errors old.char_ref old.state h.stops h.are in
+        subst (λ b. Rises errors (together p.owed (owed_for_text b run)) old.sink new.sink) (sym plain)
+        (rises-less errors old.sink new.sink (text-no-more run p.owed) (subst (λ s. Rises errors p.owed s new.sink) (ap (λ (k : Tokenizer K). k.sink) is) p.rises));
     same = λ notes t.
         comes-to old mid (run ++ t) (run ++ coming_in mid.stream t) notes h.comes.changed is (h.comes.front t)
         ∙ p.same notes (coming_in mid.stream t)

@@ -1,14 +1,15 @@
 -- How a number of errors rises that stops at the greatest number of 64 bits, by what is owed.
-use Rattle.std.proofs.Common.{◌≡◌, ◌∙◌, ℕ, zero, suc, ◌+◌, ◌≤◌, Bool, true, false, Option, Some, None, Ok, arith, refl, ap, sym}
-use Rattle.std.specs.Prelude.{◌&&◌, not, min}
-use Rattle.std.proofs.lemmas.Bool.{and_parts, and_from, true≢false}
+use Rattle.std.proofs.Common.{◌≡◌, ◌∙◌, ℕ, zero, suc, ◌+◌, ◌≤◌, Bool, true, false, Option, Some, None, Ok, arith, refl, ap, sym, List, [], ◌∷◌, ◌++◌, nat_eq}
+use Rattle.std.specs.Prelude.{◌&&◌, min}
+use Rattle.std.proofs.lemmas.Bool.{and_parts, and_from}
 use Rattle.std.proofs.lemmas.Bool.Decides.{nat_tests}
 use Rattle.html_tokens.specs.Item.{Fault, Grave, Slight, grave_if, slight_if, and_slight_if}
-use Rattle.html_tokens.specs.Notes.{Notes, heard, wronged}
+use Rattle.html_tokens.specs.Notes.{Notes, one_if, heard, wronged}
 use Rattle.html_tokens.specs.Sink.{one_more, Counts, CountsOwn}
 use Rattle.html_tokens.specs.declared.token.Token.{Token}
 use Rattle.html_tokens.specs.declared.token.Token.TheVariants.{ParseError}
-use Rattle.html_tokenizer.specs.Calls.{owed_for_own, and_own}
+use Rattle.html_tokenizer.specs.Calls.{owed_for_char, owed_for_text, forbidden}
+use Rattle.html_tokenizer.specs.Forbidden.{is_forbidden}
 use Rattle.html_tokenizer.specs.Steps.{IsNoTag, Owed, nothing, owed_for, hearing, together, Rises, and_more, more}
 
 capped : (a b c m n : ℕ) → min (a + m) 0xffff_ffff_ffff_ffff ≤ b → min (b + n) 0xffff_ffff_ffff_ffff ≤ c → min (a + (n + m)) 0xffff_ffff_ffff_ffff ≤ c
@@ -103,18 +104,51 @@ pub slight-less : (odd : Bool) → IsNoMore (owed_for (slight_if odd)) (owed_for
 slight-less true = slight-no-more
 slight-less false = no-more-same nothing
 
--- what is owed where control characters may be told besides says no more than what is owed and what such a character owes
-pub own-no-more : (exact : Bool) (c : ℕ) (owed : Owed) → IsNoMore (and_own exact owed) (together owed (owed_for_own exact c))
-own-no-more true c owed = record { faults = omega arith; quiet = λ e. absurd (true≢false (sym (and_parts owed.is_quiet false e).1)) }
-own-no-more false c owed = record { faults = omega arith; quiet = λ e. e }
+-- the control characters and noncharacters of two texts
+forbidden-both : (a b : List ℕ) → forbidden (a ++ b) ≡ forbidden a + forbidden b
+forbidden-both [] b = omega arith
+forbidden-both (c ∷ a) b = let h = forbidden-both a b in omega (arith, h)
 
--- nor than what is owed
-pub and_own-no-more : (exact : Bool) (owed : Owed) → IsNoMore (and_own exact owed) owed
-and_own-no-more exact owed = record { faults = omega arith; quiet = λ e. (and_parts owed.is_quiet (not exact) e).0 }
+none-both : (x y : ℕ) → nat_eq (x + y) 0 ≡ true → (nat_eq x 0 ≡ true) × (nat_eq y 0 ≡ true)
+none-both x y h = (grind (arith, nat_tests), grind (arith, nat_tests))
 
--- nor than nothing
-pub own-nothing : (exact : Bool) → IsNoMore (and_own exact nothing) nothing
-own-nothing exact = and_own-no-more exact nothing
+sums : (m n x y z : ℕ) → z ≡ x + y → (n + m) + z ≤ (n + y) + (m + x)
+sums m n x y z e = omega (arith, e)
+
+-- what two texts owe on their own is no more than what each owes
+pub both-no-more : (exact : Bool) (m n : Owed) (a b : List ℕ) → IsNoMore (together (together n m) (owed_for_text exact (a ++ b))) (together (together n (owed_for_text exact b)) (together m (owed_for_text exact a)))
+both-no-more false m n a b = record {
+  faults = sums m.faults n.faults 0 0 0 (omega arith);
+  quiet = λ e.
+      let p = and_parts n.is_quiet m.is_quiet (and_parts (n.is_quiet && m.is_quiet) true e).0 in
+      and_from (n.is_quiet && true) (m.is_quiet && true) (and_from n.is_quiet true p.0 refl) (and_from m.is_quiet true p.1 refl);
+}
+both-no-more true m n a b = record {
+  faults = sums m.faults n.faults (forbidden a) (forbidden b) (forbidden (a ++ b)) (forbidden-both a b);
+  quiet = λ e.
+      let q = and_parts (n.is_quiet && m.is_quiet) (nat_eq (forbidden (a ++ b)) 0) e in
+      let p = and_parts n.is_quiet m.is_quiet q.0 in
+      let r = none-both (forbidden a) (forbidden b) (ap (λ x. nat_eq x 0) (sym (forbidden-both a b)) ∙ q.1) in
+      and_from (n.is_quiet && nat_eq (forbidden b) 0) (m.is_quiet && nat_eq (forbidden a) 0) (and_from n.is_quiet (nat_eq (forbidden b) 0) p.0 r.1) (and_from m.is_quiet (nat_eq (forbidden a) 0) p.1 r.0);
+}
+
+one-char : (told : Bool) (owed : Owed) → IsNoMore (together owed (record { faults = one_if told + 0; is_quiet = nat_eq (one_if told + 0) 0 })) (together owed (owed_for (grave_if told)))
+one-char true owed = record { faults = omega arith; quiet = λ e. e }
+one-char false owed = record { faults = omega arith; quiet = λ e. e }
+
+-- what one character owes on its own, as a text
+pub char-no-more : (exact : Bool) (c : ℕ) (owed : Owed) → IsNoMore (together owed (owed_for_text exact (c ∷ []))) (together owed (owed_for_char exact c))
+char-no-more true c owed = one-char (is_forbidden c) owed
+char-no-more false c owed = no-more-same (together owed nothing)
+
+-- where these are not told a text owes nothing on its own
+pub text-no-more : (t : List ℕ) (owed : Owed) → IsNoMore (together owed (owed_for_text false t)) owed
+text-no-more t owed = record { faults = omega arith; quiet = λ e. (and_parts owed.is_quiet true e).0 }
+
+-- nor does no text
+pub none-no-more : (exact : Bool) → IsNoMore (together nothing (owed_for_text exact [])) nothing
+none-no-more true = record { faults = omega arith; quiet = λ e. refl }
+none-no-more false = record { faults = omega arith; quiet = λ e. refl }
 
 -- a fault with something slight beside it says no more than the fault
 pub slighted-no-more : (odd : Bool) (fault : Option Fault) → IsNoMore (owed_for (and_slight_if odd fault)) (owed_for fault)
@@ -162,15 +196,9 @@ module _ {K : Type 0} (errors : K → ℕ) where
   pub rises-own : (quiet : Bool) (a b : K) → CountsOwn quiet (errors a) (errors b) → Rises errors (hearing quiet nothing) a b
   rises-own quiet a b h = record { enough = not-lowered (errors a) (errors b) (own quiet (errors a) (errors b) h); none = λ e. own-quiet quiet (errors a) (errors b) h e }
 
-  -- what rose by m, and then by n, where control characters may be told besides
-  pub rises-besides : (exact : Bool) (m n : Owed) (a b c : K) → Rises errors (and_own exact m) a b → Rises errors (and_own exact n) b c → Rises errors (and_own exact (together n m)) a c
-  rises-besides exact m n a b c h k = record {
-    enough = capped (errors a) (errors b) (errors c) m.faults n.faults h.enough k.enough;
-    none = λ e.
-        let p = and_parts (n.is_quiet && m.is_quiet) (not exact) e in
-        let q = and_parts n.is_quiet m.is_quiet p.0 in
-        k.none (and_from n.is_quiet (not exact) q.0 p.1) ∙ h.none (and_from m.is_quiet (not exact) q.1 p.1);
-  }
+  -- what rose by m and by what a text owes on its own, and then by n and by what another does
+  pub rises-besides : (exact : Bool) (m n : Owed) (s t : List ℕ) (a b c : K) → Rises errors (together m (owed_for_text exact s)) a b → Rises errors (together n (owed_for_text exact t)) b c → Rises errors (together (together n m) (owed_for_text exact (s ++ t))) a c
+  rises-besides exact m n s t a b c h k = rises-less a c (both-no-more exact m n s t) (rises-then a b c h k)
 
   -- the same of what the sink says of a token
   pub rises-told : {R : Type 0} (quiet : Bool) (token : Token) → IsNoTag token → (reply : R) (a b : K) → Counts quiet token (Ok reply) (errors a) (errors b) → Rises errors (hearing quiet nothing) a b

@@ -10,7 +10,7 @@ use Rattle.html_tokens.specs.declared.token.Token.{Token}
 use Rattle.html_tokens.specs.Notes.{Notes, noting, noting_error, noting_cdata, noting_end}
 use Rattle.html_tokens.specs.Reading.{line_break}
 use Rattle.html_tokens.specs.Sink.{Step}
-use Rattle.html_tokenizer.specs.Calls.{counted, Passed, Passes, owed_for_own}
+use Rattle.html_tokenizer.specs.Calls.{counted, Passed, Passes, owed_for_char}
 use Rattle.html_tokenizer.specs.declared.tokenizer.Stream.{Stream}
 use Rattle.html_tokenizer.specs.declared.tokenizer.Tokenizer.{Tokenizer}
 use Rattle.html_tokenizer.specs.Rest.{pending}
@@ -54,7 +54,7 @@ module _ {K S H : Type 0} (step : Step S) (view : K → S) (cdata : S → Bool) 
   erred-same old erred notes t e = erred-now step view cdata ends sound number broken errors quiet old erred old.stream.breaks notes t e ∙ ap (λ (k : Tokenizer K). now step view cdata ends sound number broken errors quiet erred k.stream.breaks (view erred.sink, notes) t) (sym e.changed)
 
   -- The character was taken behind its own error, if it is told, and then its line was counted.
-  pub passed : (old erred mid : Tokenizer K) (stream : Stream) (c : ℕ) (result : ProcessResult H) → Erred step view cdata ends sound number broken errors quiet (owed_for_own old.stream.exact_errors c) old erred → Took step view cdata ends sound number broken errors quiet erred mid c result
+  pub passed : (old erred mid : Tokenizer K) (stream : Stream) (c : ℕ) (result : ProcessResult H) → Erred step view cdata ends sound number broken errors quiet (owed_for_char old.stream.exact_errors c) old erred → Took step view cdata ends sound number broken errors quiet erred mid c result
       → stream ≡ record mid.stream { breaks = counted mid.stream.breaks c } → Passed step view cdata ends sound number broken errors quiet old (record mid { stream = stream }) c result
   passed old erred mid stream c result e h is = rw is (
       let same-stream = ap (λ (k : Tokenizer K). k.stream) e.changed in

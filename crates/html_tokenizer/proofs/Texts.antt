@@ -44,4 +44,5 @@ module _ {K S H : Type 0} (step : Step S) (view : K → S) (cdata : S → Bool) 
     ready = record { sound = rw over ok; fits = rw none refl };
     begun = rw (begun, works) refl;
     exact = exact;
+    comes = λ t. rw (unread, marked) refl;
   }

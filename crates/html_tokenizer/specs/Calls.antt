@@ -16,7 +16,7 @@ use Rattle.html_tokens.specs.Item.{grave_if, Place}
 use Rattle.html_tokens.specs.NormalText.{normal_text}
 use Rattle.html_tokens.specs.Table.{Row}
 use Rattle.html_tokens.specs.TextState.{is_text_state}
-use Rattle.html_tokens.specs.Notes.{Notes, noting, noting_error, noting_cdata, noting_end}
+use Rattle.html_tokens.specs.Notes.{Notes, one_if, noting, noting_error, noting_cdata, noting_end}
 use Rattle.html_tokens.specs.Reading.{◌>>=◌, line_number, first_place, first_stand, reading}
 use Rattle.html_tokens.specs.Sink.{Step, Reply, Refusal}
 use Rattle.html_tokenizer.specs.CharRefs.{fits_in}
@@ -30,7 +30,7 @@ use Rattle.html_tokenizer.specs.Pieces.{ComesAsRun}
 use Rattle.html_tokenizer.specs.Stops.{stops_of}
 use Rattle.html_queue.specs.declared.set.SmallCharSet.{SmallCharSet}
 use Rattle.html_tokenizer.specs.Rest.{rest, rows_of, standing, coming}
-use Rattle.html_tokenizer.specs.Steps.{IsAt, PausesAt, Owed, owed_for, together, more, noted_by, Rises, now, Fails}
+use Rattle.html_tokenizer.specs.Steps.{IsAt, PausesAt, Owed, nothing, owed_for, together, more, noted_by, Rises, now, Fails}
 
 -- the pauses so far, and the one with which a call of `feed` hands back control
 abbrev pub paused_with : {H : Type 0} → (H → ℕ) → List Reply → TokenizerResult H → List Reply
@@ -43,12 +43,18 @@ abbrev pub noted_with : {H : Type 0} → (H → ℕ) → Owed → Notes ℕ → 
 noted_with number owed notes result = record (more owed notes) { pauses = paused_with number notes.pauses result }
 
 -- what a character owes on its own, where control characters and noncharacters are told
-abbrev pub owed_for_own : Bool → ℕ → Owed
-owed_for_own exact c = owed_for (grave_if (exact && is_forbidden c))
+abbrev pub owed_for_char : Bool → ℕ → Owed
+owed_for_char exact c = owed_for (grave_if (exact && is_forbidden c))
 
--- what is owed, where these may be told besides
-abbrev pub and_own : Bool → Owed → Owed
-and_own exact owed = record owed { is_quiet = owed.is_quiet && not exact }
+-- how many control characters and noncharacters a text has
+abbrev pub forbidden : List ℕ → ℕ
+forbidden [] = 0
+forbidden (c ∷ t) = one_if (is_forbidden c) + forbidden t
+
+-- what the characters of a text owe on their own, where these are told
+abbrev pub owed_for_text : Bool → List ℕ → Owed
+owed_for_text false t = nothing
+owed_for_text true t = record { faults = forbidden t; is_quiet = nat_eq (forbidden t) 0 }
 
 -- a number of line breaks behind one character more: at u64::MAX it stays
 abbrev pub counted : ℕ → ℕ → ℕ
@@ -109,7 +115,7 @@ module _ {K S H : Type 0} (step : Step S) (view : K → S) (cdata : S → Bool) 
   -- which owed this.
   pub record Passed (old new : Tokenizer K) (c : ℕ) (result : ProcessResult H) : Type 0 where
     pub owed : Owed
-    pub rises : Rises errors (together owed (owed_for_own old.stream.exact_errors c)) old.sink new.sink
+    pub rises : Rises errors (together owed (owed_for_char old.stream.exact_errors c)) old.sink new.sink
     pub same : (notes : Notes ℕ) (t : List ℕ) → now step view cdata ends is_sound number broken errors quiet old old.stream.breaks (view old.sink, notes) (c ∷ t) ≡ now step view cdata ends is_sound number broken errors quiet new new.stream.breaks (view new.sink, noted_by number owed notes result) t
     pub stream : new.stream ≡ record old.stream { breaks = new.stream.breaks }
     pub sound : is_sound (view new.sink)
@@ -172,9 +178,12 @@ module _ {K S H : Type 0} (step : Step S) (view : K → S) (cdata : S → Bool) 
   pub record Moved (old new : Tokenizer K) (from to : Queue) (result : ProcessResult H) : Type 0 where
     pub taken : List ℕ
     pub takes : Takes taken from to
+    -- the characters that came of them, and what these owed
+    pub came : List ℕ
+    pub comes : (t : List ℕ) → coming old (taken ++ t) ≡ came ++ coming new t
     pub owed : Owed
     pub same : (notes : Notes ℕ) (t : List ℕ) → to_come old notes (taken ++ t) ≡ to_come new (noted_by number owed notes result) t
-    pub rises : Rises errors (and_own old.stream.exact_errors owed) old.sink new.sink
+    pub rises : Rises errors (together owed (owed_for_text old.stream.exact_errors came)) old.sink new.sink
     pub ready : IsReady new
     pub works : broken new.sink ≡ true → broken old.sink ≡ true
     pub ended : new.stream.has_ended ≡ old.stream.has_ended
@@ -196,9 +205,11 @@ module _ {K S H : Type 0} (step : Step S) (view : K → S) (cdata : S → Bool) 
   pub record Fed (old new : Tokenizer K) (from to : Queue) (result : TokenizerResult H) : Type 0 where
     pub taken : List ℕ
     pub takes : Takes taken from to
-    -- what they owed, besides what control characters and noncharacters owe where these are told
+    -- the characters that came of them, and what these owed, besides what they owed on their own
+    pub came : List ℕ
+    pub comes : (t : List ℕ) → coming old (taken ++ t) ≡ came ++ coming new t
     pub owed : Owed
-    pub rises : Rises errors (and_own old.stream.exact_errors owed) old.sink new.sink
+    pub rises : Rises errors (together owed (owed_for_text old.stream.exact_errors came)) old.sink new.sink
     -- for each further text, what was to come over the characters taken and that text is what is now to come over that text
     pub same : (notes : Notes ℕ) (t : List ℕ) → to_come old notes (taken ++ t) ≡ to_come new (noted_with number owed notes result) t
     pub ready : IsReady new
@@ -262,6 +273,7 @@ module _ {K S H : Type 0} (step : Step S) (view : K → S) (cdata : S → Bool) 
     pub ready : IsReady k
     pub begun : refusal_of k ≡ None
     pub exact : k.stream.exact_errors ≡ opts.exact_errors
+    pub comes : (t : List ℕ) → coming k t ≡ normal_text opts.discard_bom t
 
   -- A tokenizer in a text state, with no part of an item held: what is to come is the reading of what comes, from that text on.
   abbrev pub ReadsAt : Place → Tokenizer K → Type 0

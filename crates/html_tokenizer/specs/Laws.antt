@@ -1,5 +1,5 @@
 -- What the calls of a tokenizer come to, in whatever pieces the text came.
-use Rattle.std.specs.Prelude.{◌≡◌, ℕ, ◌+◌, ◌≤◌, min, Bool, true, false, List, [], ◌∷◌, ◌++◌, Result}
+use Rattle.std.specs.Prelude.{◌≡◌, ℕ, ◌+◌, ◌≤◌, min, Bool, true, List, [], ◌∷◌, ◌++◌, Result}
 use Rattle.markup.specs.declared.tokenizer_result.TokenizerResult.{TokenizerResult}
 use Rattle.html_queue.specs.Queue.{Queue}
 use Rattle.html_tokens.specs.declared.token.Token.{Token}
@@ -11,7 +11,7 @@ use Rattle.html_tokens.specs.Table.{Row}
 use Rattle.html_tokens.specs.NormalText.{normal_text}
 use Rattle.html_tokens.specs.Reading.{first_stand}
 use Rattle.html_tokenizer.specs.declared.tokenizer.Tokenizer.{Tokenizer}
-use Rattle.html_tokenizer.specs.Calls.{to_come, noted_with, Fed, HasEnded, IsNew}
+use Rattle.html_tokenizer.specs.Calls.{to_come, noted_with, owed_for_text, Fed, HasEnded, IsNew}
 
 module _ {K S H : Type 0} (step : Step S) (view : K → S) (cdata : S → Bool) (ends : S → S) (is_sound : S → Type 0) (number : H → ℕ) (broken : K → Bool) (errors : K → ℕ) (quiet : S → Token → Bool) where
   -- a call of `feed` that succeeded, over whatever queue
@@ -57,20 +57,24 @@ module _ {K S H : Type 0} (step : Step S) (view : K → S) (cdata : S → Bool) 
       → IsNew step view cdata ends is_sound number broken errors quiet k sink opts table → IsNew step view cdata ends is_sound number broken errors quiet other sink' (record opts { exact_errors = exact_errors }) table
       → view sink ≡ view sink' → HaveSameRests k other
 
-  -- From a new tokenizer to the end of all that it took, the number of errors rises by as many as the text has faulty items at
-  -- least, or is at u64::MAX.
+  -- the text of all that was taken
+  abbrev pub text_of : TokenizerOpts → List Call → List ℕ
+  text_of opts cs = normal_text opts.discard_bom (taken_by cs)
+
+  -- From a new tokenizer to the end of all that it took, the number of errors rises by as many as the text has faulty items, and
+  -- control characters and noncharacters where these are told, at least, or is at u64::MAX.
   abbrev pub IsEachFaultTold : Type 0
   IsEachFaultTold = (k new ended : Tokenizer K) (cs : List Call) (sink : K) (opts : TokenizerOpts) (table : List Row)
       → IsNew step view cdata ends is_sound number broken errors quiet k sink opts table → IsChain k cs new → HasEnded step view cdata ends is_sound number broken errors quiet new ended
-      → min (errors sink + owed step quiet cdata ends table (first_stand opts.initial_state opts.last_start_tag_name) 0 (view sink) (normal_text opts.discard_bom (taken_by cs))) 0xffff_ffff_ffff_ffff ≤ errors ended.sink
+      → min (errors sink + (owed step quiet cdata ends table (first_stand opts.initial_state opts.last_start_tag_name) 0 (view sink) (text_of opts cs) + (owed_for_text opts.exact_errors (text_of opts cs)).faults)) 0xffff_ffff_ffff_ffff ≤ errors ended.sink
 
-  -- Under the default options a text that is read without anything that is not clean, and without an error of the sink, leaves
-  -- the number of errors as it was, up to the sink's own end.
+  -- A text that is read without anything that is not clean, and without an error of the sink, leaves the number of errors as it
+  -- was, up to the sink's own end, where control characters and noncharacters are not told, or it has none.
   abbrev pub IsCleanTextQuiet : Type 0
   IsCleanTextQuiet = (k new ended : Tokenizer K) (cs : List Call) (sink : K) (opts : TokenizerOpts) (table : List Row)
       → IsNew step view cdata ends is_sound number broken errors quiet k sink opts table → IsChain k cs new → (e : HasEnded step view cdata ends is_sound number broken errors quiet new ended)
-      → opts.exact_errors ≡ false
-      → is_clean_reading step quiet cdata table (first_stand opts.initial_state opts.last_start_tag_name) 0 (view sink) (normal_text opts.discard_bom (taken_by cs)) ≡ true
+      → (owed_for_text opts.exact_errors (text_of opts cs)).is_quiet ≡ true
+      → is_clean_reading step quiet cdata table (first_stand opts.initial_state opts.last_start_tag_name) 0 (view sink) (text_of opts cs) ≡ true
       → errors e.told ≡ errors sink
 
   -- what is noted of what is to come for a further text

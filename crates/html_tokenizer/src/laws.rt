@@ -16,7 +16,7 @@ pub fn same_road<Sink: TokenSink>()
 {}
 
 /// From a new tokenizer to its end, in whatever pieces the text came, the number of errors rises by as many as the text has
-/// faulty items at least, or is at `u64::MAX`.
+/// faulty items, and control characters and noncharacters where these are told, at least, or is at `u64::MAX`.
 pub fn each_fault_is_told<Sink: TokenSink>()
     ensures { IsEachFaultTold Sink.step Sink.view Sink.asks_cdata Sink.ended Sink.is_sound Sink.number Sink.has_failed Sink.errors Sink.is_quiet }
 {}
@@ -26,8 +26,9 @@ pub fn owed_errors_are_told<Sink: TokenSink>()
     ensures { IsOwing Sink.step Sink.view Sink.asks_cdata Sink.ended Sink.is_sound Sink.number Sink.has_failed Sink.errors Sink.is_quiet }
 {}
 
-/// Under the default options a text that is read without anything that is not clean, in whatever pieces it came, leaves the
-/// number of errors as it was, up to the sink's own end; unless the sink itself finds an error in a token.
+/// A text that is read without anything that is not clean, in whatever pieces it came, leaves the number of errors as it was,
+/// up to the sink's own end; unless the sink itself finds an error in a token, or the text has control characters or
+/// noncharacters and these are told.
 pub fn clean_texts_tell_no_error<Sink: TokenSink>()
     ensures { IsCleanTextQuiet Sink.step Sink.view Sink.asks_cdata Sink.ended Sink.is_sound Sink.number Sink.has_failed Sink.errors Sink.is_quiet }
 {}
