@@ -1,18 +1,17 @@
 -- Nothing is odd in a clean name and in a clean attribute.
-use Rattle.std.proofs.Common.{◌≡◌, ◌∙◌, ℕ, zero, suc, ◌+◌, Bool, true, false, nat_eq, nat_le, List, [], ◌∷◌, ◌++◌, take, drop, Option, None, refl, subst, arith}
+use Rattle.std.proofs.Common.{◌≡◌, ◌∙◌, ℕ, zero, suc, Bool, true, false, nat_eq, nat_le, List, [], ◌∷◌, ◌++◌, take, drop, Option, None, refl, subst, arith}
 use Rattle.std.specs.Prelude.{◌||◌, ◌&&◌, not, codes}
 use Rattle.std.specs.List.{list_any}
-use Rattle.std.proofs.lemmas.Bool.{and_parts}
+use Rattle.std.proofs.lemmas.Bool.{and_parts, eqb-true}
 use Rattle.std.proofs.lemmas.Bool.Decides.{nat_tests}
-use Rattle.std.proofs.lemmas.List.{drop-drop}
 use Rattle.html_tokens.specs.declared.tags.Tag.{Tag}
 use Rattle.html_tokens.specs.Characters
-use Rattle.html_tokens.specs.Clean.{is_clean_in_name, clean_name, is_word_end, is_clean_name, is_named, is_clean_text, clean_value_by, is_clean_value, is_clean_attribute}
+use Rattle.html_tokens.specs.Clean.{is_clean_in_name, clean_name, is_word_end, is_clean_name, is_named, is_clean_text, clean_value_by, is_clean_value, is_clean_attribute, is_clean_opening, clean_equals_by, is_clean_equals, ends_clean_name}
 use Rattle.html_tokens.specs.Item.{Stand, Item, Fault, and_slight_if, behind_all}
 use Rattle.html_tokens.specs.Reference.{reference_at}
 use Rattle.html_tokens.specs.Table.{Row}
 use Rattle.html_tokens.specs.Tags
-use Rattle.html_tokens.proofs.ReferenceNames.{none-true, begins-front, named-quote, named-faultless}
+use Rattle.html_tokens.proofs.ReferenceNames.{none-true, named-quote, named-faultless}
 
 -- an item without any fault
 abbrev pub IsFaultless : Item → Type 0
@@ -176,16 +175,40 @@ quoted rows st tag called t h =
 
 -- ATTRIBUTES
 
--- behind a name "=" and a clean value in quotes
-equals : (rows : List Row) (st : Stand) (tag : Tag) (called t u : List ℕ) → t ≡ codes "=\"" ++ u → is_clean_value rows u ≡ true → IsFaultless (Tags.equals_at rows st tag called t)
-equals rows st tag called t u e h = rw e (quoted rows st tag called u h)
+-- nothing is odd in a value that begins with its quote
+opening : (rows : List Row) (st : Stand) (tag : Tag) (called t : List ℕ) → is_clean_opening rows t ≡ true → IsFaultless (Tags.opened_at rows st tag called t)
+opening rows st tag called [] h = absurd cc
+opening rows st tag called (c ∷ t) h =
+    let parts = and_parts (nat_eq c 34) _ h in
+    rw (eqb-true c 34 parts.0) (quoted rows st tag called t parts.1)
+
+equals-by : (equals : Bool) (rows : List Row) (st : Stand) (tag : Tag) (called t : List ℕ) → clean_equals_by equals rows t ≡ true → IsFaultless (Tags.equals_by equals rows st tag called t)
+equals-by true rows st tag called t h =
+    let u = drop (suc (Characters.white t)) t in
+    let v = drop (Characters.white u) u in
+    all (suc (Characters.white t)) (Tags.value_at rows st tag called u) (all (Characters.white u) (Tags.opened_at rows st tag called v) (opening rows st tag called v h))
+equals-by false rows st tag called t h = refl
+
+-- nothing is odd behind a clean name
+equals : (rows : List Row) (st : Stand) (tag : Tag) (called t : List ℕ) → is_clean_equals rows t ≡ true → IsFaultless (Tags.equals_at rows st tag called t)
+equals rows st tag called t h = equals-by (Characters.begins (codes "=") (drop (Characters.white t) t)) rows st tag called t h
 
 -- nothing is odd in an attribute whose name has n characters more
-attribute-by : (rows : List Row) (st : Stand) (tag : Tag) (front t : List ℕ) (n : ℕ) → Characters.run Characters.ends_attribute_name t ≡ n → list_any Tags.is_odd_in_name (take n t) ≡ false → Characters.begins (codes "=\"") (drop n t) ≡ true → is_clean_value rows (drop 2 (drop n t)) ≡ true
+attribute-by : (rows : List Row) (st : Stand) (tag : Tag) (front t : List ℕ) (n : ℕ) → Characters.run Characters.ends_attribute_name t ≡ n → list_any Tags.is_odd_in_name (take n t) ≡ false → is_clean_equals rows (drop n t) ≡ true
     → IsFaultless (Tags.attribute_after rows st tag front t)
-attribute-by rows st tag front t n run odd begun clean =
+attribute-by rows st tag front t n run odd clean =
     let called = front ++ Characters.all_lowered (take n t) in
-    rw run (unmarked (list_any Tags.is_odd_in_name (take n t)) _ odd (all n (Tags.equals_at rows st tag called (drop n t)) (equals rows st tag called (drop n t) (drop 2 (drop n t)) (begins-front (codes "=\"") (drop n t) begun) clean)))
+    rw run (unmarked (list_any Tags.is_odd_in_name (take n t)) _ odd (all n (Tags.equals_at rows st tag called (drop n t)) (equals rows st tag called (drop n t) clean)))
+
+ends-or : (w s g e : Bool) → ((w || g) || e) ≡ true → ((w || s || g) || e) ≡ true
+ends-or true s g e h = refl
+ends-or false true g e h = refl
+ends-or false false g e h = h
+
+-- what ends a clean name ends an attribute's name
+clean-ends : (t : List ℕ) → ends_clean_name t ≡ true → fronts Characters.ends_attribute_name t ≡ true
+clean-ends [] h = absurd cc
+clean-ends (c ∷ t) h = ends-or (Characters.is_white_space c) (nat_eq c 47) (nat_eq c 62) (nat_eq c 61) h
 
 -- a clean name that is not empty begins with its first character
 first-by : (clean : Bool) (n : ℕ) → nat_le 1 (Characters.run_by (not clean) (λ _. n)) ≡ true → clean ≡ true
@@ -200,10 +223,7 @@ attribute rows st tag c t h =
     let front = and_parts _ _ (and_parts _ _ parts.0).0 in
     let first : is_clean_in_name c ≡ true = first-by (is_clean_in_name c) n front.0 in
     let longer : clean_name (c ∷ t) ≡ suc n = rw first refl in
-    let begun : Characters.begins (codes "=\"") (drop n t) ≡ true = rw longer at front.1 in
-    let sum : suc n + 2 ≡ suc (n + 2) = omega arith in
-    let clean : is_clean_value rows (drop (suc n + 2) (c ∷ t)) ≡ true = rw longer at parts.1 in
-    let rest : is_clean_value rows (drop (n + 2) t) ≡ true = rw sum at clean in
-    let ended : fronts Characters.ends_attribute_name (drop n t) ≡ true = rw (begins-front (codes "=\"") (drop n t) begun) refl in
+    let ends : ends_clean_name (drop n t) ≡ true = rw longer at front.1 in
+    let clean : is_clean_equals rows (drop n t) ≡ true = rw longer at parts.1 in
     unmarked (Tags.is_odd_first c) _ (odd-first c first)
-    (attribute-by rows st tag (Characters.lowered c ∷ []) t n (name-run Characters.ends_attribute_name ends-attribute t ended) (name-odd Tags.is_odd_in_name odd-in_name t) begun (rw (drop-drop 2 n t) rest))
+    (attribute-by rows st tag (Characters.lowered c ∷ []) t n (name-run Characters.ends_attribute_name ends-attribute t (clean-ends (drop n t) ends)) (name-odd Tags.is_odd_in_name odd-in_name t) clean)

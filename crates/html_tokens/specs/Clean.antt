@@ -8,7 +8,7 @@ use Rattle.html_tokens.specs.declared.tags.TagKind.{TagKind}
 use Rattle.html_tokens.specs.declared.tags.TagKind.TheVariants.{StartTag, EndTag}
 use Rattle.html_tokens.specs.declared.token.Token.{Token}
 use Rattle.html_tokens.specs.declared.token.Token.TheVariants.{EOFToken}
-use Rattle.html_tokens.specs.Characters.{ends_word, run, begins}
+use Rattle.html_tokens.specs.Characters.{ends_word, run, white, begins}
 use Rattle.html_tokens.specs.Table.{Row, longest}
 use Rattle.html_tokens.specs.Item.{Place, InData, InRaw, InPlaintext, InCdata, InTag, Stand, fault_at_end}
 use Rattle.html_tokens.specs.Items.{item, Opening as Markup, Letter, Slash, Mark, Question, Close, Other, opening}
@@ -59,11 +59,31 @@ abbrev pub is_clean_value : List Row → List ℕ → Bool
 is_clean_value rows [] = false
 is_clean_value rows (c ∷ t) = clean_value_by (nat_eq c 34) (is_clean_text rows c t) t (λ _. is_clean_value rows t)
 
--- an attribute with a clean name that the tag lacks and a value in double quotes
+-- a clean value in double quotes
+abbrev pub is_clean_opening : List Row → List ℕ → Bool
+is_clean_opening rows [] = false
+is_clean_opening rows (c ∷ t) = nat_eq c 34 && is_clean_value rows t
+
+abbrev pub clean_equals_by : Bool → List Row → List ℕ → Bool
+clean_equals_by true rows t =
+    let u = drop (suc (white t)) t in
+    is_clean_opening rows (drop (white u) u)
+clean_equals_by false rows t = true
+
+-- behind an attribute's name: no value, or "=" and a clean one, where white space may stand
+abbrev pub is_clean_equals : List Row → List ℕ → Bool
+is_clean_equals rows t = clean_equals_by (begins (codes "=") (drop (white t) t)) rows t
+
+-- white space, ">" or "=" at the front
+abbrev pub ends_clean_name : List ℕ → Bool
+ends_clean_name [] = false
+ends_clean_name (c ∷ t) = ends_word c || nat_eq c 61
+
+-- an attribute with a clean name that the tag lacks, without a value or with one in double quotes
 abbrev pub is_clean_attribute : List Row → Tag → List ℕ → Bool
 is_clean_attribute rows tag t =
     let n = clean_name t in
-    nat_le 1 n && begins (codes "=\"") (drop n t) && not (has_attribute tag (take n t)) && is_clean_value rows (drop (n + 2) t)
+    nat_le 1 n && ends_clean_name (drop n t) && not (has_attribute tag (take n t)) && is_clean_equals rows (drop n t)
 
 abbrev pub is_clean_part : Part → TagKind → List Row → Tag → List ℕ → Bool
 is_clean_part Space kind rows tag t = true

@@ -52,11 +52,12 @@ clean_rows =
     codes ""
     ∷ codes "<!DOCTYPE html><html><head><title>a&amp;b</title></head><body><p class=\"b c\" id=\"&quot;&nbsp;>\">x</p><h1>y</h1></body></html>"
     ∷ codes "<a >&lt;p>"
+    ∷ codes "<input disabled><a b c = \"d\" e>"
     ∷ []
 
 abbrev pub unclean_rows : List (List ℕ)
 unclean_rows =
-    codes "a & b" ∷ codes "a < b" ∷ codes "&amp" ∷ codes "&#38;" ∷ codes "<P>" ∷ codes "<br/>" ∷ codes "<a b>" ∷ codes "<a b='c'>" ∷ codes "<a b=c>"
+    codes "a & b" ∷ codes "a < b" ∷ codes "&amp" ∷ codes "&#38;" ∷ codes "<P>" ∷ codes "<br/>" ∷ codes "<a b=>" ∷ codes "<a b =c>" ∷ codes "<a b/>" ∷ codes "<a b='c'>" ∷ codes "<a b=c>"
     ∷ codes "<a b=\"c\"d=\"e\">" ∷ codes "<a b=\"c\" b=\"d\">" ∷ codes "<a B=\"c\">" ∷ codes "<a b=\"<\">" ∷ codes "<a b=\"&\">" ∷ codes "</a b=\"c\">" ∷ codes "<a b=\"c\""
     ∷ codes "<!doctype html>" ∷ codes "<!DOCTYPE html >" ∷ codes "<!--a-->" ∷ codes "</>" ∷ codes "<?>" ∷ codes "<a-B>" ∷ codes "<title></Title>" ∷ codes "<title><" ∷ (0 ∷ []) ∷ []
 
