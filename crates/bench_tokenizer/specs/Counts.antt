@@ -59,6 +59,10 @@ has_failed c = false
 abbrev pub errors : Counts → ℕ
 errors c = c.errors
 
+-- the end is no error
+abbrev pub errors_ended : Counted → ℕ → ℕ
+errors_ended s n = n
+
 -- it finds no error of its own
 abbrev pub is_quiet : Counted → Token → Bool
 is_quiet s token = true

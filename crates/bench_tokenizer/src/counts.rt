@@ -2,7 +2,7 @@
 ghost use Rattle.std.specs.Prelude.{◌≡◌, true, false, length};
 ghost use Rattle.std.specs.Str.{chars};
 ghost use Rattle.html_tokens.specs.Sink.{numbered};
-ghost use Rattle.bench_tokenizer.specs.Counts.{Counted, IsWithin, counted_by, counted, error_counted, step, ended, asks_cdata, number, has_failed, is_quiet, counts_laws, reply_to};
+ghost use Rattle.bench_tokenizer.specs.Counts.{Counted, IsWithin, counted_by, counted, error_counted, step, ended, asks_cdata, number, has_failed, errors_ended, is_quiet, counts_laws, reply_to};
 
 use html_tokenizer::states::RawKind;
 use html_tokenizer::{TagKind, Token, TokenSink, TokenSinkResult};
@@ -104,6 +104,8 @@ impl TokenSink for Counts {
     ghost asks_cdata = { asks_cdata };
 
     ghost errors = { λ c. c.errors };
+
+    ghost errors_ended = { errors_ended };
 
     ghost is_quiet = { is_quiet };
 

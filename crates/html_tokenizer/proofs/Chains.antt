@@ -52,7 +52,7 @@ no-text cr false = refl
 nothing-comes : {K : Type 0} (k : Tokenizer K) → coming k [] ≡ []
 nothing-comes k = no-text k.stream.ignore_lf k.stream.discard_bom
 
-module _ {K S H : Type 0} (step : Step S) (view : K → S) (cdata : S → Bool) (ends : S → S) (sound : S → Type 0) (number : H → ℕ) (broken : K → Bool) (errors : K → ℕ) (quiet : S → Token → Bool) where
+module _ {K S H : Type 0} (step : Step S) (view : K → S) (cdata : S → Bool) (ends : S → S) (sound : S → Type 0) (number : H → ℕ) (broken : K → Bool) (errors : K → ℕ) (quiet : S → Token → Bool) (errors_ended : S → ℕ → ℕ) where
   -- what was to come over all that was taken, and any text, is what is to come over the text
   chain : (k new : Tokenizer K) (cs : List (Call step view cdata ends sound number broken errors quiet)) (notes : Notes ℕ) (t : List ℕ) → IsChain step view cdata ends sound number broken errors quiet k cs new
       → to_come step view cdata ends sound number broken errors quiet k notes (taken_by step view cdata ends sound number broken errors quiet cs ++ t) ≡ to_come step view cdata ends sound number broken errors quiet new (noted_behind step view cdata ends sound number broken errors quiet notes cs) t
@@ -64,14 +64,14 @@ module _ {K S H : Type 0} (step : Step S) (view : K → S) (cdata : S → Bool) 
       ∙ chain c.after new cs (noted_with number c.fed.owed notes c.result) t h.1
 
   -- what the whole text makes of the sink
-  chain-ended : (k new ended : Tokenizer K) (cs : List (Call step view cdata ends sound number broken errors quiet)) → IsChain step view cdata ends sound number broken errors quiet k cs new → (e : HasEnded step view cdata ends sound number broken errors quiet new ended)
+  chain-ended : (k new ended : Tokenizer K) (cs : List (Call step view cdata ends sound number broken errors quiet)) → IsChain step view cdata ends sound number broken errors quiet k cs new → (e : HasEnded step view cdata ends sound number broken errors quiet errors_ended new ended)
       → to_come step view cdata ends sound number broken errors quiet k no_notes (taken_by step view cdata ends sound number broken errors quiet cs) ≡ Ok (view ended.sink, more e.owed (noted_behind step view cdata ends sound number broken errors quiet no_notes cs))
   chain-ended k new ended cs h e =
       ap (λ u. to_come step view cdata ends sound number broken errors quiet k no_notes u) (sym (append-nil (taken_by step view cdata ends sound number broken errors quiet cs)))
       ∙ chain k new cs no_notes [] h
       ∙ e.same (noted_behind step view cdata ends sound number broken errors quiet no_notes cs)
 
-  pub any-pieces : IsAnyPieces step view cdata ends sound number broken errors quiet
+  pub any-pieces : IsAnyPieces step view cdata ends sound number broken errors quiet errors_ended
   any-pieces k new ended other new' ended' cs cs' same h h' text e e' =
       let both = sym (chain-ended k new ended cs h e) ∙ same no_notes (taken_by step view cdata ends sound number broken errors quiet cs) ∙ ap (λ u. to_come step view cdata ends sound number broken errors quiet other no_notes u) text ∙ chain-ended other new' ended' cs' h' e' in
       (ok-first _ _ _ _ both, ap (λ notes. notes.pauses) (ok-second _ _ _ _ both))
@@ -120,21 +120,21 @@ module _ {K S H : Type 0} (step : Step S) (view : K → S) (cdata : S → Bool) 
       (chain-rises k new cs no_notes [] sink opts.exact_errors h is.exact (rises-less errors sink k.sink (none-no-more opts.exact_errors) (rises-same errors sink k.sink is.over)))
 
   -- what is noted of all the text
-  all-noted : (k new ended : Tokenizer K) (cs : List (Call step view cdata ends sound number broken errors quiet)) (sink : K) (opts : TokenizerOpts) (table : List Row) → IsNew step view cdata ends sound number broken errors quiet k sink opts table → IsChain step view cdata ends sound number broken errors quiet k cs new → (e : HasEnded step view cdata ends sound number broken errors quiet new ended)
+  all-noted : (k new ended : Tokenizer K) (cs : List (Call step view cdata ends sound number broken errors quiet)) (sink : K) (opts : TokenizerOpts) (table : List Row) → IsNew step view cdata ends sound number broken errors quiet k sink opts table → IsChain step view cdata ends sound number broken errors quiet k cs new → (e : HasEnded step view cdata ends sound number broken errors quiet errors_ended new ended)
       → noted_reading step quiet cdata ends table (first_stand opts.initial_state opts.last_start_tag_name) 0 (view sink, no_notes) (text_of step view cdata ends sound number broken errors quiet opts cs) ≡ Ok (view ended.sink, more e.owed (noted_behind step view cdata ends sound number broken errors quiet no_notes cs))
   all-noted k new ended cs sink opts table is h e = sym (is.same no_notes (taken_by step view cdata ends sound number broken errors quiet cs)) ∙ chain-ended k new ended cs h e
 
-  pub each-fault : IsEachFaultTold step view cdata ends sound number broken errors quiet
+  pub each-fault : IsEachFaultTold step view cdata ends sound number broken errors quiet errors_ended
   each-fault k new ended cs sink opts table is h e =
       let noted = noted_behind step view cdata ends sound number broken errors quiet no_notes cs in
       let rises = new-rises k new cs sink opts table is h in
       let count = ap errors_of (all-noted k new ended cs sink opts table is h e) ∙ more-sum e.owed.faults noted.errors in
       rw count (told-enough (errors sink) (errors new.sink) (errors e.told) (errors ended.sink) noted.errors e.owed.faults (owed_for_text opts.exact_errors (text_of step view cdata ends sound number broken errors quiet opts cs)).faults rises.enough e.rises.enough e.kept)
 
-  pub clean-quiet : IsCleanTextQuiet step view cdata ends sound number broken errors quiet
+  pub clean-quiet : IsCleanTextQuiet step view cdata ends sound number broken errors quiet errors_ended
   clean-quiet k new ended cs sink opts table is h e plain clean =
       let noted = noted_behind step view cdata ends sound number broken errors quiet no_notes cs in
       let rises = new-rises k new cs sink opts table is h in
       let all = sym (ap was_quiet (all-noted k new ended cs sink opts table is h e)) ∙ (reading-clean step quiet cdata ends table (first_stand opts.initial_state opts.last_start_tag_name) 0 (view sink) (text_of step view cdata ends sound number broken errors quiet opts cs) clean).1 in
       let parts = and_parts e.owed.is_quiet noted.is_quiet all in
-      e.rises.none parts.0 ∙ rises.none (and_from noted.is_quiet (owed_for_text opts.exact_errors (text_of step view cdata ends sound number broken errors quiet opts cs)).is_quiet parts.1 plain)
+      e.counts ∙ ap (errors_ended (view e.told)) (e.rises.none parts.0 ∙ rises.none (and_from noted.is_quiet (owed_for_text opts.exact_errors (text_of step view cdata ends sound number broken errors quiet opts cs)).is_quiet parts.1 plain))

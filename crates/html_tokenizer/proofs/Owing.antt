@@ -147,9 +147,9 @@ module _ {K S : Type 0} (step : Step S) (quiet : S → Token → Bool) (cdata : 
   held-errors state.CdataSectionBracket k b s notes other t h = reading-errors step quiet cdata ends more_owed (rows_of k) 0 _ b s notes other _ h
   held-errors state.CdataSectionEnd k b s notes other t h = reading-errors step quiet cdata ends more_owed (rows_of k) 0 _ b s notes other _ h
 
-module _ {K S H : Type 0} (step : Step S) (view : K → S) (cdata : S → Bool) (ends : S → S) (sound : S → Type 0) (number : H → ℕ) (broken : K → Bool) (errors : K → ℕ) (quiet : S → Token → Bool) where
+module _ {K S H : Type 0} (step : Step S) (view : K → S) (cdata : S → Bool) (ends : S → S) (sound : S → Type 0) (number : H → ℕ) (broken : K → Bool) (errors : K → ℕ) (quiet : S → Token → Bool) (errors_ended : S → ℕ → ℕ) where
   -- What is owed before a call for the characters that it takes and those that follow is owed by the items that ended, or behind it.
-  pub is-owing : IsOwing step view cdata ends sound number broken errors quiet
+  pub is-owing : IsOwing step view cdata ends sound number broken errors quiet errors_ended
   is-owing = (
     λ c t.
         ap errors_of (c.fed.same no_notes t)

@@ -223,19 +223,6 @@ module _ {K S H : Type 0} (step : Step S) (view : K → S) (cdata : S → Bool) 
   Runs old new from to (Ok result) = Fed old new from to result
   Runs old new from to (Err fault) = (notes : Notes ℕ) (t : List ℕ) → Fails step view cdata ends is_sound number broken errors quiet old.sink (to_come old notes (from.characters ++ t)) fault
 
-  -- The end was told, behind what was owed: what was to come over no further text is what the sink is now.
-  pub record HasEnded (old new : Tokenizer K) : Type 0 where
-    pub owed : Owed
-    -- the sink before it was told that all tokens were
-    pub told : K
-    pub rises : Rises errors owed old.sink told
-    pub ended : view new.sink ≡ ends (view told)
-    pub kept : errors told ≤ errors new.sink
-    pub same : (notes : Notes ℕ) → to_come old notes [] ≡ Ok (view new.sink, more owed notes)
-    pub sound : is_sound (view new.sink)
-    pub works : broken new.sink ≡ true → broken old.sink ≡ true
-    pub stream : new.stream ≡ record old.stream { has_ended = true }
-
   -- The end was told, and the sink was not yet told that it was.
   pub record ToldEnd (old new : Tokenizer K) : Type 0 where
     pub owed : Owed
@@ -260,11 +247,6 @@ module _ {K S H : Type 0} (step : Step S) (view : K → S) (cdata : S → Bool) 
   FeedGives None old new from to (Err fault) = (new.stream.has_failed ≡ true) × Runs old new from to (Err fault)
   FeedGives (Some fault) old new from to result = (result ≡ Err fault) × (new ≡ old) × (to ≡ from)
 
-  abbrev pub EndGives : Option ParseFault → Tokenizer K → Tokenizer K → Result (Unit {0}) ParseFault → Type 0
-  EndGives None old new (Ok x) = HasEnded old new
-  EndGives None old new (Err fault) = (new.stream.has_failed ≡ true) × ((notes : Notes ℕ) → Fails step view cdata ends is_sound number broken errors quiet old.sink (to_come old notes []) fault)
-  EndGives (Some fault) old new result = (result ≡ Err fault) × (new ≡ old)
-
   -- A new tokenizer: what is to come is the reading of all the text.
   pub record IsNew (k : Tokenizer K) (sink : K) (opts : TokenizerOpts) (table : List Row) : Type 0 where
     pub over : k.sink ≡ sink
@@ -278,3 +260,24 @@ module _ {K S H : Type 0} (step : Step S) (view : K → S) (cdata : S → Bool) 
   -- A tokenizer in a text state, with no part of an item held: what is to come is the reading of what comes, from that text on.
   abbrev pub ReadsAt : Place → Tokenizer K → Type 0
   ReadsAt place k = (notes : Notes ℕ) (t : List ℕ) → to_come k notes t ≡ reading (noting step quiet) noting_error (noting_cdata cdata) (noting_end ends) (rows_of k) (standing k place) k.stream.breaks (view k.sink, notes) (coming k t)
+
+module _ {K S H : Type 0} (step : Step S) (view : K → S) (cdata : S → Bool) (ends : S → S) (is_sound : S → Type 0) (number : H → ℕ) (broken : K → Bool) (errors : K → ℕ) (quiet : S → Token → Bool) (errors_ended : S → ℕ → ℕ) where
+  -- The end was told, behind what was owed: what was to come over no further text is what the sink is now.
+  pub record HasEnded (old new : Tokenizer K) : Type 0 where
+    pub owed : Owed
+    -- the sink before it was told that all tokens were, and what that made of it
+    pub told : K
+    pub rises : Rises errors owed old.sink told
+    pub ended : view new.sink ≡ ends (view told)
+    pub counts : errors new.sink ≡ errors_ended (view told) (errors told)
+    pub kept : errors told ≤ errors new.sink
+    pub same : (notes : Notes ℕ) → to_come step view cdata ends is_sound number broken errors quiet old notes [] ≡ Ok (view new.sink, more owed notes)
+    pub sound : is_sound (view new.sink)
+    pub works : broken new.sink ≡ true → broken old.sink ≡ true
+    pub stream : new.stream ≡ record old.stream { has_ended = true }
+
+  -- A call of `end` gives this where nothing stands against it; where it fails, the tokenizer has failed.
+  abbrev pub EndGives : Option ParseFault → Tokenizer K → Tokenizer K → Result (Unit {0}) ParseFault → Type 0
+  EndGives None old new (Ok x) = HasEnded old new
+  EndGives None old new (Err fault) = (new.stream.has_failed ≡ true) × ((notes : Notes ℕ) → Fails step view cdata ends is_sound number broken errors quiet old.sink (to_come step view cdata ends is_sound number broken errors quiet old notes []) fault)
+  EndGives (Some fault) old new result = (result ≡ Err fault) × (new ≡ old)

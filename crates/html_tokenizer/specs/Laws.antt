@@ -42,14 +42,6 @@ module _ {K S H : Type 0} (step : Step S) (view : K → S) (cdata : S → Bool) 
   abbrev pub HaveSameRests : Tokenizer K → Tokenizer K → Type 0
   HaveSameRests k other = (notes : Notes ℕ) (t : List ℕ) → to_come step view cdata ends is_sound number broken errors quiet k notes t ≡ to_come step view cdata ends is_sound number broken errors quiet other notes t
 
-  -- Two tokenizers that make the same of whatever follows, and that take the same text, in whatever pieces, put in at pauses too,
-  -- leave the same state of the sink behind their ends, and the same pauses.
-  abbrev pub IsAnyPieces : Type 0
-  IsAnyPieces = (k new ended other new' ended' : Tokenizer K) (cs cs' : List Call)
-      → HaveSameRests k other → IsChain k cs new → IsChain other cs' new' → taken_by cs ≡ taken_by cs'
-      → HasEnded step view cdata ends is_sound number broken errors quiet new ended → HasEnded step view cdata ends is_sound number broken errors quiet new' ended'
-      → (view ended.sink ≡ view ended'.sink) × ((noted_behind no_notes cs).pauses ≡ (noted_behind no_notes cs').pauses)
-
   -- New tokenizers over sinks of one state, with one table and options that differ at most in whether control characters are
   -- told, make the same of whatever follows.
   abbrev pub IsSameRoad : Type 0
@@ -61,22 +53,6 @@ module _ {K S H : Type 0} (step : Step S) (view : K → S) (cdata : S → Bool) 
   abbrev pub text_of : TokenizerOpts → List Call → List ℕ
   text_of opts cs = normal_text opts.discard_bom (taken_by cs)
 
-  -- From a new tokenizer to the end of all that it took, the number of errors rises by as many as the text has faulty items, and
-  -- control characters and noncharacters where these are told, at least, or is at u64::MAX.
-  abbrev pub IsEachFaultTold : Type 0
-  IsEachFaultTold = (k new ended : Tokenizer K) (cs : List Call) (sink : K) (opts : TokenizerOpts) (table : List Row)
-      → IsNew step view cdata ends is_sound number broken errors quiet k sink opts table → IsChain k cs new → HasEnded step view cdata ends is_sound number broken errors quiet new ended
-      → min (errors sink + (owed step quiet cdata ends table (first_stand opts.initial_state opts.last_start_tag_name) 0 (view sink) (text_of opts cs) + (owed_for_text opts.exact_errors (text_of opts cs)).faults)) 0xffff_ffff_ffff_ffff ≤ errors ended.sink
-
-  -- A text that is read without anything that is not clean, and without an error of the sink, leaves the number of errors as it
-  -- was, up to the sink's own end, where control characters and noncharacters are not told, or it has none.
-  abbrev pub IsCleanTextQuiet : Type 0
-  IsCleanTextQuiet = (k new ended : Tokenizer K) (cs : List Call) (sink : K) (opts : TokenizerOpts) (table : List Row)
-      → IsNew step view cdata ends is_sound number broken errors quiet k sink opts table → IsChain k cs new → (e : HasEnded step view cdata ends is_sound number broken errors quiet new ended)
-      → (owed_for_text opts.exact_errors (text_of opts cs)).is_quiet ≡ true
-      → is_clean_reading step quiet cdata table (first_stand opts.initial_state opts.last_start_tag_name) 0 (view sink) (text_of opts cs) ≡ true
-      → errors e.told ≡ errors sink
-
   -- what is noted of what is to come for a further text
   abbrev pub noted_to_come : Tokenizer K → List ℕ → Result (S × Notes ℕ) (Refusal × ℕ)
   noted_to_come k t = to_come step view cdata ends is_sound number broken errors quiet k no_notes t
@@ -85,9 +61,34 @@ module _ {K S H : Type 0} (step : Step S) (view : K → S) (cdata : S → Bool) 
   abbrev pub owes : Tokenizer K → List ℕ → ℕ
   owes k t = errors_of (noted_to_come k t)
 
+module _ {K S H : Type 0} (step : Step S) (view : K → S) (cdata : S → Bool) (ends : S → S) (is_sound : S → Type 0) (number : H → ℕ) (broken : K → Bool) (errors : K → ℕ) (quiet : S → Token → Bool) (errors_ended : S → ℕ → ℕ) where
+  -- Two tokenizers that make the same of whatever follows, and that take the same text, in whatever pieces, put in at pauses too,
+  -- leave the same state of the sink behind their ends, and the same pauses.
+  abbrev pub IsAnyPieces : Type 0
+  IsAnyPieces = (k new ended other new' ended' : Tokenizer K) (cs cs' : List (Call step view cdata ends is_sound number broken errors quiet))
+      → HaveSameRests step view cdata ends is_sound number broken errors quiet k other → IsChain step view cdata ends is_sound number broken errors quiet k cs new → IsChain step view cdata ends is_sound number broken errors quiet other cs' new' → taken_by step view cdata ends is_sound number broken errors quiet cs ≡ taken_by step view cdata ends is_sound number broken errors quiet cs'
+      → HasEnded step view cdata ends is_sound number broken errors quiet errors_ended new ended → HasEnded step view cdata ends is_sound number broken errors quiet errors_ended new' ended'
+      → (view ended.sink ≡ view ended'.sink) × ((noted_behind step view cdata ends is_sound number broken errors quiet no_notes cs).pauses ≡ (noted_behind step view cdata ends is_sound number broken errors quiet no_notes cs').pauses)
+
+  -- From a new tokenizer to the end of all that it took, the number of errors rises by as many as the text has faulty items, and
+  -- control characters and noncharacters where these are told, at least, or is at u64::MAX.
+  abbrev pub IsEachFaultTold : Type 0
+  IsEachFaultTold = (k new ended : Tokenizer K) (cs : List (Call step view cdata ends is_sound number broken errors quiet)) (sink : K) (opts : TokenizerOpts) (table : List Row)
+      → IsNew step view cdata ends is_sound number broken errors quiet k sink opts table → IsChain step view cdata ends is_sound number broken errors quiet k cs new → HasEnded step view cdata ends is_sound number broken errors quiet errors_ended new ended
+      → min (errors sink + (owed step quiet cdata ends table (first_stand opts.initial_state opts.last_start_tag_name) 0 (view sink) (text_of step view cdata ends is_sound number broken errors quiet opts cs) + (owed_for_text opts.exact_errors (text_of step view cdata ends is_sound number broken errors quiet opts cs)).faults)) 0xffff_ffff_ffff_ffff ≤ errors ended.sink
+
+  -- A text that is read without anything that is not clean, and without an error of the sink, tells no error, where control
+  -- characters and noncharacters are not told, or it has none: behind it is what the sink's own end makes of the number before it.
+  abbrev pub IsCleanTextQuiet : Type 0
+  IsCleanTextQuiet = (k new ended : Tokenizer K) (cs : List (Call step view cdata ends is_sound number broken errors quiet)) (sink : K) (opts : TokenizerOpts) (table : List Row)
+      → IsNew step view cdata ends is_sound number broken errors quiet k sink opts table → IsChain step view cdata ends is_sound number broken errors quiet k cs new → (e : HasEnded step view cdata ends is_sound number broken errors quiet errors_ended new ended)
+      → (owed_for_text opts.exact_errors (text_of step view cdata ends is_sound number broken errors quiet opts cs)).is_quiet ≡ true
+      → is_clean_reading step quiet cdata table (first_stand opts.initial_state opts.last_start_tag_name) 0 (view sink) (text_of step view cdata ends is_sound number broken errors quiet opts cs) ≡ true
+      → errors ended.sink ≡ errors_ended (view e.told) (errors sink)
+
   -- What was owed for the characters that a call took and those that follow was owed for items that ended, so many of which errors
   -- were told, or is owed behind the call. What was owed at the end was told.
   abbrev pub IsOwing : Type 0
   IsOwing =
-      ((c : Call) (t : List ℕ) → owes c.before (c.fed.taken ++ t) ≡ c.fed.owed.faults + owes c.after t)
-      × ((old new : Tokenizer K) (e : HasEnded step view cdata ends is_sound number broken errors quiet old new) → owes old [] ≡ e.owed.faults)
+      ((c : Call step view cdata ends is_sound number broken errors quiet) (t : List ℕ) → owes step view cdata ends is_sound number broken errors quiet c.before (c.fed.taken ++ t) ≡ c.fed.owed.faults + owes step view cdata ends is_sound number broken errors quiet c.after t)
+      × ((old new : Tokenizer K) (e : HasEnded step view cdata ends is_sound number broken errors quiet errors_ended old new) → owes step view cdata ends is_sound number broken errors quiet old [] ≡ e.owed.faults)

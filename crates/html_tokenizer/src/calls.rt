@@ -126,7 +126,7 @@ impl<Sink: TokenSink> Tokenizer<Sink> {
     /// the end was told, which changes nothing.
     pub fn end(&mut self) -> Result<(), ParseFault>
         requires ready { IsReadyIf Sink.step Sink.view Sink.asks_cdata Sink.ended Sink.is_sound Sink.number Sink.has_failed Sink.errors Sink.is_quiet (refusal_of self.old) self.old }
-        ensures gives { EndGives Sink.step Sink.view Sink.asks_cdata Sink.ended Sink.is_sound Sink.number Sink.has_failed Sink.errors Sink.is_quiet (refusal_of self.old) self.old self.new result }
+        ensures gives { EndGives Sink.step Sink.view Sink.asks_cdata Sink.ended Sink.is_sound Sink.number Sink.has_failed Sink.errors Sink.is_quiet Sink.errors_ended (refusal_of self.old) self.old self.new result }
         ensures ready { IsReadyIf Sink.step Sink.view Sink.asks_cdata Sink.ended Sink.is_sound Sink.number Sink.has_failed Sink.errors Sink.is_quiet (refusal_of self.new) self.new }
     {
         self.stream.refuses()?;

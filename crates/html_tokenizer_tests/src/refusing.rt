@@ -30,6 +30,8 @@ impl TokenSink for Refusing {
 
     ghost errors = { λ _. 0 };
 
+    ghost errors_ended = { λ _ n. n };
+
     ghost is_quiet = { λ _ _. true };
 
     ghost has_failed = { λ _. false };

@@ -42,6 +42,8 @@ impl<S: TokenSink> TokenSink for Counting<S> {
 
     ghost errors = { λ c. S.errors c.inner };
 
+    ghost errors_ended = { λ s. S.errors_ended s.0 };
+
     ghost is_quiet = { λ s token. S.is_quiet s.0 token };
 
     ghost has_failed = { λ c. S.has_failed c.inner };

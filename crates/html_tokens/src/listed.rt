@@ -152,6 +152,8 @@ impl TokenSink for Listed {
 
     ghost errors = { λ l. l.errors };
 
+    ghost errors_ended = { λ _ n. n };
+
     ghost is_quiet = { λ _ _. true };
 
     ghost has_failed = { λ l. l.has_failed };

@@ -36,6 +36,9 @@ pub trait TokenSink {
     // How many errors were told, and how many the sink itself found. At u64::MAX the number stays.
     ghost errors: { Self → ℕ };
 
+    // What the end makes of the number of errors, by the state.
+    ghost errors_ended: { State → ℕ → ℕ };
+
     // Whether the sink finds no error in a token that is no error.
     ghost is_quiet: { State → Token → Bool };
 
@@ -74,7 +77,8 @@ pub trait TokenSink {
         requires { is_sound (view self.old) }
         ensures ends { view self.new ≡ ended (view self.old) }
         ensures same_failed { has_failed self.new ≡ has_failed self.old }
-        ensures counts { errors self.old ≤ errors self.new }
+        ensures counts { errors self.new ≡ errors_ended (view self.old) (errors self.old) }
+        ensures no_fewer_errors { errors self.old ≤ errors self.new }
         ensures sound { is_sound (view self.new) }
         ensures same_references { references self.new ≡ references self.old };
 
@@ -103,6 +107,8 @@ impl<S: TokenSink> TokenSink for &mut S {
     ghost asks_cdata = { S.asks_cdata };
 
     ghost errors = { λ s. S.errors s.now };
+
+    ghost errors_ended = { S.errors_ended };
 
     ghost is_quiet = { S.is_quiet };
 

@@ -72,6 +72,8 @@ impl TokenSink for Naming {
 
     ghost errors = { λ n. n.errors };
 
+    ghost errors_ended = { λ _ n. n };
+
     ghost is_quiet = { λ _ _. true };
 
     ghost has_failed = { λ n. n.has_failed };
