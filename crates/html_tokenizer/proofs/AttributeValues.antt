@@ -23,7 +23,7 @@ use Rattle.html_tokenizer.specs.Steps.{IsAt, Took, Keeps}
 use Rattle.html_tokenizer.proofs.Glue.{at, took, keeps_silent, Absorbs}
 use Rattle.html_tokenizer.proofs.Lawful.{slight-absorbed}
 use Rattle.html_tokenizer.proofs.Readings.{play-marked}
-use Rattle.html_tokenizer.proofs.TagGlue.{took_reference, took_odd, keeps_odd, absorbs_odd}
+use Rattle.html_tokenizer.proofs.TagGlue.{took_reference, took_odd, noted_odd, keeps_odd, absorbs_odd}
 use Rattle.html_tokenizer.proofs.AttributeNames.{finished, finish-odd, finish-before}
 use Rattle.html_tokenizer.proofs.AttributeReadings.{value-opens, value-space, value-quote, value-apostrophe, quoted-goes_on, quoted-closes, unquoted-ends, unquoted-goes_on}
 
@@ -123,12 +123,17 @@ module _ {K S H : Type 0} (step : Step S) (view : K → S) (cdata : S → Bool) 
       → Took step view cdata ends sound number broken errors quiet old (record old { char_ref = Some text }) c flow.Continue
   value-reference old kind c text from ok e is = rw (e, is) (took_reference step view cdata ends sound number broken errors quiet old (state.AttributeValue kind) from refl ok (λ b s t. held-fresh kind old (Some []) b s t))
 
+  -- a character of a value without quotes is held, and noted if it is odd
+  pub unquoted-held : (old : Tokenizer K) (c : ℕ) → IsAt old (state.AttributeValue value.Unquoted) → sound (view old.sink) → ends_word c ≡ false → nat_eq c 38 ≡ false
+      → (took : Took step view cdata ends sound number broken errors quiet old (record old { attribute_value = old.attribute_value ++ shown c ∷ [] }) c flow.Continue) × (took.owed.is_quiet ≡ true → is_odd_unquoted c ≡ false)
+  unfolding held_at
+  unquoted-held old c from ok e f =
+      noted_odd step view cdata ends sound number broken errors quiet (is_odd_unquoted c) old (record old { attribute_value = old.attribute_value ++ shown c ∷ [] }) c (state.AttributeValue value.Unquoted) (state.AttributeValue value.Unquoted) from (record { state = from.state; fresh = from.fresh }) refl refl ok
+      (λ b s t. unquoted-goes_on (noting step quiet) noting_error (noting_cdata cdata) (noting_end ends) (rows_of old) slight-absorbed (standing old InData) old.tag old.attribute_name old.attribute_value b s c t e f)
+
   pub unquoted-more : (old : Tokenizer K) (c : ℕ) (text : List ℕ) → IsAt old (state.AttributeValue value.Unquoted) → sound (view old.sink) → ends_word c ≡ false → c ≢ 38 → text ≡ old.attribute_value ++ shown c ∷ []
       → Took step view cdata ends sound number broken errors quiet old (record old { attribute_value = text }) c flow.Continue
-  unfolding held_at
-  unquoted-more old c text from ok e f is = rw is (
-      took_odd step view cdata ends sound number broken errors quiet (is_odd_unquoted c) old (record old { attribute_value = old.attribute_value ++ shown c ∷ [] }) c (state.AttributeValue value.Unquoted) (state.AttributeValue value.Unquoted) from (record { state = from.state; fresh = from.fresh }) refl refl ok
-      (λ b s t. unquoted-goes_on (noting step quiet) noting_error (noting_cdata cdata) (noting_end ends) (rows_of old) slight-absorbed (standing old InData) old.tag old.attribute_name old.attribute_value b s c t e (ne_eqb c 38 f)))
+  unquoted-more old c text from ok e f is = rw is ((unquoted-held old c from ok e (ne_eqb c 38 f)).0)
 
   pub unquoted-end : (old fin new : Tokenizer K) (c : ℕ) (result : Result (ProcessResult H) ParseFault) → IsAt old (state.AttributeValue value.Unquoted) → ends_word c ≡ true → fin ≡ finished step view cdata ends sound number broken errors quiet old old.attribute_value
       → Keeps step view cdata ends sound number broken errors quiet (record fin { state = state.BeforeAttributeName }) new c result → Keeps step view cdata ends sound number broken errors quiet old new c result

@@ -52,6 +52,11 @@ err-noted notes (Err e) h = refl
 pub fits-at : {K : Type 0} (k : Tokenizer K) (st : State) → IsAt k st → fits_in k.char_ref k.state ≡ true
 fits-at k st h = ap (λ r. fits_in r k.state) h.fresh
 
+-- what is slight is not quiet
+quiet-not_odd : (odd : Bool) → (owed_for (slight_if odd)).is_quiet ≡ true → odd ≡ false
+quiet-not_odd true h = absurd cc
+quiet-not_odd false h = refl
+
 module _ {K S H : Type 0} (step : Step S) (view : K → S) (cdata : S → Bool) (ends : S → S) (sound : S → Type 0) (number : H → ℕ) (broken : K → Bool) (errors : K → ℕ) (quiet : S → Token → Bool) where
   abbrev pub at : State → Tokenizer K → ℕ → S × Notes ℕ → List ℕ → Result (S × Notes ℕ) (Refusal × ℕ)
   at st k b s t = held_at (noting step quiet) noting_error (noting_cdata cdata) (noting_end ends) st k b s t
@@ -59,11 +64,11 @@ module _ {K S H : Type 0} (step : Step S) (view : K → S) (cdata : S → Bool) 
   pub now-at : (k : Tokenizer K) (st : State) (b : ℕ) (s : S × Notes ℕ) (t : List ℕ) → IsAt k st → now step view cdata ends sound number broken errors quiet k b s t ≡ at st k b s t
   now-at k st b s t h = ap (λ r. held_at (noting step quiet) noting_error (noting_cdata cdata) (noting_end ends) k.state k b s (pending r ++ t)) h.fresh ∙ ap (λ x. held_at (noting step quiet) noting_error (noting_cdata cdata) (noting_end ends) x k b s t) h.state
 
-  -- The character is taken, which may be odd, and the machine stands in st'.
-  pub took_marked : (odd : Bool) (old new : Tokenizer K) (c : ℕ) (st st' : State) → IsAt old st → IsAt new st' → new.stream ≡ old.stream → new.sink ≡ old.sink → sound (view old.sink)
+  -- The character is taken, which may be odd, and the machine stands in st'; it is quiet only where it is not odd.
+  pub noted_marked : (odd : Bool) (old new : Tokenizer K) (c : ℕ) (st st' : State) → IsAt old st → IsAt new st' → new.stream ≡ old.stream → new.sink ≡ old.sink → sound (view old.sink)
       → ((b : ℕ) (s : S × Notes ℕ) (t : List ℕ) → at st old b s (c ∷ t) ≡ at st' new (b + line_break (nat_eq c 10)) (s.0, more (owed_for (slight_if odd)) s.1) t)
-      → Took step view cdata ends sound number broken errors quiet old new c flow.Continue
-  took_marked odd old new c st st' from to stream same ok law = record {
+      → (took : Took step view cdata ends sound number broken errors quiet old new c flow.Continue) × (took.owed.is_quiet ≡ true → odd ≡ false)
+  noted_marked odd old new c st st' from to stream same ok law = (record {
     owed = owed_for (slight_if odd);
     rises = rises-slight errors odd old.sink new.sink same;
     same = λ notes t.
@@ -76,7 +81,13 @@ module _ {K S H : Type 0} (step : Step S) (view : K → S) (cdata : S → Bool) 
     fits = fits-at new st' to;
     works = λ h. ap broken (sym same) ∙ h;
     paused = tt;
-  }
+  }, quiet-not_odd odd)
+
+  -- the same, where nothing is said of that
+  pub took_marked : (odd : Bool) (old new : Tokenizer K) (c : ℕ) (st st' : State) → IsAt old st → IsAt new st' → new.stream ≡ old.stream → new.sink ≡ old.sink → sound (view old.sink)
+      → ((b : ℕ) (s : S × Notes ℕ) (t : List ℕ) → at st old b s (c ∷ t) ≡ at st' new (b + line_break (nat_eq c 10)) (s.0, more (owed_for (slight_if odd)) s.1) t)
+      → Took step view cdata ends sound number broken errors quiet old new c flow.Continue
+  took_marked odd old new c st st' from to stream same ok law = (noted_marked odd old new c st st' from to stream same ok law).0
 
   -- The character is taken, and the machine stands in st'.
   pub took : (old new : Tokenizer K) (c : ℕ) (st st' : State) → IsAt old st → IsAt new st' → new.stream ≡ old.stream → new.sink ≡ old.sink → sound (view old.sink)

@@ -8,9 +8,9 @@ use Rattle.html_tokens.specs.Notes.{Notes, one_if, heard, wronged}
 use Rattle.html_tokens.specs.Sink.{one_more, Counts, CountsOwn}
 use Rattle.html_tokens.specs.declared.token.Token.{Token}
 use Rattle.html_tokens.specs.declared.token.Token.TheVariants.{ParseError}
-use Rattle.html_tokenizer.specs.Calls.{owed_for_char, owed_for_text, forbidden}
+use Rattle.html_tokenizer.specs.Calls.{owed_for_char, owed_for_text}
 use Rattle.html_tokenizer.specs.Forbidden.{is_forbidden}
-use Rattle.html_tokenizer.specs.Steps.{IsNoTag, Owed, nothing, owed_for, hearing, together, Rises, and_more, more}
+use Rattle.html_tokenizer.specs.Steps.{IsNoTag, Owed, nothing, owed_for, owed_for_each, how_many, hearing, together, Rises, and_more, more}
 
 capped : (a b c m n : ℕ) → min (a + m) 0xffff_ffff_ffff_ffff ≤ b → min (b + n) 0xffff_ffff_ffff_ffff ≤ c → min (a + (n + m)) 0xffff_ffff_ffff_ffff ≤ c
 capped a b c m n h k = omega arith
@@ -104,10 +104,10 @@ pub slight-less : (odd : Bool) → IsNoMore (owed_for (slight_if odd)) (owed_for
 slight-less true = slight-no-more
 slight-less false = no-more-same nothing
 
--- the control characters and noncharacters of two texts
-forbidden-both : (a b : List ℕ) → forbidden (a ++ b) ≡ forbidden a + forbidden b
-forbidden-both [] b = omega arith
-forbidden-both (c ∷ a) b = let h = forbidden-both a b in omega (arith, h)
+-- the characters of two texts that pass
+how_many-both : (passes : ℕ → Bool) (a b : List ℕ) → how_many passes (a ++ b) ≡ how_many passes a + how_many passes b
+how_many-both passes [] b = omega arith
+how_many-both passes (c ∷ a) b = let h = how_many-both passes a b in omega (arith, h)
 
 none-both : (x y : ℕ) → nat_eq (x + y) 0 ≡ true → (nat_eq x 0 ≡ true) × (nat_eq y 0 ≡ true)
 none-both x y h = (grind (arith, nat_tests), grind (arith, nat_tests))
@@ -124,12 +124,12 @@ both-no-more false m n a b = record {
       and_from (n.is_quiet && true) (m.is_quiet && true) (and_from n.is_quiet true p.0 refl) (and_from m.is_quiet true p.1 refl);
 }
 both-no-more true m n a b = record {
-  faults = sums m.faults n.faults (forbidden a) (forbidden b) (forbidden (a ++ b)) (forbidden-both a b);
+  faults = sums m.faults n.faults (how_many is_forbidden a) (how_many is_forbidden b) (how_many is_forbidden (a ++ b)) (how_many-both is_forbidden a b);
   quiet = λ e.
-      let q = and_parts (n.is_quiet && m.is_quiet) (nat_eq (forbidden (a ++ b)) 0) e in
+      let q = and_parts (n.is_quiet && m.is_quiet) (nat_eq (how_many is_forbidden (a ++ b)) 0) e in
       let p = and_parts n.is_quiet m.is_quiet q.0 in
-      let r = none-both (forbidden a) (forbidden b) (ap (λ x. nat_eq x 0) (sym (forbidden-both a b)) ∙ q.1) in
-      and_from (n.is_quiet && nat_eq (forbidden b) 0) (m.is_quiet && nat_eq (forbidden a) 0) (and_from n.is_quiet (nat_eq (forbidden b) 0) p.0 r.1) (and_from m.is_quiet (nat_eq (forbidden a) 0) p.1 r.0);
+      let r = none-both (how_many is_forbidden a) (how_many is_forbidden b) (ap (λ x. nat_eq x 0) (sym (how_many-both is_forbidden a b)) ∙ q.1) in
+      and_from (n.is_quiet && nat_eq (how_many is_forbidden b) 0) (m.is_quiet && nat_eq (how_many is_forbidden a) 0) (and_from n.is_quiet (nat_eq (how_many is_forbidden b) 0) p.0 r.1) (and_from m.is_quiet (nat_eq (how_many is_forbidden a) 0) p.1 r.0);
 }
 
 one-char : (told : Bool) (owed : Owed) → IsNoMore (together owed (record { faults = one_if told + 0; is_quiet = nat_eq (one_if told + 0) 0 })) (together owed (owed_for (grave_if told)))
@@ -140,6 +140,14 @@ one-char false owed = record { faults = omega arith; quiet = λ e. e }
 pub char-no-more : (exact : Bool) (c : ℕ) (owed : Owed) → IsNoMore (together owed (owed_for_text exact (c ∷ []))) (together owed (owed_for_char exact c))
 char-no-more true c owed = one-char (is_forbidden c) owed
 char-no-more false c owed = no-more-same (together owed nothing)
+
+last-adds : (passes : Bool) (x y : ℕ) → x ≡ y + (one_if passes + 0) → IsNoMore (record { faults = x; is_quiet = nat_eq x 0 }) (together (owed_for (grave_if passes)) (record { faults = y; is_quiet = nat_eq y 0 }))
+last-adds true x y e = record { faults = omega (arith, e); quiet = λ h. absurd (grind (arith, nat_tests)) }
+last-adds false x y e = record { faults = omega (arith, e); quiet = λ h. grind (arith, nat_tests) }
+
+-- a character more of which an error is told if it passes
+pub each-more : (passes : ℕ → Bool) (front : List ℕ) (c : ℕ) → IsNoMore (owed_for_each passes (front ++ c ∷ [])) (together (owed_for (grave_if (passes c))) (owed_for_each passes front))
+each-more passes front c = last-adds (passes c) (how_many passes (front ++ c ∷ [])) (how_many passes front) (how_many-both passes front (c ∷ []))
 
 -- where these are not told a text owes nothing on its own
 pub text-no-more : (t : List ℕ) (owed : Owed) → IsNoMore (together owed (owed_for_text false t)) owed

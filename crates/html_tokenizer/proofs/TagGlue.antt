@@ -12,7 +12,7 @@ use Rattle.html_tokens.specs.Sink.{Step, Refusal}
 use Rattle.html_tokenizer.specs.CharRefs.{may_hold}
 use Rattle.html_tokenizer.specs.declared.tokenizer.Tokenizer.{Tokenizer}
 use Rattle.html_tokenizer.specs.Steps.{IsAt, Took, Keeps, nothing}
-use Rattle.html_tokenizer.proofs.Glue.{no-break, at, now-at, took, took_marked, keeps_marked, Absorbs}
+use Rattle.html_tokenizer.proofs.Glue.{no-break, at, now-at, took, noted_marked, keeps_marked, Absorbs}
 use Rattle.html_tokenizer.proofs.Lawful.{erred-more}
 use Rattle.html_tokenizer.proofs.Readings.{sum-zero}
 use Rattle.html_tokenizer.proofs.Rises.{rises-same}
@@ -47,13 +47,20 @@ module _ {K S H : Type 0} (step : Step S) (view : K → S) (cdata : S → Bool) 
         paused = tt;
       }
 
-  -- The character is taken, which may be odd, and the machine stands in st', behind what is noted of it.
+  -- The character is taken, which may be odd, and the machine stands in st', behind what is noted of it; it is quiet only where it
+  -- is not odd.
+  pub noted_odd : (odd : Bool) (old new : Tokenizer K) (c : ℕ) (st st' : State) → IsAt old st → IsAt new st' → new.stream ≡ old.stream → new.sink ≡ old.sink → sound (view old.sink)
+      → ((b : ℕ) (s : S × Notes ℕ) (t : List ℕ) → at step view cdata ends sound number broken errors quiet st old b s (c ∷ t) ≡ at step view cdata ends sound number broken errors quiet st' new (b + line_break (nat_eq c 10)) (erred_by noting_error (slight_if odd) s) t)
+      → (took : Took step view cdata ends sound number broken errors quiet old new c flow.Continue) × (took.owed.is_quiet ≡ true → odd ≡ false)
+  noted_odd odd old new c st st' from to stream same ok law =
+      noted_marked step view cdata ends sound number broken errors quiet odd old new c st st' from to stream same ok
+      (λ b s t. law b s t ∙ ap (λ s. at step view cdata ends sound number broken errors quiet st' new (b + line_break (nat_eq c 10)) s t) (erred-more (slight_if odd) s))
+
+  -- the same, where nothing is said of that
   pub took_odd : (odd : Bool) (old new : Tokenizer K) (c : ℕ) (st st' : State) → IsAt old st → IsAt new st' → new.stream ≡ old.stream → new.sink ≡ old.sink → sound (view old.sink)
       → ((b : ℕ) (s : S × Notes ℕ) (t : List ℕ) → at step view cdata ends sound number broken errors quiet st old b s (c ∷ t) ≡ at step view cdata ends sound number broken errors quiet st' new (b + line_break (nat_eq c 10)) (erred_by noting_error (slight_if odd) s) t)
       → Took step view cdata ends sound number broken errors quiet old new c flow.Continue
-  took_odd odd old new c st st' from to stream same ok law =
-      took_marked step view cdata ends sound number broken errors quiet odd old new c st st' from to stream same ok
-      (λ b s t. law b s t ∙ ap (λ s. at step view cdata ends sound number broken errors quiet st' new (b + line_break (nat_eq c 10)) s t) (erred-more (slight_if odd) s))
+  took_odd odd old new c st st' from to stream same ok law = (noted_odd odd old new c st st' from to stream same ok law).0
 
   -- The character, which may be odd here, is taken by another state, behind what is noted of it.
   pub keeps_odd : (odd : Bool) (old mid new : Tokenizer K) (c : ℕ) (st st' : State) (result : Result (ProcessResult H) ParseFault) → IsAt old st → IsAt mid st' → mid.stream ≡ old.stream → mid.sink ≡ old.sink

@@ -1,6 +1,7 @@
 -- What the machine makes of a run of text.
 use Rattle.std.proofs.Common.{◌≡◌, ◌≢◌, ◌∙◌, ℕ, ◌<◌, Bool, true, false, nat_eq, List, [], ◌∷◌, ◌++◌, length, Some, Result, Ok, Err, refl, sym, ap, arith, append_assoc, append-nil, inl, inr}
 use Rattle.std.specs.Prelude.{◌&&◌, ◌⊎◌, All, OnOk, IfErr}
+use Rattle.std.proofs.lemmas.Bool.{and_parts, and_from}
 use Rattle.std.proofs.lemmas.List.Elements.{All-head, All-tail}
 use Rattle.markup.specs.declared.fault.ParseFault.{ParseFault}
 use Rattle.markup.specs.declared.fault.ParseFault.TheVariants.{Memory}
@@ -16,7 +17,7 @@ use Rattle.html_tokens.specs.declared.states.State.{State}
 use Rattle.html_tokens.specs.declared.states.State.TheVariants as state
 use Rattle.html_tokens.specs.declared.token.Token.{Token}
 use Rattle.html_tokens.specs.declared.token.Token.TheVariants.{CharacterTokens}
-use Rattle.html_tokens.specs.Characters.{shown}
+use Rattle.html_tokens.specs.Characters.{ends_word, shown}
 use Rattle.html_tokens.specs.Item.{Fault, Place, InData, InPlaintext, InRaw, Stand, character}
 use Rattle.html_tokens.specs.Items.{item}
 use Rattle.html_tokens.specs.Notes.{NotedStep, Notes, noting, noting_error, noting_cdata, noting_end}
@@ -24,17 +25,18 @@ use Rattle.html_tokens.specs.RawText.{has_references, kind_behind}
 use Rattle.html_tokens.specs.Reading.{◌>>=◌, line_number, reading}
 use Rattle.html_tokens.specs.Sink.{Step, SinkLaws}
 use Rattle.html_tokens.specs.Table.{Row}
+use Rattle.html_tokens.specs.Tags.{is_odd_unquoted}
 use Rattle.html_tokenizer.specs.Calls.{TookRun, KeepsRun}
 use Rattle.html_tokenizer.specs.CharRefs.{fits_in}
 use Rattle.html_tokenizer.specs.declared.tokenizer.Tokenizer.{Tokenizer}
 use Rattle.html_tokenizer.specs.Quotes.{quote_of}
 use Rattle.html_tokenizer.specs.Rest.{rows_of, standing, held_at}
-use Rattle.html_tokenizer.specs.Steps.{IsAt, more, Tells, Took, now, nothing, hearing, together}
+use Rattle.html_tokenizer.specs.Steps.{Owed, Erred, IsAt, more, Tells, Took, how_many, now, nothing, owed_for_each, hearing, together}
 use Rattle.html_tokenizer.specs.Stops.{with_breaks, raw_stops, value_stops, state_stops, IsRunAt}
-use Rattle.html_tokenizer.proofs.AttributeValues.{quoted-more}
+use Rattle.html_tokenizer.proofs.AttributeValues.{quoted-more, unquoted-held}
 use Rattle.html_tokenizer.proofs.Comments.{bogus-push, comment-push}
-use Rattle.html_tokenizer.proofs.Glue.{at, now-at, now-target, token-fails, told-next, told-works, no-break, fits-at}
-use Rattle.html_tokenizer.proofs.Rises.{more-more, rises-same, rises-then}
+use Rattle.html_tokenizer.proofs.Glue.{at, now-at, now-target, erred-now, at_erred, sound_erred, token-fails, told-next, told-works, no-break, fits-at}
+use Rattle.html_tokenizer.proofs.Rises.{more-more, rises-less, rises-same, rises-then}
 use Rattle.html_tokenizer.proofs.Lawful.{Lawful, noting-lawful}
 use Rattle.html_tokenizer.proofs.RawStates.{raw-item}
 use Rattle.html_tokenizer.proofs.Runs.{reading-text, told-more}
@@ -116,6 +118,16 @@ data-plain k c lacks x t =
 plaintext-plain : {K : Type 0} (k : Tokenizer K) (c : ℕ) → has (with_breaks []).bits c ≡ false → (x : Bool) (t : List ℕ) → item (rows_of k) x (standing k InPlaintext) c t ≡ character c (standing k InPlaintext)
 plaintext-plain k c lacks x t = shown-itself c (standing k InPlaintext) (not-member (with_breaks []).bits c 0 refl lacks)
 
+-- a character more that is not odd
+none-odd : (odd : ℕ → Bool) (c : ℕ) (run : List ℕ) → odd c ≡ false → how_many odd run ≡ 0 → how_many odd (c ∷ run) ≡ 0
+none-odd odd c run e h = rw e (omega (arith, h))
+
+-- white space and ">" are no part of a run of a value without quotes
+no-end : (c : ℕ) → has (value_stops value.Unquoted).bits c ≡ false → ends_word c ≡ false
+no-end c lacks =
+    let bits = (value_stops value.Unquoted).bits in
+    rw (not-member bits c 9 refl lacks, not-member bits c 10 refl lacks, not-member bits c 12 refl lacks, not-member bits c 32 refl lacks, not-member bits c 62 refl lacks) refl
+
 some-same : {A : Type 0} (a b : A) → Some a ≡ Some b → a ≡ b
 some-same a b e = cc
 
@@ -166,16 +178,42 @@ module _ {K S H : Type 0} (step : Step S) (view : K → S) (cdata : S → Bool) 
     works = λ h. first.works (rest.works h);
   }
 
-  -- A machine by what it holds of a text, where each character that is not in a set is held behind the others.
-  module _ (machine : List ℕ → Tokenizer K) (bits : ℕ) (unbroken : has bits 10 ≡ true) (ok : (front : List ℕ) → sound (view (machine front).sink)) (fits : (front : List ℕ) → fits_in (machine front).char_ref (machine front).state ≡ true)
-      (each : (front : List ℕ) (c : ℕ) → has bits c ≡ false → Took step view cdata ends sound number broken errors quiet (machine front) (machine (front ++ c ∷ [])) c flow.Continue) where
-    run-held : (front run : List ℕ) → All (λ c. has bits c ≡ false) run → TookRun step view cdata ends sound number broken errors quiet (machine front) (machine (front ++ run)) run
-    run-held front [] lacking = rw (append-nil front) (record { owed = nothing; rises = rises-same errors (machine front).sink (machine front).sink refl; same = λ notes t. refl; stream = refl; sound = ok front; fits = fits front; works = λ h. h })
-    run-held front (c ∷ run) lacking =
+  -- Errors were told, and then a run was taken that is quiet only where none were.
+  erred-run : (old mid new : Tokenizer K) (run : List ℕ) (owed : Owed) → Erred step view cdata ends sound number broken errors quiet owed old mid → (took : TookRun step view cdata ends sound number broken errors quiet mid new run) → (took.owed.is_quiet ≡ true → owed.is_quiet ≡ true) → TookRun step view cdata ends sound number broken errors quiet old new run
+  erred-run old mid new run owed h took quiet-too = record {
+    owed = took.owed;
+    rises = rises-less errors old.sink new.sink (record { faults = omega arith; quiet = λ e. and_from took.owed.is_quiet owed.is_quiet e (quiet-too e) }) (rises-then errors old.sink mid.sink new.sink h.rises took.rises);
+    same = λ notes t. erred-now step view cdata ends sound number broken errors quiet old mid old.stream.breaks notes (run ++ t) h ∙ (rw (← ap (λ k. k.stream) h.changed) (took.same notes t));
+    stream = took.stream ∙ ap (λ k. k.stream) h.changed;
+    sound = took.sound;
+    fits = took.fits;
+    works = λ e. h.works (took.works e);
+  }
+
+  -- A machine by what it holds of a text, where each character that is not in a set is held behind the others, and is quiet only
+  -- where it is not odd.
+  module _ (machine : List ℕ → Tokenizer K) (bits : ℕ) (odd : ℕ → Bool) (unbroken : has bits 10 ≡ true) (ok : (front : List ℕ) → sound (view (machine front).sink)) (fits : (front : List ℕ) → fits_in (machine front).char_ref (machine front).state ≡ true)
+      (each : (front : List ℕ) (c : ℕ) → has bits c ≡ false → (took : Took step view cdata ends sound number broken errors quiet (machine front) (machine (front ++ c ∷ [])) c flow.Continue) × (took.owed.is_quiet ≡ true → odd c ≡ false)) where
+    run-noted : (front run : List ℕ) → All (λ c. has bits c ≡ false) run → (took : TookRun step view cdata ends sound number broken errors quiet (machine front) (machine (front ++ run)) run) × (took.owed.is_quiet ≡ true → how_many odd run ≡ 0)
+    unfolding took-then
+    run-noted front [] lacking =
+        let none : (took : TookRun step view cdata ends sound number broken errors quiet (machine front) (machine front) []) × (took.owed.is_quiet ≡ true → how_many odd [] ≡ 0) =
+        (record { owed = nothing; rises = rises-same errors (machine front).sink (machine front).sink refl; same = λ notes t. refl; stream = refl; sound = ok front; fits = fits front; works = λ h. h }, λ h. refl) in
+        rw (append-nil front) none
+    run-noted front (c ∷ run) lacking =
         let lacks = All-head (λ c. has bits c ≡ false) c run lacking in
-        rw (append_assoc front (c ∷ []) run) at (
-        took-then (machine front) (machine (front ++ c ∷ [])) (machine ((front ++ c ∷ []) ++ run)) c run (not-member bits c 10 unbroken lacks) (each front c lacks)
-        (run-held (front ++ c ∷ []) run (All-tail (λ c. has bits c ≡ false) c run lacking)))
+        let first = each front c lacks in
+        let rest = run-noted (front ++ c ∷ []) run (All-tail (λ c. has bits c ≡ false) c run lacking) in
+        let both : (took : TookRun step view cdata ends sound number broken errors quiet (machine front) (machine ((front ++ c ∷ []) ++ run)) (c ∷ run)) × (took.owed.is_quiet ≡ true → how_many odd (c ∷ run) ≡ 0) =
+        (took-then (machine front) (machine (front ++ c ∷ [])) (machine ((front ++ c ∷ []) ++ run)) c run (not-member bits c 10 unbroken lacks) first.0 rest.0,
+        λ h. none-odd odd c run (first.1 (and_parts rest.0.owed.is_quiet first.0.owed.is_quiet h).1) (rest.1 (and_parts rest.0.owed.is_quiet first.0.owed.is_quiet h).0)) in
+        rw (append_assoc front (c ∷ []) run) at both
+
+  -- The same, where nothing is said of what is odd.
+  run-held : (machine : List ℕ → Tokenizer K) (bits : ℕ) → has bits 10 ≡ true → ((front : List ℕ) → sound (view (machine front).sink)) → ((front : List ℕ) → fits_in (machine front).char_ref (machine front).state ≡ true)
+      → ((front : List ℕ) (c : ℕ) → has bits c ≡ false → Took step view cdata ends sound number broken errors quiet (machine front) (machine (front ++ c ∷ [])) c flow.Continue)
+      → (front run : List ℕ) → All (λ c. has bits c ≡ false) run → TookRun step view cdata ends sound number broken errors quiet (machine front) (machine (front ++ run)) run
+  run-held machine bits unbroken ok fits each front run lacking = (run-noted machine bits (λ c. false) unbroken ok fits (λ front c lacks. (each front c lacks, λ h. refl)) front run lacking).0
 
   -- A run is held, if there is memory.
   held-kept : (old : Tokenizer K) (machine : List ℕ → Tokenizer K) (front whole run : List ℕ) (result : Result (Unit {0}) ParseFault) → OnOk result (front ≡ whole) → IfErr result (λ fault. fault ≡ Memory) → TookRun step view cdata ends sound number broken errors quiet old (machine whole) run
@@ -191,23 +229,44 @@ module _ {K S H : Type 0} (step : Step S) (view : K → S) (cdata : S → Bool) 
       (λ front c lacks. quoted-more step view cdata ends sound number broken errors quiet (record old { attribute_value = front }) kind quote c (front ++ c ∷ []) (record { state = from.state; fresh = from.fresh }) ok quoted (differs bits c quote ended lacks) (differs bits c 38 amp lacks) (ap (λ d. front ++ d ∷ []) (sym (shown-same c (not-member bits c 0 null lacks)))))
       old.attribute_value run lacking
 
-  -- a run of an attribute's value
-  value-run : (old : Tokenizer K) (kind : AttrValueKind) (run : List ℕ) → IsAt old (state.AttributeValue kind) → sound (view old.sink) → (set : SmallCharSet) → value_stops kind ≡ Some set → All (λ c. has set.bits c ≡ false) run
+  -- a run of a value in quotes
+  value-run : (old : Tokenizer K) (kind : AttrValueKind) (run : List ℕ) → kind ≢ value.Unquoted → IsAt old (state.AttributeValue kind) → sound (view old.sink) → (set : SmallCharSet) → Some (value_stops kind) ≡ Some set → All (λ c. has set.bits c ≡ false) run
       → TookRun step view cdata ends sound number broken errors quiet old (record old { attribute_value = old.attribute_value ++ run }) run
-  value-run old value.Unquoted run from ok set are lacking = absurd cc
-  value-run old value.SingleQuoted run from ok set are lacking =
-      quoted-run old value.SingleQuoted 39 (with_breaks (38 ∷ 39 ∷ [])).bits run from ok refl refl refl refl refl (lacking-in (with_breaks (38 ∷ 39 ∷ [])) set run are lacking)
-  value-run old value.DoubleQuoted run from ok set are lacking =
-      quoted-run old value.DoubleQuoted 34 (with_breaks (34 ∷ 38 ∷ [])).bits run from ok refl refl refl refl refl (lacking-in (with_breaks (34 ∷ 38 ∷ [])) set run are lacking)
+  value-run old value.Unquoted run quoted from ok set are lacking = absurd (quoted refl)
+  value-run old value.SingleQuoted run quoted from ok set are lacking =
+      quoted-run old value.SingleQuoted 39 (value_stops value.SingleQuoted).bits run from ok refl refl refl refl refl (lacking-in (value_stops value.SingleQuoted) set run are lacking)
+  value-run old value.DoubleQuoted run quoted from ok set are lacking =
+      quoted-run old value.DoubleQuoted 34 (value_stops value.DoubleQuoted).bits run from ok refl refl refl refl refl (lacking-in (value_stops value.DoubleQuoted) set run are lacking)
 
-  -- a run was taken in an attribute's value
-  pub value_run-kept : (old : Tokenizer K) (kind : AttrValueKind) (front run : List ℕ) (result : Result (Unit {0}) ParseFault) → IsRunAt old run → sound (view old.sink) → old.state ≡ state.AttributeValue kind
+  -- a run was taken in a value in quotes
+  pub value_run-kept : (old : Tokenizer K) (kind : AttrValueKind) (front run : List ℕ) (result : Result (Unit {0}) ParseFault) → kind ≢ value.Unquoted → IsRunAt old run → sound (view old.sink) → old.state ≡ state.AttributeValue kind
       → OnOk result (front ≡ old.attribute_value ++ run) → IfErr result (λ fault. fault ≡ Memory)
       → KeepsRun step view cdata ends sound number broken errors quiet old (record old { attribute_value = front }) run result
-  value_run-kept old kind front run result runs ok is grown fault =
+  value_run-kept old kind front run result quoted runs ok is grown fault =
       let from = run-at old run runs in
       held-kept old (λ front. record old { attribute_value = front }) front (old.attribute_value ++ run) run result grown fault
-      (value-run old kind run (record { state = is; fresh = from.0.fresh }) ok runs.stops (rw is at from.1) runs.lacking)
+      (value-run old kind run quoted (record { state = is; fresh = from.0.fresh }) ok runs.stops (rw is at from.1) runs.lacking)
+
+  -- a run of a value without quotes is held, and what is odd in it is noted
+  unquoted-run : (old : Tokenizer K) (run : List ℕ) → IsAt old (state.AttributeValue value.Unquoted) → sound (view old.sink) → All (λ c. has (value_stops value.Unquoted).bits c ≡ false) run
+      → (took : TookRun step view cdata ends sound number broken errors quiet old (record old { attribute_value = old.attribute_value ++ run }) run) × (took.owed.is_quiet ≡ true → how_many is_odd_unquoted run ≡ 0)
+  unquoted-run old run from ok lacking =
+      let bits = (value_stops value.Unquoted).bits in
+      run-noted (λ front. record old { attribute_value = front }) bits is_odd_unquoted refl (λ front. ok) (λ front. fits-at old (state.AttributeValue value.Unquoted) from)
+      (λ front c lacks. rw (shown-same c (not-member bits c 0 refl lacks)) at (
+      unquoted-held step view cdata ends sound number broken errors quiet (record old { attribute_value = front }) c (record { state = from.state; fresh = from.fresh }) ok (no-end c lacks) (not-member bits c 38 refl lacks)))
+      old.attribute_value run lacking
+
+  -- errors of a run of a value without quotes were told, and then it was taken
+  pub unquoted_run-kept : (old mid : Tokenizer K) (front run : List ℕ) (result : Result (Unit {0}) ParseFault) → IsRunAt old run → sound (view old.sink) → old.state ≡ state.AttributeValue value.Unquoted
+      → Erred step view cdata ends sound number broken errors quiet (owed_for_each is_odd_unquoted run) old mid → OnOk result (front ≡ mid.attribute_value ++ run) → IfErr result (λ fault. fault ≡ Memory)
+      → KeepsRun step view cdata ends sound number broken errors quiet old (record mid { attribute_value = front }) run result
+  unquoted_run-kept old mid front run result runs ok is told grown fault =
+      let from = run-at old run runs in
+      let at : IsAt old (state.AttributeValue value.Unquoted) = record { state = is; fresh = from.0.fresh } in
+      let took = unquoted-run mid run (at_erred step view cdata ends sound number broken errors quiet old mid (state.AttributeValue value.Unquoted) told at) (sound_erred step view cdata ends sound number broken errors quiet old mid told ok) (lacking-in (value_stops value.Unquoted) runs.stops run (rw is at from.1) runs.lacking) in
+      held-kept old (λ front. record mid { attribute_value = front }) front (mid.attribute_value ++ run) run result grown fault
+      (erred-run old mid (record mid { attribute_value = mid.attribute_value ++ run }) run (owed_for_each is_odd_unquoted run) told took.0 (λ e. ap (λ n. nat_eq n 0) (took.1 e)))
 
 module _ {K S H : Type 0} (step : Step S) (view : K → S) (cdata : S → Bool) (ends : S → S) (sound : S → Type 0) (number : H → ℕ) (broken : K → Bool) (errors : K → ℕ) (quiet : S → Token → Bool) (laws : SinkLaws sound step ends quiet) where
   -- a run of a comment

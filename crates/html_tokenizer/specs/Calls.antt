@@ -16,7 +16,7 @@ use Rattle.html_tokens.specs.Item.{grave_if, Place}
 use Rattle.html_tokens.specs.NormalText.{normal_text}
 use Rattle.html_tokens.specs.Table.{Row}
 use Rattle.html_tokens.specs.TextState.{is_text_state}
-use Rattle.html_tokens.specs.Notes.{Notes, one_if, noting, noting_error, noting_cdata, noting_end}
+use Rattle.html_tokens.specs.Notes.{Notes, noting, noting_error, noting_cdata, noting_end}
 use Rattle.html_tokens.specs.Reading.{◌>>=◌, line_number, first_place, first_stand, reading}
 use Rattle.html_tokens.specs.Sink.{Step, Reply, Refusal}
 use Rattle.html_tokenizer.specs.CharRefs.{fits_in}
@@ -30,7 +30,7 @@ use Rattle.html_tokenizer.specs.Pieces.{ComesAsRun}
 use Rattle.html_tokenizer.specs.Stops.{stops_of}
 use Rattle.html_queue.specs.declared.set.SmallCharSet.{SmallCharSet}
 use Rattle.html_tokenizer.specs.Rest.{rest, rows_of, standing, coming}
-use Rattle.html_tokenizer.specs.Steps.{IsAt, PausesAt, Owed, nothing, owed_for, together, more, noted_by, Rises, now, Fails}
+use Rattle.html_tokenizer.specs.Steps.{IsAt, PausesAt, Owed, nothing, owed_for, owed_for_each, together, more, noted_by, Rises, now, Fails}
 
 -- the pauses so far, and the one with which a call of `feed` hands back control
 abbrev pub paused_with : {H : Type 0} → (H → ℕ) → List Reply → TokenizerResult H → List Reply
@@ -46,15 +46,10 @@ noted_with number owed notes result = record (more owed notes) { pauses = paused
 abbrev pub owed_for_char : Bool → ℕ → Owed
 owed_for_char exact c = owed_for (grave_if (exact && is_forbidden c))
 
--- how many control characters and noncharacters a text has
-abbrev pub forbidden : List ℕ → ℕ
-forbidden [] = 0
-forbidden (c ∷ t) = one_if (is_forbidden c) + forbidden t
-
 -- what the characters of a text owe on their own, where these are told
 abbrev pub owed_for_text : Bool → List ℕ → Owed
 owed_for_text false t = nothing
-owed_for_text true t = record { faults = forbidden t; is_quiet = nat_eq (forbidden t) 0 }
+owed_for_text true t = owed_for_each is_forbidden t
 
 -- a number of line breaks behind one character more: at u64::MAX it stays
 abbrev pub counted : ℕ → ℕ → ℕ

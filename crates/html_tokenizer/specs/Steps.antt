@@ -11,7 +11,7 @@ use Rattle.html_tokens.specs.declared.states.State.TheVariants as state
 use Rattle.html_tokens.specs.declared.token.Token.{Token}
 use Rattle.html_tokens.specs.declared.token.Token.TheVariants.{TagToken, ParseError}
 use Rattle.html_tokens.specs.Item.{Fault, Grave, Slight, grave_if, InData}
-use Rattle.html_tokens.specs.Notes.{Notes, noting, noting_error, noting_cdata, noting_end}
+use Rattle.html_tokens.specs.Notes.{Notes, one_if, noting, noting_error, noting_cdata, noting_end}
 use Rattle.html_tokens.specs.Reading.{◌>>=◌, line_break, line_number, next_stand, reading}
 use Rattle.html_tokens.specs.Sink.{Step, Reply, Refusal, InText, AfterEnd, Unfit}
 use Rattle.html_tokens.specs.Tags.{behind_tag, is_faulty_tag}
@@ -69,6 +69,15 @@ hearing heard owed = record owed { is_quiet = owed.is_quiet && heard }
 -- what characters owe, and those before them
 abbrev pub together : Owed → Owed → Owed
 together owed before = record { faults = owed.faults + before.faults; is_quiet = owed.is_quiet && before.is_quiet }
+
+-- how many characters of a text pass
+abbrev pub how_many : (ℕ → Bool) → List ℕ → ℕ
+how_many passes [] = 0
+how_many passes (c ∷ t) = one_if (passes c) + how_many passes t
+
+-- what a text owes of which each character that passes is an error
+abbrev pub owed_for_each : (ℕ → Bool) → List ℕ → Owed
+owed_for_each passes t = record { faults = how_many passes t; is_quiet = nat_eq (how_many passes t) 0 }
 
 -- n and so many more, counted one by one
 abbrev pub and_more : ℕ → ℕ → ℕ

@@ -30,18 +30,18 @@ raw_stops raw.Rawtext = with_breaks (60 ∷ [])
 raw_stops raw.ScriptData = with_breaks (60 ∷ [])
 raw_stops (raw.ScriptDataEscaped kind) = with_breaks (45 ∷ 60 ∷ [])
 
--- a quoted value ends at its quote, and "&" may begin a reference; in a value without quotes no runs are read, since more of its characters are errors
-abbrev pub value_stops : AttrValueKind → Option SmallCharSet
-value_stops value.Unquoted = None
-value_stops value.SingleQuoted = Some (with_breaks (38 ∷ 39 ∷ []))
-value_stops value.DoubleQuoted = Some (with_breaks (34 ∷ 38 ∷ []))
+-- a value ends at its quote, or, where it has none, at white space and ">"; and "&" may begin a reference
+abbrev pub value_stops : AttrValueKind → SmallCharSet
+value_stops value.Unquoted = with_breaks (9 ∷ 12 ∷ 32 ∷ 38 ∷ 62 ∷ [])
+value_stops value.SingleQuoted = with_breaks (38 ∷ 39 ∷ [])
+value_stops value.DoubleQuoted = with_breaks (34 ∷ 38 ∷ [])
 
 -- where runs are read: in text, in values and in comments
 abbrev pub state_stops : State → Option SmallCharSet
 state_stops state.Data = Some (with_breaks (38 ∷ 60 ∷ []))
 state_stops state.Plaintext = Some (with_breaks [])
 state_stops (state.RawData kind) = Some (raw_stops kind)
-state_stops (state.AttributeValue kind) = value_stops kind
+state_stops (state.AttributeValue kind) = Some (value_stops kind)
 state_stops state.BogusComment = Some (with_breaks (62 ∷ []))
 state_stops state.Comment = Some (with_breaks (45 ∷ []))
 state_stops _ = None

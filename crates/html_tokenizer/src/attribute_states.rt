@@ -1,12 +1,15 @@
 //! The attributes of a tag (HTML Standard, sections 13.2.5.32 to 13.2.5.39).
 ghost use Rattle.std.specs.Prelude.{◌≡◌, [], Some, is_some, IfErr, OnOk};
+ghost use Rattle.std.specs.Str.{chars};
 ghost use Rattle.html_tokens.specs.Characters.{ends_attribute_name};
 ghost use Rattle.html_tokens.specs.Tags.{has_attribute, with_attribute, is_odd_first, is_odd_in_name, is_odd_unquoted};
 ghost use Rattle.html_tokens.specs.declared.states.AttrValueKind.TheVariants as value;
 ghost use Rattle.html_tokens.specs.declared.states.State.TheVariants as state;
 ghost use Rattle.markup.specs.declared.fault.ParseFault.TheVariants.{Memory};
 ghost use Rattle.html_tokenizer.specs.Quotes.{quote_of};
-ghost use Rattle.html_tokenizer.specs.Steps.{IsAt, Keeps};
+ghost use Rattle.html_tokenizer.specs.Calls.{KeepsRun};
+ghost use Rattle.html_tokenizer.specs.Steps.{IsAt, Keeps, Errs, owed_for_each};
+ghost use Rattle.html_tokenizer.specs.Stops.{IsRunAt};
 
 use crate::characters::{ends_tag_name, ends_word, is_white_space, lowered, shown};
 use crate::held_reference::HeldReference;
@@ -15,7 +18,7 @@ use crate::tokenizer::Tokenizer;
 use html_tokens::sink::TokenSink;
 use html_tokens::states::{AttrValueKind, State};
 use html_tokens::{ProcessResult, Tag};
-use markup::{Attribute, LocalName, Namespace, ParseFault, QualName};
+use markup::{Attribute, LocalName, Namespace, ParseFault, QualName, Text};
 use std::mem;
 
 /// Whether an attribute's name ends before this character.
@@ -266,6 +269,45 @@ impl<Sink: TokenSink> Tokenizer<Sink> {
         }
         self.attribute_value.push(shown(c))?;
         Ok(ProcessResult::Continue)
+    }
+
+    /// Tells of each error in a run of a value without quotes.
+    fn tell_unquoted_faults(&mut self, run: &str) -> Result<(), ParseFault>
+        requires sound { Sink.is_sound (Sink.view self.old.sink) }
+        ensures { Errs Sink.step Sink.view Sink.asks_cdata Sink.ended Sink.is_sound Sink.number Sink.has_failed Sink.errors Sink.is_quiet (owed_for_each is_odd_unquoted (chars run.now)) self.old self.new result }
+    {
+        for c in run.chars() {
+            self.tell_fault(unquoted_fault(c))?;
+        }
+        Ok(())
+    }
+
+    /// Takes a run of a value without quotes.
+    fn take_unquoted_run(&mut self, run: &Text) -> Result<(), ParseFault>
+        requires run { IsRunAt self.old run.now }
+        requires at { self.old.state ≡ state.AttributeValue value.Unquoted }
+        requires sound { Sink.is_sound (Sink.view self.old.sink) }
+        ensures { KeepsRun Sink.step Sink.view Sink.asks_cdata Sink.ended Sink.is_sound Sink.number Sink.has_failed Sink.errors Sink.is_quiet self.old self.new run.now result }
+    {
+        self.tell_unquoted_faults(run.as_str())?;
+        self.attribute_value.append(run)
+    }
+
+    /// Takes a run of a value.
+    pub(crate) fn take_value_run(
+        &mut self,
+        kind: AttrValueKind,
+        run: &Text,
+    ) -> Result<(), ParseFault>
+        requires run { IsRunAt self.old run.now }
+        requires at { self.old.state ≡ state.AttributeValue kind }
+        requires sound { Sink.is_sound (Sink.view self.old.sink) }
+        ensures { KeepsRun Sink.step Sink.view Sink.asks_cdata Sink.ended Sink.is_sound Sink.number Sink.has_failed Sink.errors Sink.is_quiet self.old self.new run.now result }
+    {
+        match kind {
+            AttrValueKind::Unquoted => self.take_unquoted_run(run),
+            _ => self.attribute_value.append(run),
+        }
     }
 
     /// In a value in quotes.

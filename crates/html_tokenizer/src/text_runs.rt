@@ -31,19 +31,20 @@ fn raw_stops(kind: RawKind) -> SmallCharSet
     }
 }
 
-/// The characters of a quoted value that end it or do not stand for themselves.
-fn value_stops(kind: AttrValueKind) -> Option<SmallCharSet>
-    ensures is { result ≡ stops.value_stops kind }
-    ensures breaks { IfSome result HasBreaks }
+/// The characters of a value that end it or do not stand for themselves.
+fn value_stops(kind: AttrValueKind) -> SmallCharSet
+    ensures { result ≡ stops.value_stops kind }
 {
     match kind {
-        AttrValueKind::Unquoted => None,
-        AttrValueKind::SingleQuoted => Some(SmallCharSet {
+        AttrValueKind::Unquoted => SmallCharSet {
+            bits: BREAKS | 1 << 9 | 1 << 12 | 1 << 32 | 1 << 38 | 1 << 62,
+        },
+        AttrValueKind::SingleQuoted => SmallCharSet {
             bits: BREAKS | 1 << 38 | 1 << 39,
-        }),
-        AttrValueKind::DoubleQuoted => Some(SmallCharSet {
+        },
+        AttrValueKind::DoubleQuoted => SmallCharSet {
             bits: BREAKS | 1 << 34 | 1 << 38,
-        }),
+        },
     }
 }
 
@@ -62,7 +63,7 @@ impl<Sink: TokenSink> Tokenizer<Sink> {
             }),
             State::Plaintext => Some(SmallCharSet { bits: BREAKS }),
             State::RawData(kind) => Some(raw_stops(kind)),
-            State::AttributeValue(kind) => value_stops(kind),
+            State::AttributeValue(kind) => Some(value_stops(kind)),
             State::BogusComment => Some(SmallCharSet {
                 bits: BREAKS | 1 << 62,
             }),
@@ -80,7 +81,7 @@ impl<Sink: TokenSink> Tokenizer<Sink> {
         ensures { KeepsRun Sink.step Sink.view Sink.asks_cdata Sink.ended Sink.is_sound Sink.number Sink.has_failed Sink.errors Sink.is_quiet self.old self.new run result }
     {
         match self.state {
-            State::AttributeValue(_) => self.attribute_value.append(&run),
+            State::AttributeValue(kind) => self.take_value_run(kind, &run),
             State::BogusComment | State::Comment => self.comment.append(&run),
             _ => self.tell(Token::CharacterTokens(run)),
         }

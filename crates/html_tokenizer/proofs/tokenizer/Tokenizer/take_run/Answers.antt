@@ -1,15 +1,10 @@
-use Rattle.html_tokenizer.proofs.TextRuns.{value_run-kept, comment_run-kept, text_run-kept}
+use Rattle.html_tokenizer.proofs.TextRuns.{comment_run-kept, text_run-kept}
 use Rattle.html_tokenizer.proofs.tokenizer.Tokenizer.take_run.Goals as goal
-
-pub returns-in-AttributeValue : goal.returns-in-AttributeValue
-returns-in-AttributeValue g c =
-    let m = g.Sink.TokenSink in
-    value_run-kept m.step m.view m.asks_cdata m.ended m.is_sound m.number m.has_failed m.errors m.is_quiet _ _ _ _ _ c.requires.run c.requires.sound c.in-AttributeValue.is c.append.ensures.ok c.append.ensures.fault
 
 pub returns-in-BogusComment : goal.returns-in-BogusComment
 returns-in-BogusComment g c =
     let m = g.Sink.TokenSink in
-    comment_run-kept m.step m.view m.asks_cdata m.ended m.is_sound m.number m.has_failed m.errors m.is_quiet g.met.Sink.TokenSink.laws _ _ _ _ c.requires.run c.requires.sound c.in-BogusComment.is c.append-in-BogusComment.ensures.ok c.append-in-BogusComment.ensures.fault
+    comment_run-kept m.step m.view m.asks_cdata m.ended m.is_sound m.number m.has_failed m.errors m.is_quiet g.met.Sink.TokenSink.laws _ _ _ _ c.requires.run c.requires.sound c.in-BogusComment.is c.append.ensures.ok c.append.ensures.fault
 
 pub returns-in_default : goal.returns-in_default
 returns-in_default g c =

@@ -1,0 +1,25 @@
+use Rattle.std.proofs.Common.{◌∙◌, sym, ap, map-id, subst}
+use Rattle.std.proofs.lemmas.Iterator.{YieldsList-from_chars}
+use Rattle.std.proofs.lemmas.Iterator.Consumers.{YieldsList-end}
+use Rattle.html_tokens.specs.Item.{grave_if}
+use Rattle.html_tokens.specs.Tags.{is_odd_unquoted}
+use Rattle.html_tokenizer.specs.Steps.{Erred, owed_for, owed_for_each}
+use Rattle.html_tokenizer.proofs.Erring.{erred-each, errs-behind}
+use Rattle.html_tokenizer.proofs.tokenizer.Tokenizer.tell_unquoted_faults.Goals as goal
+
+pub loop-c-preserved : goal.loop-c-preserved
+loop-c-preserved g c =
+    let m = g.Sink.TokenSink in
+    erred-each m.step m.view m.asks_cdata m.ended m.is_sound m.number m.has_failed m.errors m.is_quiet is_odd_unquoted c.loop-c.yielded c.in-Some.c c.args.self.now c.loop-c.self c.tell_fault.new.self c.loop-c.invariant
+    (rw (← c.unquoted_fault.ensures) c.in_ok-tell_fault.ensures)
+
+pub returns-in_err-tell_fault : goal.returns-in_err-tell_fault
+returns-in_err-tell_fault g c =
+    let m = g.Sink.TokenSink in
+    errs-behind m.step m.view m.asks_cdata m.ended m.is_sound m.number m.has_failed m.errors m.is_quiet _ c.args.self.now c.loop-c.self _ _ _ c.loop-c.invariant c.in_err-tell_fault.ensures c.from_residual.ensures.1
+
+pub returns : goal.returns
+returns g c =
+    let m = g.Sink.TokenSink in
+    let all = YieldsList-end (YieldsList-from_chars c.args.run.now c.utf8.run cc) c.loop-c.yielded _ c.loop-c.yielded_by _ _ c.in-None.is c.next.ensures.steps in
+    rw (sym (map-id c.loop-c.yielded) ∙ all.0) at c.loop-c.invariant
