@@ -11,7 +11,7 @@ use Rattle.html_tokens.specs.Sink.{Step}
 use Rattle.html_tokenizer.specs.declared.tokenizer.Tokenizer.{Tokenizer}
 use Rattle.html_tokenizer.specs.Rest.{pending}
 use Rattle.html_tokenizer.specs.Calls.{KeepsRun}
-use Rattle.html_tokenizer.specs.Steps.{now, Owed, Erred, Errs, Fails, Keeps, nothing, owed_for, owed_for_each, together}
+use Rattle.html_tokenizer.specs.Steps.{now, Owed, Erred, Errs, Keeps, nothing, owed_for, owed_for_each, together}
 use Rattle.html_tokenizer.proofs.Glue.{fails-before}
 use Rattle.html_tokenizer.proofs.HeldRefused.{held-refused}
 use Rattle.html_tokenizer.proofs.Refused.{noting-refused, noting-errs, every-fails}

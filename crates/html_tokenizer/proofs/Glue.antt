@@ -68,20 +68,23 @@ module _ {K S H : Type 0} (step : Step S) (view : K → S) (cdata : S → Bool) 
   pub noted_marked : (odd : Bool) (old new : Tokenizer K) (c : ℕ) (st st' : State) → IsAt old st → IsAt new st' → new.stream ≡ old.stream → new.sink ≡ old.sink → sound (view old.sink)
       → ((b : ℕ) (s : S × Notes ℕ) (t : List ℕ) → at st old b s (c ∷ t) ≡ at st' new (b + line_break (nat_eq c 10)) (s.0, more (owed_for (slight_if odd)) s.1) t)
       → (took : Took step view cdata ends sound number broken errors quiet old new c flow.Continue) × (took.owed.is_quiet ≡ true → odd ≡ false)
-  noted_marked odd old new c st st' from to stream same ok law = (record {
-    owed = owed_for (slight_if odd);
-    rises = rises-slight errors odd old.sink new.sink same;
-    same = λ notes t.
-        now-at old st old.stream.breaks (view old.sink, notes) (c ∷ t) from
-        ∙ law old.stream.breaks (view old.sink, notes) t
-        ∙ sym (now-at new st' (old.stream.breaks + line_break (nat_eq c 10)) (view old.sink, more (owed_for (slight_if odd)) notes) t to)
-        ∙ ap (λ k. now step view cdata ends sound number broken errors quiet new (old.stream.breaks + line_break (nat_eq c 10)) (view k, more (owed_for (slight_if odd)) notes) t) (sym same);
-    stream = stream;
-    sound = rw same ok;
-    fits = fits-at new st' to;
-    works = λ h. ap broken (sym same) ∙ h;
-    paused = tt;
-  }, quiet-not_odd odd)
+  noted_marked odd old new c st st' from to stream same ok law = (
+    record {
+      owed = owed_for (slight_if odd);
+      rises = rises-slight errors odd old.sink new.sink same;
+      same = λ notes t.
+          now-at old st old.stream.breaks (view old.sink, notes) (c ∷ t) from
+          ∙ law old.stream.breaks (view old.sink, notes) t
+          ∙ sym (now-at new st' (old.stream.breaks + line_break (nat_eq c 10)) (view old.sink, more (owed_for (slight_if odd)) notes) t to)
+          ∙ ap (λ k. now step view cdata ends sound number broken errors quiet new (old.stream.breaks + line_break (nat_eq c 10)) (view k, more (owed_for (slight_if odd)) notes) t) (sym same);
+      stream = stream;
+      sound = rw same ok;
+      fits = fits-at new st' to;
+      works = λ h. ap broken (sym same) ∙ h;
+      paused = tt;
+    },
+    quiet-not_odd odd,
+  )
 
   -- the same, where nothing is said of that
   pub took_marked : (odd : Bool) (old new : Tokenizer K) (c : ℕ) (st st' : State) → IsAt old st → IsAt new st' → new.stream ≡ old.stream → new.sink ≡ old.sink → sound (view old.sink)

@@ -204,9 +204,10 @@ module _ {K S H : Type 0} (step : Step S) (view : K → S) (cdata : S → Bool) 
         let lacks = All-head (λ c. has bits c ≡ false) c run lacking in
         let first = each front c lacks in
         let rest = run-noted (front ++ c ∷ []) run (All-tail (λ c. has bits c ≡ false) c run lacking) in
-        let both : (took : TookRun step view cdata ends sound number broken errors quiet (machine front) (machine ((front ++ c ∷ []) ++ run)) (c ∷ run)) × (took.owed.is_quiet ≡ true → how_many odd (c ∷ run) ≡ 0) =
-        (took-then (machine front) (machine (front ++ c ∷ [])) (machine ((front ++ c ∷ []) ++ run)) c run (not-member bits c 10 unbroken lacks) first.0 rest.0,
-        λ h. none-odd odd c run (first.1 (and_parts rest.0.owed.is_quiet first.0.owed.is_quiet h).1) (rest.1 (and_parts rest.0.owed.is_quiet first.0.owed.is_quiet h).0)) in
+        let both : (took : TookRun step view cdata ends sound number broken errors quiet (machine front) (machine ((front ++ c ∷ []) ++ run)) (c ∷ run)) × (took.owed.is_quiet ≡ true → how_many odd (c ∷ run) ≡ 0) = (
+          took-then (machine front) (machine (front ++ c ∷ [])) (machine ((front ++ c ∷ []) ++ run)) c run (not-member bits c 10 unbroken lacks) first.0 rest.0,
+          λ h. none-odd odd c run (first.1 (and_parts rest.0.owed.is_quiet first.0.owed.is_quiet h).1) (rest.1 (and_parts rest.0.owed.is_quiet first.0.owed.is_quiet h).0),
+        ) in
         rw (append_assoc front (c ∷ []) run) at both
 
   -- The same, where nothing is said of what is odd.

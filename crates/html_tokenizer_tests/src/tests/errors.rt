@@ -48,10 +48,12 @@ fn faulty_comments_tell_errors(rt: HostRuntime) -> Result<(), Fail> {
     Ok(())
 }
 
-const FAULTY_TAGS: [(&str, u64); 16] = [
+const FAULTY_TAGS: [(&str, u64); 18] = [
     ("a<", 1),
     ("a<1", 1),
     ("<a b=c\"d>", 1),
+    ("<a b=c`d>", 1),
+    ("<a b=`c\"'<=d`>", 6),
     ("<a b\"c>", 1),
     ("<a b=>", 1),
     ("<a b='c'd>", 1),
@@ -157,7 +159,7 @@ fn clean_texts_tell_none(rt: HostRuntime) -> Result<(), Fail> {
 }
 
 // Texts, and how many of their characters are errors where those are told.
-const CHARACTERS: [(&str, u64); 21] = [
+const CHARACTERS: [(&str, u64); 22] = [
     ("\u{1}a", 1),
     ("\u{8}", 1),
     ("\u{B}", 1),
@@ -178,6 +180,7 @@ const CHARACTERS: [(&str, u64); 21] = [
     ("\u{A0}~", 0),
     ("\u{FDCF}\u{FDF0}", 0),
     ("\u{FFFD}\u{10000}", 0),
+    ("<a b=c`d\"\0e=f`g h='`'>", 0),
     ("\0", 0),
 ];
 

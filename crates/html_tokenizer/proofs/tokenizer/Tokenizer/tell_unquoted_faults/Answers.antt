@@ -1,9 +1,7 @@
-use Rattle.std.proofs.Common.{◌∙◌, sym, ap, map-id, subst}
+use Rattle.std.proofs.Common.{◌∙◌, sym, map-id}
 use Rattle.std.proofs.lemmas.Iterator.{YieldsList-from_chars}
 use Rattle.std.proofs.lemmas.Iterator.Consumers.{YieldsList-end}
-use Rattle.html_tokens.specs.Item.{grave_if}
 use Rattle.html_tokens.specs.Tags.{is_odd_unquoted}
-use Rattle.html_tokenizer.specs.Steps.{Erred, owed_for, owed_for_each}
 use Rattle.html_tokenizer.proofs.Erring.{erred-each, errs-behind}
 use Rattle.html_tokenizer.proofs.tokenizer.Tokenizer.tell_unquoted_faults.Goals as goal
 
