@@ -11,7 +11,7 @@ use Rattle.html_tokenizer.specs.Steps as steps
 use Rattle.html_tokenizer.specs.declared.tokenizer.Tokenizer.{Tokenizer}
 use Rattle.html_tokenizer.proofs.Rises.{more-sum}
 use Rattle.html_tokens.specs.Notes.{errors_of, was_quiet}
-use Rattle.bench_tokenizer.specs.Counts.{IsWithin, counted_by, step, ended, asks_cdata, number, has_failed, errors, errors_ended, is_quiet}
+use Rattle.bench_tokenizer.specs.Counts.{counted_by, counting}
 use Rattle.bench_tokenizer.specs.Readings.{HasRead, Reads, Begins, IsCounted, page_reading, page_owes, noted, owed_behind, to_come}
 use Rattle.bench_tokenizer.specs.declared.counts.Counts.{Counts}
 
@@ -49,7 +49,7 @@ read-on page text behind old new read reads = record {
 
 -- where nothing of a page is left and the end is told, the numbers are those of the page
 pub whole-page : (k new : Tokenizer Counts) (page : List ℕ) (rest : List ℕ) → HasRead page k (chars rest) → rest ≡ []
-    → EndGives step counted_by asks_cdata ended IsWithin number has_failed errors is_quiet errors_ended (refusal k.stream) k new (Ok tt) → IsCounted page new.sink
+    → EndGives counting (refusal k.stream) k new (Ok tt) → IsCounted page new.sink
 whole-page k new page rest read none gives =
     let has_ended = rw read.takes.begun at gives in
     let owed = owed_behind has_ended.owed read.owed in

@@ -7,6 +7,7 @@ use native.Mathlib.Omega.{arith}
 use Rattle.html_tokens.specs.Sink.{Step, Reply, SinkLaws, one_more, IsIdle, IsTagReply, IsReplyTo}
 use Rattle.html_tokens.specs.declared.replies.TokenSinkResult.TheVariants.{Continue, RawData}
 use Rattle.html_tokens.specs.declared.states.RawKind.TheVariants.{ScriptData}
+use Rattle.html_tokens.specs.declared.sink.TokenSink.{Ghosts}
 use Rattle.html_tokens.specs.declared.tags.TagKind.{TagKind}
 use Rattle.html_tokens.specs.declared.tags.TagKind.TheVariants.{StartTag, EndTag}
 use Rattle.html_tokens.specs.declared.token.Token.{Token}
@@ -84,6 +85,23 @@ reply_to _ = Continue
 -- no token is refused
 abbrev pub step : Step Counted
 step s t line = Ok (counted s t, reply_to t)
+
+-- all that a sink stands for that counts
+abbrev pub counting : Ghosts Counts (Unit {0})
+counting = record {
+  State = Counted;
+  view = counted_by;
+  is_sound = IsWithin;
+  step = step;
+  ended = ended;
+  asks_cdata = asks_cdata;
+  errors = errors;
+  errors_ended = errors_ended;
+  is_quiet = is_quiet;
+  has_failed = has_failed;
+  references = λ _. [];
+  number = number;
+}
 
 plus-plus : (a b c : ℕ) → plus (plus a b) c ≡ plus a (b + c)
 plus-plus a b c = omega arith

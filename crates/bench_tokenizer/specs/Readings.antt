@@ -10,7 +10,7 @@ use Rattle.html_tokenizer.specs.Calls as calls
 use Rattle.html_tokenizer.specs.Steps.{Owed, Rises, together, and_more}
 use Rattle.html_tokenizer.specs.Steps as steps
 use Rattle.html_tokenizer.specs.declared.tokenizer.Tokenizer.{Tokenizer}
-use Rattle.bench_tokenizer.specs.Counts.{Counted, IsWithin, counted_by, step, ended, asks_cdata, number, has_failed, errors, is_quiet}
+use Rattle.bench_tokenizer.specs.Counts.{Counted, counted_by, counting, step, ended, asks_cdata, errors, is_quiet}
 use Rattle.bench_tokenizer.specs.declared.counts.Counts.{Counts}
 
 -- nothing was told yet
@@ -40,11 +40,11 @@ owed_behind owed before = record { faults = and_more owed.faults before.faults; 
 
 -- what a further text makes of the numbers, behind what was owed
 abbrev pub to_come : Tokenizer Counts → Owed → List ℕ → Result (Counted × Notes ℕ) (Refusal × ℕ)
-to_come k owed t = calls.to_come step counted_by asks_cdata ended IsWithin number has_failed errors is_quiet k (noted owed) t
+to_come k owed t = calls.to_come counting k (noted owed) t
 
 -- a tokenizer takes calls
 pub record Takes (k : Tokenizer Counts) : Type 0 where
-  pub ready : IsReady step counted_by asks_cdata ended IsWithin number has_failed errors is_quiet k
+  pub ready : IsReady counting k
   pub begun : refusal k.stream ≡ None
 
 -- A tokenizer read a text, of which these characters came, which owed this: whatever follows, what was to come over the text and that is what is now to come

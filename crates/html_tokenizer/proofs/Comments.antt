@@ -9,6 +9,7 @@ use Rattle.html_tokens.specs.declared.states.State.{State}
 use Rattle.html_tokens.specs.declared.states.State.TheVariants as state
 use Rattle.html_tokens.specs.declared.token.Token.{Token}
 use Rattle.html_tokens.specs.declared.token.Token.TheVariants.{CommentToken}
+use Rattle.html_tokens.specs.declared.sink.TokenSink.{Ghosts}
 use Rattle.html_tokens.specs.Characters.{shown, begins}
 use Rattle.html_tokens.specs.Comments.{comment_end, comment_by, empty_by, comment_at, comment_after, bogus_by, bogus_comment_after}
 use Rattle.html_tokens.specs.Item.{Stand, Item, InData, behind, told_as, Fault, Grave, Slight}
@@ -102,7 +103,7 @@ bogus-fault st front (c ∷ t) = bogus-fault_by (nat_eq c 62) st front (λ _. bo
 
 -- STATES
 
-module _ {K S H : Type 0} (step : Step S) (view : K → S) (cdata : S → Bool) (ends : S → S) (sound : S → Type 0) (number : H → ℕ) (broken : K → Bool) (errors : K → ℕ) (quiet : S → Token → Bool) (laws : SinkLaws sound step ends quiet) where
+module _ {K H : Type 0} (Sink : Ghosts K H) (laws : SinkLaws Sink.is_sound Sink.step Sink.ended Sink.is_quiet) where
   -- the machine once its comment is told
   abbrev emitted : Tokenizer K → Tokenizer K
   emitted k = record k { comment = []; state = state.Data }
@@ -113,11 +114,11 @@ module _ {K S H : Type 0} (step : Step S) (view : K → S) (cdata : S → Bool) 
 
   -- A comment is told next, behind its error if it is fault, and ">" ends it.
   abbrev pub CommentSays : State → Tokenizer K → Owed → List ℕ → Type 0
-  CommentSays st old owed front = EndSays step view cdata ends sound number broken errors quiet laws st old (emitted old) owed (CommentToken front)
+  CommentSays st old owed front = EndSays Sink laws st old (emitted old) owed (CommentToken front)
 
-  comment-says : (fault : Option Fault) (old : Tokenizer K) (b : ℕ) (s : S × Notes ℕ) → sound s.0 → (front t u : List ℕ) (n : ℕ) (i : Item) → i ≡ told_as fault (CommentToken front) n (standing old InData) → line_breaks (take n u) ≡ 0 → drop n u ≡ t
-      → play (noting step quiet) noting_error (noting_cdata cdata) (noting_end ends) (rows_of old) i b s u ≡ (noting step quiet (s.0, more (owed_for fault) s.1) (CommentToken front) (line_number b) >>= λ p. reading (noting step quiet) noting_error (noting_cdata cdata) (noting_end ends) (rows_of old) (standing old InData) (b + 0) p.0 t)
-  comment-says fault old b s h front t u n i is unbroken left = end-says step view cdata ends sound number broken errors quiet laws fault old b s h (CommentToken front) t u n i tt is unbroken left
+  comment-says : (fault : Option Fault) (old : Tokenizer K) (b : ℕ) (s : Sink.State × Notes ℕ) → Sink.is_sound s.0 → (front t u : List ℕ) (n : ℕ) (i : Item) → i ≡ told_as fault (CommentToken front) n (standing old InData) → line_breaks (take n u) ≡ 0 → drop n u ≡ t
+      → play (noting Sink.step Sink.is_quiet) noting_error (noting_cdata Sink.asks_cdata) (noting_end Sink.ended) (rows_of old) i b s u ≡ (noting Sink.step Sink.is_quiet (s.0, more (owed_for fault) s.1) (CommentToken front) (line_number b) >>= λ p. reading (noting Sink.step Sink.is_quiet) noting_error (noting_cdata Sink.asks_cdata) (noting_end Sink.ended) (rows_of old) (standing old InData) (b + 0) p.0 t)
+  comment-says fault old b s h front t u n i is unbroken left = end-says Sink laws fault old b s h (CommentToken front) t u n i tt is unbroken left
 
   pub bogus-says : (old : Tokenizer K) → CommentSays state.BogusComment old a_fault old.comment
   unfolding held_at
@@ -144,136 +145,136 @@ module _ {K S H : Type 0} (step : Step S) (view : K → S) (cdata : S → Bool) 
   end_bang-says old b s h t = comment-says (Some Grave) old b s h old.comment t (45 ∷ 45 ∷ 33 ∷ 62 ∷ t) 4 _ refl refl refl
 
   -- The comment was told, or could not be told.
-  pub comment-took : {owed : Owed} (old new : Tokenizer K) (c : ℕ) (st : State) (front : List ℕ) → c ≡ 62 → IsAt old st → sound (view old.sink) → Told step view cdata ends sound number broken errors quiet owed (CommentToken front) (emitted old) new → CommentSays st old owed front → Took step view cdata ends sound number broken errors quiet old new c flow.Continue
-  comment-took old new c st front e from ok told says = emitted-took step view cdata ends sound number broken errors quiet laws old (emitted old) new c st (CommentToken front) e from ok refl refl (record { state = refl; fresh = from.fresh }) told says
+  pub comment-took : {owed : Owed} (old new : Tokenizer K) (c : ℕ) (st : State) (front : List ℕ) → c ≡ 62 → IsAt old st → Sink.is_sound (Sink.view old.sink) → Told Sink owed (CommentToken front) (emitted old) new → CommentSays st old owed front → Took Sink old new c flow.Continue
+  comment-took old new c st front e from ok told says = emitted-took Sink laws old (emitted old) new c st (CommentToken front) e from ok refl refl (record { state = refl; fresh = from.fresh }) told says
 
   -- The same of a comment that ended well, of which no error was told.
-  pub comment-took_well : (old new : Tokenizer K) (c : ℕ) (st : State) (front : List ℕ) → c ≡ 62 → IsAt old st → sound (view old.sink) → Told step view cdata ends sound number broken errors quiet nothing (CommentToken front) (emitted old) new → CommentSays st old (owed_for (Some Slight)) front → Took step view cdata ends sound number broken errors quiet old new c flow.Continue
-  comment-took_well old new c st front e from ok told says = comment-took old new c st front e from ok (tells-less step view cdata ends sound number broken errors quiet laws nothing (owed_for (Some Slight)) (emitted old) new (CommentToken front) (Ok tt) (slighted-no-more true None) told) says
+  pub comment-took_well : (old new : Tokenizer K) (c : ℕ) (st : State) (front : List ℕ) → c ≡ 62 → IsAt old st → Sink.is_sound (Sink.view old.sink) → Told Sink nothing (CommentToken front) (emitted old) new → CommentSays st old (owed_for (Some Slight)) front → Took Sink old new c flow.Continue
+  comment-took_well old new c st front e from ok told says = comment-took old new c st front e from ok (tells-less Sink laws nothing (owed_for (Some Slight)) (emitted old) new (CommentToken front) (Ok tt) (slighted-no-more true None) told) says
 
-  pub comment-failed : (owed : Owed) (old new : Tokenizer K) (c : ℕ) (st : State) (front : List ℕ) (result : Result (ProcessResult H) ParseFault) (fault : ParseFault) → c ≡ 62 → IsAt old st → sound (view old.sink) → IsErrAnd result (λ y. y ≡ fault)
-      → Fails step view cdata ends sound number broken errors quiet old.sink (step (view old.sink) (CommentToken front) (line_number old.stream.breaks)) fault → CommentSays st old owed front → Keeps step view cdata ends sound number broken errors quiet old new c result
-  comment-failed owed old new c st front result fault e from ok is fails says = emitted-failed step view cdata ends sound number broken errors quiet laws owed old (emitted old) new c st (CommentToken front) result fault e from ok is fails says
+  pub comment-failed : (owed : Owed) (old new : Tokenizer K) (c : ℕ) (st : State) (front : List ℕ) (result : Result (ProcessResult H) ParseFault) (fault : ParseFault) → c ≡ 62 → IsAt old st → Sink.is_sound (Sink.view old.sink) → IsErrAnd result (λ y. y ≡ fault)
+      → Fails Sink old.sink (Sink.step (Sink.view old.sink) (CommentToken front) (line_number old.stream.breaks)) fault → CommentSays st old owed front → Keeps Sink old new c result
+  comment-failed owed old new c st front result fault e from ok is fails says = emitted-failed Sink laws owed old (emitted old) new c st (CommentToken front) result fault e from ok is fails says
 
   -- What is slight before a comment changes nothing.
   module _ (old : Tokenizer K) (c : ℕ) where
-    pub bogus-absorbs : IsAt old state.BogusComment → Absorbs step view cdata ends sound number broken errors quiet old c
+    pub bogus-absorbs : IsAt old state.BogusComment → Absorbs Sink old c
     unfolding held_at
-    bogus-absorbs from = state-absorbs step view cdata ends sound number broken errors quiet laws old c state.BogusComment from (λ b s t. item-absorbs step view cdata ends sound number broken errors quiet laws old (bogus_comment_after (standing old InData) old.comment (c ∷ t)) b s (c ∷ t) (bogus-fault (standing old InData) old.comment (c ∷ t)))
+    bogus-absorbs from = state-absorbs Sink laws old c state.BogusComment from (λ b s t. item-absorbs Sink laws old (bogus_comment_after (standing old InData) old.comment (c ∷ t)) b s (c ∷ t) (bogus-fault (standing old InData) old.comment (c ∷ t)))
 
-    pub comment-absorbs : IsAt old state.Comment → Absorbs step view cdata ends sound number broken errors quiet old c
+    pub comment-absorbs : IsAt old state.Comment → Absorbs Sink old c
     unfolding held_at
-    comment-absorbs from = state-absorbs step view cdata ends sound number broken errors quiet laws old c state.Comment from (λ b s t. item-absorbs step view cdata ends sound number broken errors quiet laws old (comment_after (standing old InData) old.comment (c ∷ t)) b s (c ∷ t) (comment-fault (standing old InData) old.comment (c ∷ t)))
+    comment-absorbs from = state-absorbs Sink laws old c state.Comment from (λ b s t. item-absorbs Sink laws old (comment_after (standing old InData) old.comment (c ∷ t)) b s (c ∷ t) (comment-fault (standing old InData) old.comment (c ∷ t)))
 
-    pub end-absorbs : IsAt old state.CommentEnd → Absorbs step view cdata ends sound number broken errors quiet old c
+    pub end-absorbs : IsAt old state.CommentEnd → Absorbs Sink old c
     unfolding held_at
-    end-absorbs from = state-absorbs step view cdata ends sound number broken errors quiet laws old c state.CommentEnd from (λ b s t. item-absorbs step view cdata ends sound number broken errors quiet laws old (comment_after (standing old InData) old.comment (45 ∷ 45 ∷ c ∷ t)) b s (45 ∷ 45 ∷ c ∷ t) (comment-fault (standing old InData) old.comment (45 ∷ 45 ∷ c ∷ t)))
+    end-absorbs from = state-absorbs Sink laws old c state.CommentEnd from (λ b s t. item-absorbs Sink laws old (comment_after (standing old InData) old.comment (45 ∷ 45 ∷ c ∷ t)) b s (45 ∷ 45 ∷ c ∷ t) (comment-fault (standing old InData) old.comment (45 ∷ 45 ∷ c ∷ t)))
 
   -- A character more of the comment is held, or of what may end it.
-  module _ (old : Tokenizer K) (c : ℕ) (ok : sound (view old.sink)) where
+  module _ (old : Tokenizer K) (c : ℕ) (ok : Sink.is_sound (Sink.view old.sink)) where
     moves : (st st' : State) (front : List ℕ) → IsAt old st
-        → ((b : ℕ) (s : S × Notes ℕ) (t : List ℕ) → at step view cdata ends sound number broken errors quiet st old b s (c ∷ t) ≡ at step view cdata ends sound number broken errors quiet st' (holding old front st') (b + line_break (nat_eq c 10)) s t)
-        → Took step view cdata ends sound number broken errors quiet old (holding old front st') c flow.Continue
-    moves st st' front from law = took step view cdata ends sound number broken errors quiet old (holding old front st') c st st' from (record { state = refl; fresh = from.fresh }) refl refl ok law
+        → ((b : ℕ) (s : Sink.State × Notes ℕ) (t : List ℕ) → at Sink st old b s (c ∷ t) ≡ at Sink st' (holding old front st') (b + line_break (nat_eq c 10)) s t)
+        → Took Sink old (holding old front st') c flow.Continue
+    moves st st' front from law = took Sink old (holding old front st') c st st' from (record { state = refl; fresh = from.fresh }) refl refl ok law
 
     -- the same where the machine stays in its state
     grows : (st : State) (front : List ℕ) → IsAt old st
-        → ((b : ℕ) (s : S × Notes ℕ) (t : List ℕ) → at step view cdata ends sound number broken errors quiet st old b s (c ∷ t) ≡ at step view cdata ends sound number broken errors quiet st (record old { comment = front }) (b + line_break (nat_eq c 10)) s t)
-        → Took step view cdata ends sound number broken errors quiet old (record old { comment = front }) c flow.Continue
-    grows st front from law = took step view cdata ends sound number broken errors quiet old (record old { comment = front }) c st st from (record { state = from.state; fresh = from.fresh }) refl refl ok law
+        → ((b : ℕ) (s : Sink.State × Notes ℕ) (t : List ℕ) → at Sink st old b s (c ∷ t) ≡ at Sink st (record old { comment = front }) (b + line_break (nat_eq c 10)) s t)
+        → Took Sink old (record old { comment = front }) c flow.Continue
+    grows st front from law = took Sink old (record old { comment = front }) c st st from (record { state = from.state; fresh = from.fresh }) refl refl ok law
 
-    pub bogus-push : (front : List ℕ) → IsAt old state.BogusComment → nat_eq c 62 ≡ false → front ≡ old.comment ++ shown c ∷ [] → Took step view cdata ends sound number broken errors quiet old (record old { comment = front }) c flow.Continue
+    pub bogus-push : (front : List ℕ) → IsAt old state.BogusComment → nat_eq c 62 ≡ false → front ≡ old.comment ++ shown c ∷ [] → Took Sink old (record old { comment = front }) c flow.Continue
     unfolding held_at
-    bogus-push front from e is = rw is (grows state.BogusComment (old.comment ++ shown c ∷ []) from (λ b s t. play-is (noting step quiet) noting_error (noting_cdata cdata) (noting_end ends) (rows_of old) _ _ b s c t (rw e refl)))
+    bogus-push front from e is = rw is (grows state.BogusComment (old.comment ++ shown c ∷ []) from (λ b s t. play-is (noting Sink.step Sink.is_quiet) noting_error (noting_cdata Sink.asks_cdata) (noting_end Sink.ended) (rows_of old) _ _ b s c t (rw e refl)))
 
-    pub comment-push : (front : List ℕ) → IsAt old state.Comment → nat_eq c 45 ≡ false → front ≡ old.comment ++ shown c ∷ [] → Took step view cdata ends sound number broken errors quiet old (record old { comment = front }) c flow.Continue
+    pub comment-push : (front : List ℕ) → IsAt old state.Comment → nat_eq c 45 ≡ false → front ≡ old.comment ++ shown c ∷ [] → Took Sink old (record old { comment = front }) c flow.Continue
     unfolding held_at
-    comment-push front from e is = rw is (grows state.Comment (old.comment ++ shown c ∷ []) from (λ b s t. play-is (noting step quiet) noting_error (noting_cdata cdata) (noting_end ends) (rows_of old) _ _ b s c t (comment-goes_on (standing old InData) old.comment c t (end-letter c t e))))
+    comment-push front from e is = rw is (grows state.Comment (old.comment ++ shown c ∷ []) from (λ b s t. play-is (noting Sink.step Sink.is_quiet) noting_error (noting_cdata Sink.asks_cdata) (noting_end Sink.ended) (rows_of old) _ _ b s c t (comment-goes_on (standing old InData) old.comment c t (end-letter c t e))))
 
   -- A dash or "!" is held beside the comment.
-  module _ (old : Tokenizer K) (ok : sound (view old.sink)) where
-    pub start-dash : IsAt old state.CommentStart → Took step view cdata ends sound number broken errors quiet old (record old { state = state.CommentStartDash }) 45 flow.Continue
+  module _ (old : Tokenizer K) (ok : Sink.is_sound (Sink.view old.sink)) where
+    pub start-dash : IsAt old state.CommentStart → Took Sink old (record old { state = state.CommentStartDash }) 45 flow.Continue
     unfolding held_at
-    start-dash from = moves old 45 ok state.CommentStart state.CommentStartDash old.comment from (λ b s t. same-text step view cdata ends sound number broken errors quiet laws old _ b s (45 ∷ t))
+    start-dash from = moves old 45 ok state.CommentStart state.CommentStartDash old.comment from (λ b s t. same-text Sink laws old _ b s (45 ∷ t))
 
-    pub start_dash-dash : (front : List ℕ) → front ≡ [] → IsAt old state.CommentStartDash → Took step view cdata ends sound number broken errors quiet old (holding old front state.CommentEnd) 45 flow.Continue
+    pub start_dash-dash : (front : List ℕ) → front ≡ [] → IsAt old state.CommentStartDash → Took Sink old (holding old front state.CommentEnd) 45 flow.Continue
     unfolding held_at
-    start_dash-dash front is from = rw is (moves old 45 ok state.CommentStartDash state.CommentEnd [] from (λ b s t. same-text step view cdata ends sound number broken errors quiet laws old _ b s (45 ∷ 45 ∷ t)))
+    start_dash-dash front is from = rw is (moves old 45 ok state.CommentStartDash state.CommentEnd [] from (λ b s t. same-text Sink laws old _ b s (45 ∷ 45 ∷ t)))
 
-    pub comment-dash : IsAt old state.Comment → Took step view cdata ends sound number broken errors quiet old (record old { state = state.CommentEndDash }) 45 flow.Continue
+    pub comment-dash : IsAt old state.Comment → Took Sink old (record old { state = state.CommentEndDash }) 45 flow.Continue
     unfolding held_at
-    comment-dash from = moves old 45 ok state.Comment state.CommentEndDash old.comment from (λ b s t. same-text step view cdata ends sound number broken errors quiet laws old _ b s (45 ∷ t))
+    comment-dash from = moves old 45 ok state.Comment state.CommentEndDash old.comment from (λ b s t. same-text Sink laws old _ b s (45 ∷ t))
 
-    pub end_dash-dash : IsAt old state.CommentEndDash → Took step view cdata ends sound number broken errors quiet old (record old { state = state.CommentEnd }) 45 flow.Continue
+    pub end_dash-dash : IsAt old state.CommentEndDash → Took Sink old (record old { state = state.CommentEnd }) 45 flow.Continue
     unfolding held_at
-    end_dash-dash from = moves old 45 ok state.CommentEndDash state.CommentEnd old.comment from (λ b s t. same-text step view cdata ends sound number broken errors quiet laws old _ b s (45 ∷ 45 ∷ t))
+    end_dash-dash from = moves old 45 ok state.CommentEndDash state.CommentEnd old.comment from (λ b s t. same-text Sink laws old _ b s (45 ∷ 45 ∷ t))
 
-    pub end-bang_held : IsAt old state.CommentEnd → Took step view cdata ends sound number broken errors quiet old (record old { state = state.CommentEndBang }) 33 flow.Continue
+    pub end-bang_held : IsAt old state.CommentEnd → Took Sink old (record old { state = state.CommentEndBang }) 33 flow.Continue
     unfolding held_at
-    end-bang_held from = moves old 33 ok state.CommentEnd state.CommentEndBang old.comment from (λ b s t. same-text step view cdata ends sound number broken errors quiet laws old _ b s (45 ∷ 45 ∷ 33 ∷ t))
+    end-bang_held from = moves old 33 ok state.CommentEnd state.CommentEndBang old.comment from (λ b s t. same-text Sink laws old _ b s (45 ∷ 45 ∷ 33 ∷ t))
 
-    pub end-dash_more : (front : List ℕ) → front ≡ old.comment ++ 45 ∷ [] → IsAt old state.CommentEnd → Took step view cdata ends sound number broken errors quiet old (record old { comment = front }) 45 flow.Continue
+    pub end-dash_more : (front : List ℕ) → front ≡ old.comment ++ 45 ∷ [] → IsAt old state.CommentEnd → Took Sink old (record old { comment = front }) 45 flow.Continue
     unfolding held_at
     end-dash_more front is from = rw is (grows old 45 ok state.CommentEnd (old.comment ++ 45 ∷ []) from (λ b s t.
-        play-is (noting step quiet) noting_error (noting_cdata cdata) (noting_end ends) (rows_of old) _ _ b s 45 (45 ∷ 45 ∷ t) (comment-goes_on (standing old InData) old.comment 45 (45 ∷ 45 ∷ t) (end-dashes 45 t refl refl))))
+        play-is (noting Sink.step Sink.is_quiet) noting_error (noting_cdata Sink.asks_cdata) (noting_end Sink.ended) (rows_of old) _ _ b s 45 (45 ∷ 45 ∷ t) (comment-goes_on (standing old InData) old.comment 45 (45 ∷ 45 ∷ t) (end-dashes 45 t refl refl))))
 
   -- What was held ends nothing, and the character is of the comment.
-  module _ (old new : Tokenizer K) (c : ℕ) (result : Result (ProcessResult H) ParseFault) (front : List ℕ) (keeps : Keeps step view cdata ends sound number broken errors quiet (holding old front state.Comment) new c result) where
-    goes-on : (st : State) → IsAt old st → ((b : ℕ) (s : S × Notes ℕ) (t : List ℕ) → at step view cdata ends sound number broken errors quiet st old b s (c ∷ t) ≡ at step view cdata ends sound number broken errors quiet state.Comment (holding old front state.Comment) b s (c ∷ t)) → Keeps step view cdata ends sound number broken errors quiet old new c result
-    goes-on st from law = keeps_silent step view cdata ends sound number broken errors quiet old (holding old front state.Comment) new c st state.Comment result from (record { state = refl; fresh = from.fresh }) refl refl law keeps
+  module _ (old new : Tokenizer K) (c : ℕ) (result : Result (ProcessResult H) ParseFault) (front : List ℕ) (keeps : Keeps Sink (holding old front state.Comment) new c result) where
+    goes-on : (st : State) → IsAt old st → ((b : ℕ) (s : Sink.State × Notes ℕ) (t : List ℕ) → at Sink st old b s (c ∷ t) ≡ at Sink state.Comment (holding old front state.Comment) b s (c ∷ t)) → Keeps Sink old new c result
+    goes-on st from law = keeps_silent Sink old (holding old front state.Comment) new c st state.Comment result from (record { state = refl; fresh = from.fresh }) refl refl law keeps
 
-    pub start-other : IsAt old state.CommentStart → front ≡ [] → nat_eq 62 c ≡ false → nat_eq 45 c ≡ false → Keeps step view cdata ends sound number broken errors quiet old new c result
+    pub start-other : IsAt old state.CommentStart → front ≡ [] → nat_eq 62 c ≡ false → nat_eq 45 c ≡ false → Keeps Sink old new c result
     unfolding held_at
     start-other from is e f = goes-on state.CommentStart from (λ b s t.
-        ap (λ i. play (noting step quiet) noting_error (noting_cdata cdata) (noting_end ends) (rows_of old) i b s (c ∷ t)) (at-other (standing old InData) c t e f)
-        ∙ ap (λ x. play (noting step quiet) noting_error (noting_cdata cdata) (noting_end ends) (rows_of old) (comment_after (standing old InData) x (c ∷ t)) b s (c ∷ t)) (sym is))
+        ap (λ i. play (noting Sink.step Sink.is_quiet) noting_error (noting_cdata Sink.asks_cdata) (noting_end Sink.ended) (rows_of old) i b s (c ∷ t)) (at-other (standing old InData) c t e f)
+        ∙ ap (λ x. play (noting Sink.step Sink.is_quiet) noting_error (noting_cdata Sink.asks_cdata) (noting_end Sink.ended) (rows_of old) (comment_after (standing old InData) x (c ∷ t)) b s (c ∷ t)) (sym is))
 
-    pub start_dash-other : IsAt old state.CommentStartDash → front ≡ 45 ∷ [] → nat_eq 62 c ≡ false → nat_eq c 45 ≡ false → Keeps step view cdata ends sound number broken errors quiet old new c result
+    pub start_dash-other : IsAt old state.CommentStartDash → front ≡ 45 ∷ [] → nat_eq 62 c ≡ false → nat_eq c 45 ≡ false → Keeps Sink old new c result
     unfolding held_at
     start_dash-other from is e f = goes-on state.CommentStartDash from (λ b s t.
-        behind-one step view cdata ends sound number broken errors quiet laws old 45 refl (comment_at (standing old InData) (45 ∷ c ∷ t)) (comment_after (standing old InData) (45 ∷ []) (c ∷ t)) b s (c ∷ t) (at-dash (standing old InData) c t e f)
-        ∙ ap (λ x. play (noting step quiet) noting_error (noting_cdata cdata) (noting_end ends) (rows_of old) (comment_after (standing old InData) x (c ∷ t)) b s (c ∷ t)) (sym is))
+        behind-one Sink laws old 45 refl (comment_at (standing old InData) (45 ∷ c ∷ t)) (comment_after (standing old InData) (45 ∷ []) (c ∷ t)) b s (c ∷ t) (at-dash (standing old InData) c t e f)
+        ∙ ap (λ x. play (noting Sink.step Sink.is_quiet) noting_error (noting_cdata Sink.asks_cdata) (noting_end Sink.ended) (rows_of old) (comment_after (standing old InData) x (c ∷ t)) b s (c ∷ t)) (sym is))
 
-    pub end_dash-other : IsAt old state.CommentEndDash → front ≡ old.comment ++ 45 ∷ [] → nat_eq c 45 ≡ false → Keeps step view cdata ends sound number broken errors quiet old new c result
+    pub end_dash-other : IsAt old state.CommentEndDash → front ≡ old.comment ++ 45 ∷ [] → nat_eq c 45 ≡ false → Keeps Sink old new c result
     unfolding held_at
     end_dash-other from is e = goes-on state.CommentEndDash from (λ b s t.
-        behind-one step view cdata ends sound number broken errors quiet laws old 45 refl _ _ b s (c ∷ t) (dash-letter (standing old InData) old.comment c t e)
-        ∙ ap (λ x. play (noting step quiet) noting_error (noting_cdata cdata) (noting_end ends) (rows_of old) (comment_after (standing old InData) x (c ∷ t)) b s (c ∷ t)) (sym is))
+        behind-one Sink laws old 45 refl _ _ b s (c ∷ t) (dash-letter (standing old InData) old.comment c t e)
+        ∙ ap (λ x. play (noting Sink.step Sink.is_quiet) noting_error (noting_cdata Sink.asks_cdata) (noting_end Sink.ended) (rows_of old) (comment_after (standing old InData) x (c ∷ t)) b s (c ∷ t)) (sym is))
 
-    pub end-other : IsAt old state.CommentEnd → front ≡ old.comment ++ codes "--" → nat_eq c 62 ≡ false → nat_eq c 33 ≡ false → nat_eq c 45 ≡ false → Keeps step view cdata ends sound number broken errors quiet old new c result
+    pub end-other : IsAt old state.CommentEnd → front ≡ old.comment ++ codes "--" → nat_eq c 62 ≡ false → nat_eq c 33 ≡ false → nat_eq c 45 ≡ false → Keeps Sink old new c result
     unfolding held_at
     end-other from is e f h = goes-on state.CommentEnd from (λ b s t.
-        behind-one step view cdata ends sound number broken errors quiet laws old 45 refl _ _ b s (45 ∷ c ∷ t) (dashes-letter (standing old InData) old.comment c t e f h)
-        ∙ behind-one step view cdata ends sound number broken errors quiet laws old 45 refl _ _ b s (c ∷ t) refl
-        ∙ ap (λ x. play (noting step quiet) noting_error (noting_cdata cdata) (noting_end ends) (rows_of old) (comment_after (standing old InData) x (c ∷ t)) b s (c ∷ t)) (sym is))
+        behind-one Sink laws old 45 refl _ _ b s (45 ∷ c ∷ t) (dashes-letter (standing old InData) old.comment c t e f h)
+        ∙ behind-one Sink laws old 45 refl _ _ b s (c ∷ t) refl
+        ∙ ap (λ x. play (noting Sink.step Sink.is_quiet) noting_error (noting_cdata Sink.asks_cdata) (noting_end Sink.ended) (rows_of old) (comment_after (standing old InData) x (c ∷ t)) b s (c ∷ t)) (sym is))
 
-    pub bang-other : IsAt old state.CommentEndBang → front ≡ old.comment ++ codes "--!" → nat_eq c 62 ≡ false → Keeps step view cdata ends sound number broken errors quiet old new c result
+    pub bang-other : IsAt old state.CommentEndBang → front ≡ old.comment ++ codes "--!" → nat_eq c 62 ≡ false → Keeps Sink old new c result
     unfolding held_at
     bang-other from is e = goes-on state.CommentEndBang from (λ b s t.
         let left : Item = comment_after (standing old InData) (old.comment ++ codes "--!") (c ∷ t) in
-        behind-one step view cdata ends sound number broken errors quiet laws old 45 refl (comment_after (standing old InData) old.comment (45 ∷ 45 ∷ 33 ∷ c ∷ t)) (behind (behind left)) b s (45 ∷ 33 ∷ c ∷ t) (bang-letter (standing old InData) old.comment c t e)
-        ∙ behind-one step view cdata ends sound number broken errors quiet laws old 45 refl (behind (behind left)) (behind left) b s (33 ∷ c ∷ t) refl
-        ∙ behind-one step view cdata ends sound number broken errors quiet laws old 33 refl (behind left) left b s (c ∷ t) refl
-        ∙ ap (λ x. play (noting step quiet) noting_error (noting_cdata cdata) (noting_end ends) (rows_of old) (comment_after (standing old InData) x (c ∷ t)) b s (c ∷ t)) (sym is))
+        behind-one Sink laws old 45 refl (comment_after (standing old InData) old.comment (45 ∷ 45 ∷ 33 ∷ c ∷ t)) (behind (behind left)) b s (45 ∷ 33 ∷ c ∷ t) (bang-letter (standing old InData) old.comment c t e)
+        ∙ behind-one Sink laws old 45 refl (behind (behind left)) (behind left) b s (33 ∷ c ∷ t) refl
+        ∙ behind-one Sink laws old 33 refl (behind left) left b s (c ∷ t) refl
+        ∙ ap (λ x. play (noting Sink.step Sink.is_quiet) noting_error (noting_cdata Sink.asks_cdata) (noting_end Sink.ended) (rows_of old) (comment_after (standing old InData) x (c ∷ t)) b s (c ∷ t)) (sym is))
 
   -- States within a comment that are never entered are read as those that they stand for.
   module _ (old new : Tokenizer K) (c : ℕ) (result : Result (ProcessResult H) ParseFault) where
-    stands-for : (st st' : State) → IsAt old st → ((b : ℕ) (s : S × Notes ℕ) (t : List ℕ) → at step view cdata ends sound number broken errors quiet st old b s (c ∷ t) ≡ at step view cdata ends sound number broken errors quiet st' (record old { state = st' }) b s (c ∷ t))
-        → Keeps step view cdata ends sound number broken errors quiet (record old { state = st' }) new c result → Keeps step view cdata ends sound number broken errors quiet old new c result
-    stands-for st st' from law keeps = keeps_silent step view cdata ends sound number broken errors quiet old (record old { state = st' }) new c st st' result from (record { state = refl; fresh = from.fresh }) refl refl law keeps
+    stands-for : (st st' : State) → IsAt old st → ((b : ℕ) (s : Sink.State × Notes ℕ) (t : List ℕ) → at Sink st old b s (c ∷ t) ≡ at Sink st' (record old { state = st' }) b s (c ∷ t))
+        → Keeps Sink (record old { state = st' }) new c result → Keeps Sink old new c result
+    stands-for st st' from law keeps = keeps_silent Sink old (record old { state = st' }) new c st st' result from (record { state = refl; fresh = from.fresh }) refl refl law keeps
 
-    pub less-than-kept : IsAt old state.CommentLessThanSign → Keeps step view cdata ends sound number broken errors quiet (record old { state = state.Comment }) new c result → Keeps step view cdata ends sound number broken errors quiet old new c result
+    pub less-than-kept : IsAt old state.CommentLessThanSign → Keeps Sink (record old { state = state.Comment }) new c result → Keeps Sink old new c result
     unfolding held_at
     less-than-kept from keeps = stands-for state.CommentLessThanSign state.Comment from (λ b s t. refl) keeps
 
-    pub less-than-bang_kept : IsAt old state.CommentLessThanSignBang → Keeps step view cdata ends sound number broken errors quiet (record old { state = state.Comment }) new c result → Keeps step view cdata ends sound number broken errors quiet old new c result
+    pub less-than-bang_kept : IsAt old state.CommentLessThanSignBang → Keeps Sink (record old { state = state.Comment }) new c result → Keeps Sink old new c result
     unfolding held_at
     less-than-bang_kept from keeps = stands-for state.CommentLessThanSignBang state.Comment from (λ b s t. refl) keeps
 
-    pub less-than-dash_kept : IsAt old state.CommentLessThanSignBangDash → Keeps step view cdata ends sound number broken errors quiet (record old { state = state.CommentEndDash }) new c result → Keeps step view cdata ends sound number broken errors quiet old new c result
+    pub less-than-dash_kept : IsAt old state.CommentLessThanSignBangDash → Keeps Sink (record old { state = state.CommentEndDash }) new c result → Keeps Sink old new c result
     unfolding held_at
     less-than-dash_kept from keeps = stands-for state.CommentLessThanSignBangDash state.CommentEndDash from (λ b s t. refl) keeps
 
-    pub less-than-dashes_kept : IsAt old state.CommentLessThanSignBangDashDash → Keeps step view cdata ends sound number broken errors quiet (record old { state = state.CommentEnd }) new c result → Keeps step view cdata ends sound number broken errors quiet old new c result
+    pub less-than-dashes_kept : IsAt old state.CommentLessThanSignBangDashDash → Keeps Sink (record old { state = state.CommentEnd }) new c result → Keeps Sink old new c result
     unfolding held_at
     less-than-dashes_kept from keeps = stands-for state.CommentLessThanSignBangDashDash state.CommentEnd from (λ b s t. refl) keeps

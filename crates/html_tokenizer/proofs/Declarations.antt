@@ -7,6 +7,7 @@ use Rattle.html_tokens.specs.declared.replies.ProcessResult.{ProcessResult}
 use Rattle.html_tokens.specs.declared.replies.ProcessResult.TheVariants as flow
 use Rattle.html_tokens.specs.declared.states.State.TheVariants as state
 use Rattle.html_tokens.specs.declared.token.Token.{Token}
+use Rattle.html_tokens.specs.declared.sink.TokenSink.{Ghosts}
 use Rattle.html_tokens.specs.Characters.{begins, begins_any_case}
 use Rattle.html_tokens.specs.Comments.{comment_at, bogus_comment_after}
 use Rattle.html_tokens.specs.Doctypes.{doctype_at}
@@ -105,60 +106,60 @@ part-more cs c h = by-word (may_become word.Dashes (cs ++ c ∷ [])) (may_become
 
 -- STATES
 
-module _ {K S H : Type 0} (step : Step S) (view : K → S) (cdata : S → Bool) (ends : S → S) (sound : S → Type 0) (number : H → ℕ) (broken : K → Bool) (errors : K → ℕ) (quiet : S → Token → Bool) (laws : SinkLaws sound step ends quiet) where
+module _ {K H : Type 0} (Sink : Ghosts K H) (laws : SinkLaws Sink.is_sound Sink.step Sink.ended Sink.is_quiet) where
   -- an item behind characters of words
-  pub play-plain : (old : Tokenizer K) (cs t : List ℕ) (j : Item) (b : ℕ) (s : S × Notes ℕ) → list_all is_plain cs ≡ true
-      → play (noting step quiet) noting_error (noting_cdata cdata) (noting_end ends) (rows_of old) (behind_all (length cs) j) b s (cs ++ t) ≡ play (noting step quiet) noting_error (noting_cdata cdata) (noting_end ends) (rows_of old) j b s t
+  pub play-plain : (old : Tokenizer K) (cs t : List ℕ) (j : Item) (b : ℕ) (s : Sink.State × Notes ℕ) → list_all is_plain cs ≡ true
+      → play (noting Sink.step Sink.is_quiet) noting_error (noting_cdata Sink.asks_cdata) (noting_end Sink.ended) (rows_of old) (behind_all (length cs) j) b s (cs ++ t) ≡ play (noting Sink.step Sink.is_quiet) noting_error (noting_cdata Sink.asks_cdata) (noting_end Sink.ended) (rows_of old) j b s t
   play-plain old [] t j b s h = refl
   play-plain old (c ∷ cs) t j b s h =
       let p = and_parts (is_plain c) (list_all is_plain cs) h in
-      behind-one step view cdata ends sound number broken errors quiet laws old c (plain-break c p.0) (behind_all (length (c ∷ cs)) j) (behind_all (length cs) j) b s (cs ++ t) refl
+      behind-one Sink laws old c (plain-break c p.0) (behind_all (length (c ∷ cs)) j) (behind_all (length cs) j) b s (cs ++ t) refl
       ∙ play-plain old cs t j b s p.1
 
   -- a declaration, read from behind what was read of it
-  read-declared : (old : Tokenizer K) (cs t : List ℕ) (j : Item) (b : ℕ) (s : S × Notes ℕ) → list_all is_plain cs ≡ true → declaration_at (cdata s.0) (standing old InData) (cs ++ t) ≡ behind_all 2 (behind_all (length cs) j)
-      → reading (noting step quiet) noting_error (noting_cdata cdata) (noting_end ends) (rows_of old) (standing old InData) b s (60 ∷ 33 ∷ (cs ++ t)) ≡ play (noting step quiet) noting_error (noting_cdata cdata) (noting_end ends) (rows_of old) j b s t
+  read-declared : (old : Tokenizer K) (cs t : List ℕ) (j : Item) (b : ℕ) (s : Sink.State × Notes ℕ) → list_all is_plain cs ≡ true → declaration_at (Sink.asks_cdata s.0) (standing old InData) (cs ++ t) ≡ behind_all 2 (behind_all (length cs) j)
+      → reading (noting Sink.step Sink.is_quiet) noting_error (noting_cdata Sink.asks_cdata) (noting_end Sink.ended) (rows_of old) (standing old InData) b s (60 ∷ 33 ∷ (cs ++ t)) ≡ play (noting Sink.step Sink.is_quiet) noting_error (noting_cdata Sink.asks_cdata) (noting_end Sink.ended) (rows_of old) j b s t
   read-declared old cs t j b s h is =
-      opened step view cdata ends sound number broken errors quiet laws old b s (33 ∷ (cs ++ t)) (behind (behind_all (length cs) j)) is
-      ∙ behind-one step view cdata ends sound number broken errors quiet laws old 33 refl (behind (behind_all (length cs) j)) (behind_all (length cs) j) b s (cs ++ t) refl
+      opened Sink laws old b s (33 ∷ (cs ++ t)) (behind (behind_all (length cs) j)) is
+      ∙ behind-one Sink laws old 33 refl (behind (behind_all (length cs) j)) (behind_all (length cs) j) b s (cs ++ t) refl
       ∙ play-plain old cs t j b s h
 
   -- the same where c makes the word whole
-  read-word : (old : Tokenizer K) (cs : List ℕ) (c : ℕ) (t : List ℕ) (w : Word) (j : Item) (b : ℕ) (s : S × Notes ℕ) → becomes w (cs ++ c ∷ []) ≡ true → declaration_at (cdata s.0) (standing old InData) ((cs ++ c ∷ []) ++ t) ≡ behind_all 2 (behind_all (length (cs ++ c ∷ [])) j)
-      → reading (noting step quiet) noting_error (noting_cdata cdata) (noting_end ends) (rows_of old) (standing old InData) b s (60 ∷ 33 ∷ (cs ++ c ∷ t)) ≡ play (noting step quiet) noting_error (noting_cdata cdata) (noting_end ends) (rows_of old) j (b + line_break (nat_eq c 10)) s t
+  read-word : (old : Tokenizer K) (cs : List ℕ) (c : ℕ) (t : List ℕ) (w : Word) (j : Item) (b : ℕ) (s : Sink.State × Notes ℕ) → becomes w (cs ++ c ∷ []) ≡ true → declaration_at (Sink.asks_cdata s.0) (standing old InData) ((cs ++ c ∷ []) ++ t) ≡ behind_all 2 (behind_all (length (cs ++ c ∷ [])) j)
+      → reading (noting Sink.step Sink.is_quiet) noting_error (noting_cdata Sink.asks_cdata) (noting_end Sink.ended) (rows_of old) (standing old InData) b s (60 ∷ 33 ∷ (cs ++ c ∷ t)) ≡ play (noting Sink.step Sink.is_quiet) noting_error (noting_cdata Sink.asks_cdata) (noting_end Sink.ended) (rows_of old) j (b + line_break (nat_eq c 10)) s t
   read-word old cs c t w j b s h is =
       let plain : list_all is_plain (cs ++ c ∷ []) ≡ true = word-plain w (cs ++ c ∷ []) h in
-      ap (λ u. reading (noting step quiet) noting_error (noting_cdata cdata) (noting_end ends) (rows_of old) (standing old InData) b s (60 ∷ 33 ∷ u)) (sym (append_assoc cs (c ∷ []) t))
+      ap (λ u. reading (noting Sink.step Sink.is_quiet) noting_error (noting_cdata Sink.asks_cdata) (noting_end Sink.ended) (rows_of old) (standing old InData) b s (60 ∷ 33 ∷ u)) (sym (append_assoc cs (c ∷ []) t))
       ∙ read-declared old (cs ++ c ∷ []) t j b s plain is
-      ∙ ap (λ x. play (noting step quiet) noting_error (noting_cdata cdata) (noting_end ends) (rows_of old) j x s t) (sym (no-break b c (plain-break c (last-plain cs c plain))))
+      ∙ ap (λ x. play (noting Sink.step Sink.is_quiet) noting_error (noting_cdata Sink.asks_cdata) (noting_end Sink.ended) (rows_of old) j x s t) (sym (no-break b c (plain-break c (last-plain cs c plain))))
 
-  module _ (old : Tokenizer K) (c : ℕ) (from : IsAt old state.MarkupDeclarationOpen) (ok : sound (view old.sink)) where
-    pub comment-opened : becomes word.Dashes (old.keyword ++ c ∷ []) ≡ true → Took step view cdata ends sound number broken errors quiet old (record old { state = state.CommentStart }) c flow.Continue
+  module _ (old : Tokenizer K) (c : ℕ) (from : IsAt old state.MarkupDeclarationOpen) (ok : Sink.is_sound (Sink.view old.sink)) where
+    pub comment-opened : becomes word.Dashes (old.keyword ++ c ∷ []) ≡ true → Took Sink old (record old { state = state.CommentStart }) c flow.Continue
     unfolding held_at
-    comment-opened h = took step view cdata ends sound number broken errors quiet old (record old { state = state.CommentStart }) c state.MarkupDeclarationOpen state.CommentStart from (record { state = refl; fresh = from.fresh }) refl refl ok
-        (λ b s t. read-word old old.keyword c t word.Dashes (comment_at (standing old InData) t) b s h (comment-declared (cdata s.0) (standing old InData) (old.keyword ++ c ∷ []) t h))
+    comment-opened h = took Sink old (record old { state = state.CommentStart }) c state.MarkupDeclarationOpen state.CommentStart from (record { state = refl; fresh = from.fresh }) refl refl ok
+        (λ b s t. read-word old old.keyword c t word.Dashes (comment_at (standing old InData) t) b s h (comment-declared (Sink.asks_cdata s.0) (standing old InData) (old.keyword ++ c ∷ []) t h))
 
-    pub doctype-opened : becomes word.Doctype (old.keyword ++ c ∷ []) ≡ true → Took step view cdata ends sound number broken errors quiet old (record old { state = state.Doctype }) c flow.Continue
+    pub doctype-opened : becomes word.Doctype (old.keyword ++ c ∷ []) ≡ true → Took Sink old (record old { state = state.Doctype }) c flow.Continue
     unfolding held_at
-    doctype-opened h = took step view cdata ends sound number broken errors quiet old (record old { state = state.Doctype }) c state.MarkupDeclarationOpen state.Doctype from (record { state = refl; fresh = from.fresh }) refl refl ok
-        (λ b s t. read-word old old.keyword c t word.Doctype (doctype_at (standing old InData) t) b s h (doctype-declared (cdata s.0) (standing old InData) (old.keyword ++ c ∷ []) t h))
+    doctype-opened h = took Sink old (record old { state = state.Doctype }) c state.MarkupDeclarationOpen state.Doctype from (record { state = refl; fresh = from.fresh }) refl refl ok
+        (λ b s t. read-word old old.keyword c t word.Doctype (doctype_at (standing old InData) t) b s h (doctype-declared (Sink.asks_cdata s.0) (standing old InData) (old.keyword ++ c ∷ []) t h))
 
     -- a section, where the sink says so
-    cdata-read : (b : ℕ) (s : S × Notes ℕ) (t : List ℕ) → cdata s.0 ≡ true → becomes word.Cdata (old.keyword ++ c ∷ []) ≡ true
-        → at step view cdata ends sound number broken errors quiet state.MarkupDeclarationOpen old b s (c ∷ t) ≡ at step view cdata ends sound number broken errors quiet state.CdataSection (record old { state = state.CdataSection }) (b + line_break (nat_eq c 10)) s t
+    cdata-read : (b : ℕ) (s : Sink.State × Notes ℕ) (t : List ℕ) → Sink.asks_cdata s.0 ≡ true → becomes word.Cdata (old.keyword ++ c ∷ []) ≡ true
+        → at Sink state.MarkupDeclarationOpen old b s (c ∷ t) ≡ at Sink state.CdataSection (record old { state = state.CdataSection }) (b + line_break (nat_eq c 10)) s t
     unfolding held_at
     cdata-read b s t asks h =
-        read-word old old.keyword c t word.Cdata (silent 0 (standing old InCdata)) b s h (cdata-declared (cdata s.0) (standing old InData) (old.keyword ++ c ∷ []) t asks h)
-        ∙ play-nothing (noting step quiet) noting_error (noting_cdata cdata) (noting_end ends) (rows_of old) (standing old InCdata) (b + line_break (nat_eq c 10)) s t
+        read-word old old.keyword c t word.Cdata (silent 0 (standing old InCdata)) b s h (cdata-declared (Sink.asks_cdata s.0) (standing old InData) (old.keyword ++ c ∷ []) t asks h)
+        ∙ play-nothing (noting Sink.step Sink.is_quiet) noting_error (noting_cdata Sink.asks_cdata) (noting_end Sink.ended) (rows_of old) (standing old InCdata) (b + line_break (nat_eq c 10)) s t
 
-    pub cdata-opened : cdata (view old.sink) ≡ true → becomes word.Cdata (old.keyword ++ c ∷ []) ≡ true → Took step view cdata ends sound number broken errors quiet old (record old { state = state.CdataSection }) c flow.Continue
+    pub cdata-opened : Sink.asks_cdata (Sink.view old.sink) ≡ true → becomes word.Cdata (old.keyword ++ c ∷ []) ≡ true → Took Sink old (record old { state = state.CdataSection }) c flow.Continue
     cdata-opened asks h = record {
       owed = nothing;
-      rises = rises-same errors old.sink old.sink refl;
+      rises = rises-same Sink.errors old.sink old.sink refl;
       same = λ notes t.
-          now-at step view cdata ends sound number broken errors quiet old state.MarkupDeclarationOpen old.stream.breaks (view old.sink, notes) (c ∷ t) from
-          ∙ cdata-read old.stream.breaks (view old.sink, notes) t asks h
-          ∙ sym (now-at step view cdata ends sound number broken errors quiet (record old { state = state.CdataSection }) state.CdataSection (old.stream.breaks + line_break (nat_eq c 10)) (view old.sink, notes) t (record { state = refl; fresh = from.fresh }));
+          now-at Sink old state.MarkupDeclarationOpen old.stream.breaks (Sink.view old.sink, notes) (c ∷ t) from
+          ∙ cdata-read old.stream.breaks (Sink.view old.sink, notes) t asks h
+          ∙ sym (now-at Sink (record old { state = state.CdataSection }) state.CdataSection (old.stream.breaks + line_break (nat_eq c 10)) (Sink.view old.sink, notes) t (record { state = refl; fresh = from.fresh }));
       stream = refl;
       sound = ok;
       fits = fits-at (record old { state = state.CdataSection }) state.CdataSection (record { state = refl; fresh = from.fresh });
@@ -167,27 +168,27 @@ module _ {K S H : Type 0} (step : Step S) (view : K → S) (cdata : S → Bool) 
     }
 
     -- a character more of a word
-    pub declaration-push : (front : List ℕ) → may_declare old.keyword c ≡ true → front ≡ old.keyword ++ c ∷ [] → Took step view cdata ends sound number broken errors quiet old (record old { keyword = front }) c flow.Continue
+    pub declaration-push : (front : List ℕ) → may_declare old.keyword c ≡ true → front ≡ old.keyword ++ c ∷ [] → Took Sink old (record old { keyword = front }) c flow.Continue
     unfolding held_at
     declaration-push front h is = rw is (
         let plain : is_plain c ≡ true = last-plain old.keyword c (part-plain (old.keyword ++ c ∷ []) (part-more old.keyword c h)) in
-        took step view cdata ends sound number broken errors quiet old (record old { keyword = old.keyword ++ c ∷ [] }) c state.MarkupDeclarationOpen state.MarkupDeclarationOpen from (record { state = from.state; fresh = from.fresh }) refl refl ok
+        took Sink old (record old { keyword = old.keyword ++ c ∷ [] }) c state.MarkupDeclarationOpen state.MarkupDeclarationOpen from (record { state = from.state; fresh = from.fresh }) refl refl ok
         (λ b s t.
-        ap (λ u. reading (noting step quiet) noting_error (noting_cdata cdata) (noting_end ends) (rows_of old) (standing old InData) b s (60 ∷ 33 ∷ u)) (sym (append_assoc old.keyword (c ∷ []) t))
-        ∙ ap (λ x. reading (noting step quiet) noting_error (noting_cdata cdata) (noting_end ends) (rows_of old) (standing old InData) x s (60 ∷ 33 ∷ ((old.keyword ++ c ∷ []) ++ t))) (sym (no-break b c (plain-break c plain)))))
+        ap (λ u. reading (noting Sink.step Sink.is_quiet) noting_error (noting_cdata Sink.asks_cdata) (noting_end Sink.ended) (rows_of old) (standing old InData) b s (60 ∷ 33 ∷ u)) (sym (append_assoc old.keyword (c ∷ []) t))
+        ∙ ap (λ x. reading (noting Sink.step Sink.is_quiet) noting_error (noting_cdata Sink.asks_cdata) (noting_end Sink.ended) (rows_of old) (standing old InData) x s (60 ∷ 33 ∷ ((old.keyword ++ c ∷ []) ++ t))) (sym (no-break b c (plain-break c plain)))))
 
   -- what was read is the front of a bogus comment
-  bogus-read : (old : Tokenizer K) (c : ℕ) (b : ℕ) (s : S × Notes ℕ) (t : List ℕ) → IsPart old.keyword → OpensNothing (cdata s.0) old.keyword c
-      → at step view cdata ends sound number broken errors quiet state.MarkupDeclarationOpen old b s (c ∷ t) ≡ at step view cdata ends sound number broken errors quiet state.BogusComment (record old { comment = old.keyword; state = state.BogusComment }) b s (c ∷ t)
+  bogus-read : (old : Tokenizer K) (c : ℕ) (b : ℕ) (s : Sink.State × Notes ℕ) (t : List ℕ) → IsPart old.keyword → OpensNothing (Sink.asks_cdata s.0) old.keyword c
+      → at Sink state.MarkupDeclarationOpen old b s (c ∷ t) ≡ at Sink state.BogusComment (record old { comment = old.keyword; state = state.BogusComment }) b s (c ∷ t)
   unfolding held_at
-  bogus-read old c b s t part h = read-declared old old.keyword (c ∷ t) (bogus_comment_after (standing old InData) old.keyword (c ∷ t)) b s (part-plain old.keyword part) (bogus-declared (cdata s.0) (standing old InData) old.keyword c t part h)
+  bogus-read old c b s t part h = read-declared old old.keyword (c ∷ t) (bogus_comment_after (standing old InData) old.keyword (c ∷ t)) b s (part-plain old.keyword part) (bogus-declared (Sink.asks_cdata s.0) (standing old InData) old.keyword c t part h)
 
-  pub bogus-opened : (old new : Tokenizer K) (c : ℕ) (front : List ℕ) (result : Result (ProcessResult H) ParseFault) → IsAt old state.MarkupDeclarationOpen → IsPart old.keyword → OpensNothing (cdata (view old.sink)) old.keyword c → front ≡ old.keyword
-      → Keeps step view cdata ends sound number broken errors quiet (record old { comment = front; state = state.BogusComment }) new c result → Keeps step view cdata ends sound number broken errors quiet old new c result
+  pub bogus-opened : (old new : Tokenizer K) (c : ℕ) (front : List ℕ) (result : Result (ProcessResult H) ParseFault) → IsAt old state.MarkupDeclarationOpen → IsPart old.keyword → OpensNothing (Sink.asks_cdata (Sink.view old.sink)) old.keyword c → front ≡ old.keyword
+      → Keeps Sink (record old { comment = front; state = state.BogusComment }) new c result → Keeps Sink old new c result
   bogus-opened old new c front result from part h is keeps =
       let mid : Tokenizer K = record old { comment = old.keyword; state = state.BogusComment } in
-      let keeps' : Keeps step view cdata ends sound number broken errors quiet mid new c result = rw is at keeps in
-      keeps-along step view cdata ends sound number broken errors quiet old mid new c result refl (λ x. x) (rises-same errors old.sink old.sink refl) (λ notes t.
-      now-at step view cdata ends sound number broken errors quiet old state.MarkupDeclarationOpen old.stream.breaks (view old.sink, notes) (c ∷ t) from
-      ∙ bogus-read old c old.stream.breaks (view old.sink, notes) t part h
-      ∙ sym (now-at step view cdata ends sound number broken errors quiet mid state.BogusComment old.stream.breaks (view old.sink, notes) (c ∷ t) (record { state = refl; fresh = from.fresh }))) keeps'
+      let keeps' : Keeps Sink mid new c result = rw is at keeps in
+      keeps-along Sink old mid new c result refl (λ x. x) (rises-same Sink.errors old.sink old.sink refl) (λ notes t.
+      now-at Sink old state.MarkupDeclarationOpen old.stream.breaks (Sink.view old.sink, notes) (c ∷ t) from
+      ∙ bogus-read old c old.stream.breaks (Sink.view old.sink, notes) t part h
+      ∙ sym (now-at Sink mid state.BogusComment old.stream.breaks (Sink.view old.sink, notes) (c ∷ t) (record { state = refl; fresh = from.fresh }))) keeps'

@@ -10,6 +10,7 @@ use Rattle.html_tokens.specs.declared.states.DoctypeIdKind.TheVariants as id
 use Rattle.html_tokens.specs.declared.states.State.TheVariants as state
 use Rattle.html_tokens.specs.declared.token.Doctype.{Doctype}
 use Rattle.html_tokens.specs.declared.token.Token.{Token}
+use Rattle.html_tokens.specs.declared.sink.TokenSink.{Ghosts}
 use Rattle.html_tokens.specs.Characters.{is_white_space, ends_word, begins_any_case}
 use Rattle.html_tokens.specs.Doctypes.{forced, given, after_name, keyword_at, keyword_by, after_public_keyword, after_system_keyword, junk_after}
 use Rattle.html_tokens.specs.Item.{Stand, Item, InData, behind_all}
@@ -106,71 +107,71 @@ identifier-more cs c h = by-word (may_become word.Public (cs ++ c ∷ [])) (may_
 
 -- STATES
 
-module _ {K S H : Type 0} (step : Step S) (view : K → S) (cdata : S → Bool) (ends : S → S) (sound : S → Type 0) (number : H → ℕ) (broken : K → Bool) (errors : K → ℕ) (quiet : S → Token → Bool) (laws : SinkLaws sound step ends quiet) where
+module _ {K H : Type 0} (Sink : Ghosts K H) (laws : SinkLaws Sink.is_sound Sink.step Sink.ended Sink.is_quiet) where
   -- a keyword that c makes whole
-  read-keyword : (old : Tokenizer K) (d : Doctype) (cs : List ℕ) (c : ℕ) (t : List ℕ) (w : Word) (j : Item) (b : ℕ) (s : S × Notes ℕ) → becomes w (cs ++ c ∷ []) ≡ true → ends_word (front_of cs c) ≡ false
+  read-keyword : (old : Tokenizer K) (d : Doctype) (cs : List ℕ) (c : ℕ) (t : List ℕ) (w : Word) (j : Item) (b : ℕ) (s : Sink.State × Notes ℕ) → becomes w (cs ++ c ∷ []) ≡ true → ends_word (front_of cs c) ≡ false
       → keyword_by false (begins_any_case (codes "public") ((cs ++ c ∷ []) ++ t)) (begins_any_case (codes "system") ((cs ++ c ∷ []) ++ t)) (standing old InData) d ((cs ++ c ∷ []) ++ t) ≡ behind_all (length (cs ++ c ∷ [])) j
-      → play (noting step quiet) noting_error (noting_cdata cdata) (noting_end ends) (rows_of old) (after_name (standing old InData) d (cs ++ c ∷ t)) b s (cs ++ c ∷ t) ≡ play (noting step quiet) noting_error (noting_cdata cdata) (noting_end ends) (rows_of old) j (b + line_break (nat_eq c 10)) s t
+      → play (noting Sink.step Sink.is_quiet) noting_error (noting_cdata Sink.asks_cdata) (noting_end Sink.ended) (rows_of old) (after_name (standing old InData) d (cs ++ c ∷ t)) b s (cs ++ c ∷ t) ≡ play (noting Sink.step Sink.is_quiet) noting_error (noting_cdata Sink.asks_cdata) (noting_end Sink.ended) (rows_of old) j (b + line_break (nat_eq c 10)) s t
   read-keyword old d cs c t w j b s h begun is =
       let plain : list_all is_plain (cs ++ c ∷ []) ≡ true = word-plain w (cs ++ c ∷ []) h in
-      ap (λ i. play (noting step quiet) noting_error (noting_cdata cdata) (noting_end ends) (rows_of old) i b s (cs ++ c ∷ t)) (name-word (standing old InData) d cs c t begun)
-      ∙ ap (λ u. play (noting step quiet) noting_error (noting_cdata cdata) (noting_end ends) (rows_of old) (keyword_by false (begins_any_case (codes "public") u) (begins_any_case (codes "system") u) (standing old InData) d u) b s u) (sym (append_assoc cs (c ∷ []) t))
-      ∙ ap (λ i. play (noting step quiet) noting_error (noting_cdata cdata) (noting_end ends) (rows_of old) i b s ((cs ++ c ∷ []) ++ t)) is
-      ∙ play-plain step view cdata ends sound number broken errors quiet laws old (cs ++ c ∷ []) t j b s plain
-      ∙ ap (λ x. play (noting step quiet) noting_error (noting_cdata cdata) (noting_end ends) (rows_of old) j x s t) (sym (no-break b c (plain-break c (last-plain cs c plain))))
+      ap (λ i. play (noting Sink.step Sink.is_quiet) noting_error (noting_cdata Sink.asks_cdata) (noting_end Sink.ended) (rows_of old) i b s (cs ++ c ∷ t)) (name-word (standing old InData) d cs c t begun)
+      ∙ ap (λ u. play (noting Sink.step Sink.is_quiet) noting_error (noting_cdata Sink.asks_cdata) (noting_end Sink.ended) (rows_of old) (keyword_by false (begins_any_case (codes "public") u) (begins_any_case (codes "system") u) (standing old InData) d u) b s u) (sym (append_assoc cs (c ∷ []) t))
+      ∙ ap (λ i. play (noting Sink.step Sink.is_quiet) noting_error (noting_cdata Sink.asks_cdata) (noting_end Sink.ended) (rows_of old) i b s ((cs ++ c ∷ []) ++ t)) is
+      ∙ play-plain Sink laws old (cs ++ c ∷ []) t j b s plain
+      ∙ ap (λ x. play (noting Sink.step Sink.is_quiet) noting_error (noting_cdata Sink.asks_cdata) (noting_end Sink.ended) (rows_of old) j x s t) (sym (no-break b c (plain-break c (last-plain cs c plain))))
 
-  module _ (old : Tokenizer K) (c : ℕ) (from : IsAt old state.AfterDoctypeName) (ok : sound (view old.sink)) where
-    pub public-found : becomes word.Public (old.keyword ++ c ∷ []) ≡ true → ends_word (front_of old.keyword c) ≡ false → Took step view cdata ends sound number broken errors quiet old (record old { state = state.AfterDoctypeKeyword id.Public }) c flow.Continue
+  module _ (old : Tokenizer K) (c : ℕ) (from : IsAt old state.AfterDoctypeName) (ok : Sink.is_sound (Sink.view old.sink)) where
+    pub public-found : becomes word.Public (old.keyword ++ c ∷ []) ≡ true → ends_word (front_of old.keyword c) ≡ false → Took Sink old (record old { state = state.AfterDoctypeKeyword id.Public }) c flow.Continue
     unfolding held_at
-    public-found h begun = took step view cdata ends sound number broken errors quiet old (record old { state = state.AfterDoctypeKeyword id.Public }) c state.AfterDoctypeName (state.AfterDoctypeKeyword id.Public) from (record { state = refl; fresh = from.fresh }) refl refl ok
+    public-found h begun = took Sink old (record old { state = state.AfterDoctypeKeyword id.Public }) c state.AfterDoctypeName (state.AfterDoctypeKeyword id.Public) from (record { state = refl; fresh = from.fresh }) refl refl ok
         (λ b s t. read-keyword old old.doctype old.keyword c t word.Public (after_public_keyword (standing old InData) old.doctype t) b s h begun (public-read (standing old InData) old.doctype (old.keyword ++ c ∷ []) t _ h))
 
-    pub system-found : becomes word.System (old.keyword ++ c ∷ []) ≡ true → ends_word (front_of old.keyword c) ≡ false → Took step view cdata ends sound number broken errors quiet old (record old { state = state.AfterDoctypeKeyword id.System }) c flow.Continue
+    pub system-found : becomes word.System (old.keyword ++ c ∷ []) ≡ true → ends_word (front_of old.keyword c) ≡ false → Took Sink old (record old { state = state.AfterDoctypeKeyword id.System }) c flow.Continue
     unfolding held_at
-    system-found h begun = took step view cdata ends sound number broken errors quiet old (record old { state = state.AfterDoctypeKeyword id.System }) c state.AfterDoctypeName (state.AfterDoctypeKeyword id.System) from (record { state = refl; fresh = from.fresh }) refl refl ok
+    system-found h begun = took Sink old (record old { state = state.AfterDoctypeKeyword id.System }) c state.AfterDoctypeName (state.AfterDoctypeKeyword id.System) from (record { state = refl; fresh = from.fresh }) refl refl ok
         (λ b s t. read-keyword old old.doctype old.keyword c t word.System (after_system_keyword (standing old InData) old.doctype t) b s h begun (system-read (standing old InData) old.doctype (old.keyword ++ c ∷ []) t h))
 
     -- a character more of a keyword
-    pub keyword-push : (front : List ℕ) → may_identify old.keyword c ≡ true → front ≡ old.keyword ++ c ∷ [] → Took step view cdata ends sound number broken errors quiet old (record old { keyword = front }) c flow.Continue
+    pub keyword-push : (front : List ℕ) → may_identify old.keyword c ≡ true → front ≡ old.keyword ++ c ∷ [] → Took Sink old (record old { keyword = front }) c flow.Continue
     unfolding held_at
     keyword-push front h is = rw is (
         let plain : is_plain c ≡ true = last-plain old.keyword c (part-plain (old.keyword ++ c ∷ []) (identifier-more old.keyword c h)) in
-        took step view cdata ends sound number broken errors quiet old (record old { keyword = old.keyword ++ c ∷ [] }) c state.AfterDoctypeName state.AfterDoctypeName from (record { state = from.state; fresh = from.fresh }) refl refl ok
+        took Sink old (record old { keyword = old.keyword ++ c ∷ [] }) c state.AfterDoctypeName state.AfterDoctypeName from (record { state = from.state; fresh = from.fresh }) refl refl ok
         (λ b s t.
-        ap (λ u. play (noting step quiet) noting_error (noting_cdata cdata) (noting_end ends) (rows_of old) (after_name (standing old InData) old.doctype u) b s u) (sym (append_assoc old.keyword (c ∷ []) t))
-        ∙ ap (λ x. play (noting step quiet) noting_error (noting_cdata cdata) (noting_end ends) (rows_of old) (after_name (standing old InData) old.doctype ((old.keyword ++ c ∷ []) ++ t)) x s ((old.keyword ++ c ∷ []) ++ t)) (sym (no-break b c (plain-break c plain)))))
+        ap (λ u. play (noting Sink.step Sink.is_quiet) noting_error (noting_cdata Sink.asks_cdata) (noting_end Sink.ended) (rows_of old) (after_name (standing old InData) old.doctype u) b s u) (sym (append_assoc old.keyword (c ∷ []) t))
+        ∙ ap (λ x. play (noting Sink.step Sink.is_quiet) noting_error (noting_cdata Sink.asks_cdata) (noting_end Sink.ended) (rows_of old) (after_name (standing old InData) old.doctype ((old.keyword ++ c ∷ []) ++ t)) x s ((old.keyword ++ c ∷ []) ++ t)) (sym (no-break b c (plain-break c plain)))))
 
     -- white space where no keyword was read
-    white-read : (b : ℕ) (s : S × Notes ℕ) (t cs : List ℕ) → cs ≡ [] → is_white_space c ≡ true
-        → play (noting step quiet) noting_error (noting_cdata cdata) (noting_end ends) (rows_of old) (after_name (standing old InData) old.doctype (cs ++ c ∷ t)) b s (cs ++ c ∷ t) ≡ play (noting step quiet) noting_error (noting_cdata cdata) (noting_end ends) (rows_of old) (after_name (standing old InData) old.doctype (cs ++ t)) (b + line_break (nat_eq c 10)) s (cs ++ t)
-    white-read b s t cs e h = rw e (behind-any step view cdata ends sound number broken errors quiet laws old (after_name (standing old InData) old.doctype (c ∷ t)) (after_name (standing old InData) old.doctype t) b s c t (skip-white (keyword_at (standing old InData) old.doctype) c t h))
+    white-read : (b : ℕ) (s : Sink.State × Notes ℕ) (t cs : List ℕ) → cs ≡ [] → is_white_space c ≡ true
+        → play (noting Sink.step Sink.is_quiet) noting_error (noting_cdata Sink.asks_cdata) (noting_end Sink.ended) (rows_of old) (after_name (standing old InData) old.doctype (cs ++ c ∷ t)) b s (cs ++ c ∷ t) ≡ play (noting Sink.step Sink.is_quiet) noting_error (noting_cdata Sink.asks_cdata) (noting_end Sink.ended) (rows_of old) (after_name (standing old InData) old.doctype (cs ++ t)) (b + line_break (nat_eq c 10)) s (cs ++ t)
+    white-read b s t cs e h = rw e (behind-any Sink laws old (after_name (standing old InData) old.doctype (c ∷ t)) (after_name (standing old InData) old.doctype t) b s c t (skip-white (keyword_at (standing old InData) old.doctype) c t h))
 
-    pub keyword-white : IsPart old.keyword → ends_word (front_of old.keyword c) ≡ true → nat_eq c 62 ≡ false → Took step view cdata ends sound number broken errors quiet old old c flow.Continue
+    pub keyword-white : IsPart old.keyword → ends_word (front_of old.keyword c) ≡ true → nat_eq c 62 ≡ false → Took Sink old old c flow.Continue
     unfolding held_at
     keyword-white part h e =
         let none : old.keyword ≡ [] = ended-empty old.keyword c part h in
-        took step view cdata ends sound number broken errors quiet old old c state.AfterDoctypeName state.AfterDoctypeName from from refl refl ok
+        took Sink old old c state.AfterDoctypeName state.AfterDoctypeName from from refl refl ok
         (λ b s t. white-read b s t old.keyword none (ended-white c (ended-here old.keyword c none h) e))
 
-  mark-read : (old : Tokenizer K) (b : ℕ) (s : S × Notes ℕ) (t cs : List ℕ) → cs ≡ []
-      → play (noting step quiet) noting_error (noting_cdata cdata) (noting_end ends) (rows_of old) (after_name (standing old InData) old.doctype (cs ++ 62 ∷ t)) b s (cs ++ 62 ∷ t) ≡ play (noting step quiet) noting_error (noting_cdata cdata) (noting_end ends) (rows_of old) (given (standing old InData) old.doctype 1) b s (62 ∷ t)
+  mark-read : (old : Tokenizer K) (b : ℕ) (s : Sink.State × Notes ℕ) (t cs : List ℕ) → cs ≡ []
+      → play (noting Sink.step Sink.is_quiet) noting_error (noting_cdata Sink.asks_cdata) (noting_end Sink.ended) (rows_of old) (after_name (standing old InData) old.doctype (cs ++ 62 ∷ t)) b s (cs ++ 62 ∷ t) ≡ play (noting Sink.step Sink.is_quiet) noting_error (noting_cdata Sink.asks_cdata) (noting_end Sink.ended) (rows_of old) (given (standing old InData) old.doctype 1) b s (62 ∷ t)
   mark-read old b s t cs e = rw e refl
 
   -- ">" where no keyword was read
-  pub keyword-says : (old : Tokenizer K) (c : ℕ) → IsPart old.keyword → ends_word (front_of old.keyword c) ≡ true → DoctypeSays step view cdata ends sound number broken errors quiet laws state.AfterDoctypeName old old.temporary false old.doctype
+  pub keyword-says : (old : Tokenizer K) (c : ℕ) → IsPart old.keyword → ends_word (front_of old.keyword c) ≡ true → DoctypeSays Sink laws state.AfterDoctypeName old old.temporary false old.doctype
   unfolding held_at
-  keyword-says old c part h b s ok t = mark-read old b s t old.keyword (ended-empty old.keyword c part h) ∙ at-mark step view cdata ends sound number broken errors quiet laws old b s ok false old.doctype t (given (standing old InData) old.doctype 1) refl
+  keyword-says old c part h b s ok t = mark-read old b s t old.keyword (ended-empty old.keyword c part h) ∙ at-mark Sink laws old b s ok false old.doctype t (given (standing old InData) old.doctype 1) refl
 
   -- what is no keyword is junk
-  keyword-junk : (old : Tokenizer K) (c : ℕ) (b : ℕ) (s : S × Notes ℕ) (t : List ℕ) → IsPart old.keyword → MakesNoIdentifier old.keyword c → may_identify old.keyword c ≡ false → ends_word (front_of old.keyword c) ≡ false
-      → play (noting step quiet) noting_error (noting_cdata cdata) (noting_end ends) (rows_of old) (after_name (standing old InData) old.doctype (old.keyword ++ c ∷ t)) b s (old.keyword ++ c ∷ t) ≡ play (noting step quiet) noting_error (noting_cdata cdata) (noting_end ends) (rows_of old) (junk_after (standing old InData) (forced old.doctype) (c ∷ t)) b s (c ∷ t)
+  keyword-junk : (old : Tokenizer K) (c : ℕ) (b : ℕ) (s : Sink.State × Notes ℕ) (t : List ℕ) → IsPart old.keyword → MakesNoIdentifier old.keyword c → may_identify old.keyword c ≡ false → ends_word (front_of old.keyword c) ≡ false
+      → play (noting Sink.step Sink.is_quiet) noting_error (noting_cdata Sink.asks_cdata) (noting_end Sink.ended) (rows_of old) (after_name (standing old InData) old.doctype (old.keyword ++ c ∷ t)) b s (old.keyword ++ c ∷ t) ≡ play (noting Sink.step Sink.is_quiet) noting_error (noting_cdata Sink.asks_cdata) (noting_end Sink.ended) (rows_of old) (junk_after (standing old InData) (forced old.doctype) (c ∷ t)) b s (c ∷ t)
   keyword-junk old c b s t part whole h begun =
-      ap (λ i. play (noting step quiet) noting_error (noting_cdata cdata) (noting_end ends) (rows_of old) i b s (old.keyword ++ c ∷ t)) (name-word (standing old InData) old.doctype old.keyword c t begun ∙ junk-read (standing old InData) old.doctype old.keyword c t part whole h)
-      ∙ play-plain step view cdata ends sound number broken errors quiet laws old old.keyword (c ∷ t) (junk_after (standing old InData) (forced old.doctype) (c ∷ t)) b s (part-plain old.keyword part)
+      ap (λ i. play (noting Sink.step Sink.is_quiet) noting_error (noting_cdata Sink.asks_cdata) (noting_end Sink.ended) (rows_of old) i b s (old.keyword ++ c ∷ t)) (name-word (standing old InData) old.doctype old.keyword c t begun ∙ junk-read (standing old InData) old.doctype old.keyword c t part whole h)
+      ∙ play-plain Sink laws old old.keyword (c ∷ t) (junk_after (standing old InData) (forced old.doctype) (c ∷ t)) b s (part-plain old.keyword part)
 
   pub keyword-other : (old new : Tokenizer K) (c : ℕ) (result : Result (ProcessResult H) ParseFault) → IsAt old state.AfterDoctypeName → IsPart old.keyword → MakesNoIdentifier old.keyword c → may_identify old.keyword c ≡ false → ends_word (front_of old.keyword c) ≡ false
-      → Keeps step view cdata ends sound number broken errors quiet (record old { doctype = forced old.doctype; state = state.BogusDoctype }) new c result → Keeps step view cdata ends sound number broken errors quiet old new c result
+      → Keeps Sink (record old { doctype = forced old.doctype; state = state.BogusDoctype }) new c result → Keeps Sink old new c result
   unfolding held_at
   keyword-other old new c result from part whole h begun keeps =
-      keeps_silent step view cdata ends sound number broken errors quiet old (record old { doctype = forced old.doctype; state = state.BogusDoctype }) new c state.AfterDoctypeName state.BogusDoctype result from (record { state = refl; fresh = from.fresh }) refl refl
+      keeps_silent Sink old (record old { doctype = forced old.doctype; state = state.BogusDoctype }) new c state.AfterDoctypeName state.BogusDoctype result from (record { state = refl; fresh = from.fresh }) refl refl
       (λ b s t. keyword-junk old c b s t part whole h begun) keeps

@@ -13,6 +13,7 @@ use Rattle.html_tokens.specs.declared.states.State.TheVariants as state
 use Rattle.html_tokens.specs.declared.token.Doctype.{Doctype}
 use Rattle.html_tokens.specs.declared.token.Token.{Token}
 use Rattle.html_tokens.specs.declared.token.Token.TheVariants.{DoctypeToken}
+use Rattle.html_tokens.specs.declared.sink.TokenSink.{Ghosts}
 use Rattle.html_tokens.specs.Characters.{shown, has_null, lowered, all_lowered, is_white_space, ends_word, run, white}
 use Rattle.html_tokens.specs.Doctypes.{no_doctype, forced, given, given_more, junk_by, closed_by, identifier_end, identifier, shown_all, Opening, Quote, doctype_at, doctype_behind, doctype_name_after, after_name, after_public_keyword, after_system_keyword, name_by, doctype_name_at, keyword_at, public_at, system_at, behind_public, behind_system, public_by, system_by, second_by, opening, Close, Junk, public_after, system_after, after_public, after_system, junk_after}
 use Rattle.html_tokens.specs.Item.{Stand, Item, InData, behind, behind_all, marked, Fault, grave_if, and_slight, and_slight_if}
@@ -177,27 +178,27 @@ system_keyword-fault st d t = behind-fault (white t) _ (system_at-fault st d (dr
 
 -- STATES
 
-module _ {K S H : Type 0} (step : Step S) (view : K → S) (cdata : S → Bool) (ends : S → S) (sound : S → Type 0) (number : H → ℕ) (broken : K → Bool) (errors : K → ℕ) (quiet : S → Token → Bool) (laws : SinkLaws sound step ends quiet) where
+module _ {K H : Type 0} (Sink : Ghosts K H) (laws : SinkLaws Sink.is_sound Sink.step Sink.ended Sink.is_quiet) where
   -- the machine once its doctype is told
   abbrev emitted : Tokenizer K → List ℕ → Tokenizer K
   emitted k cs = record k { doctype = no_doctype; temporary = cs; state = state.Data }
 
   -- A doctype is told next, behind its error if it sets quirks, and ">" ends it; errors may be told of it where it is odd.
   abbrev pub DoctypeSays : State → Tokenizer K → List ℕ → Bool → Doctype → Type 0
-  DoctypeSays st old cs odd d = EndSays step view cdata ends sound number broken errors quiet laws st old (emitted old cs) (owed_for (and_slight_if odd (grave_if d.force_quirks))) (DoctypeToken d)
+  DoctypeSays st old cs odd d = EndSays Sink laws st old (emitted old cs) (owed_for (and_slight_if odd (grave_if d.force_quirks))) (DoctypeToken d)
 
   -- The doctype was told, or could not be told.
-  pub doctype-took : (old new : Tokenizer K) (c : ℕ) (st : State) (cs : List ℕ) (odd : Bool) (d : Doctype) → c ≡ 62 → IsAt old st → sound (view old.sink) → Told step view cdata ends sound number broken errors quiet (owed_for (grave_if d.force_quirks)) (DoctypeToken d) (emitted old cs) new → DoctypeSays st old cs odd d → Took step view cdata ends sound number broken errors quiet old new c flow.Continue
-  doctype-took old new c st cs odd d e from ok told says = emitted-took step view cdata ends sound number broken errors quiet laws old (emitted old cs) new c st (DoctypeToken d) e from ok refl refl (record { state = refl; fresh = from.fresh })
-      (tells-less step view cdata ends sound number broken errors quiet laws (owed_for (grave_if d.force_quirks)) (owed_for (and_slight_if odd (grave_if d.force_quirks))) (emitted old cs) new (DoctypeToken d) (Ok tt) (slighted-no-more odd (grave_if d.force_quirks)) told) says
+  pub doctype-took : (old new : Tokenizer K) (c : ℕ) (st : State) (cs : List ℕ) (odd : Bool) (d : Doctype) → c ≡ 62 → IsAt old st → Sink.is_sound (Sink.view old.sink) → Told Sink (owed_for (grave_if d.force_quirks)) (DoctypeToken d) (emitted old cs) new → DoctypeSays st old cs odd d → Took Sink old new c flow.Continue
+  doctype-took old new c st cs odd d e from ok told says = emitted-took Sink laws old (emitted old cs) new c st (DoctypeToken d) e from ok refl refl (record { state = refl; fresh = from.fresh })
+      (tells-less Sink laws (owed_for (grave_if d.force_quirks)) (owed_for (and_slight_if odd (grave_if d.force_quirks))) (emitted old cs) new (DoctypeToken d) (Ok tt) (slighted-no-more odd (grave_if d.force_quirks)) told) says
 
-  pub doctype-failed : (old new : Tokenizer K) (c : ℕ) (st : State) (cs : List ℕ) (odd : Bool) (d : Doctype) (result : Result (ProcessResult H) ParseFault) (fault : ParseFault) → c ≡ 62 → IsAt old st → sound (view old.sink) → IsErrAnd result (λ y. y ≡ fault)
-      → Fails step view cdata ends sound number broken errors quiet old.sink (step (view old.sink) (DoctypeToken d) (line_number old.stream.breaks)) fault → DoctypeSays st old cs odd d → Keeps step view cdata ends sound number broken errors quiet old new c result
-  doctype-failed old new c st cs odd d result fault e from ok is fails says = emitted-failed step view cdata ends sound number broken errors quiet laws (owed_for (and_slight_if odd (grave_if d.force_quirks))) old (emitted old cs) new c st (DoctypeToken d) result fault e from ok is fails says
+  pub doctype-failed : (old new : Tokenizer K) (c : ℕ) (st : State) (cs : List ℕ) (odd : Bool) (d : Doctype) (result : Result (ProcessResult H) ParseFault) (fault : ParseFault) → c ≡ 62 → IsAt old st → Sink.is_sound (Sink.view old.sink) → IsErrAnd result (λ y. y ≡ fault)
+      → Fails Sink old.sink (Sink.step (Sink.view old.sink) (DoctypeToken d) (line_number old.stream.breaks)) fault → DoctypeSays st old cs odd d → Keeps Sink old new c result
+  doctype-failed old new c st cs odd d result fault e from ok is fails says = emitted-failed Sink laws (owed_for (and_slight_if odd (grave_if d.force_quirks))) old (emitted old cs) new c st (DoctypeToken d) result fault e from ok is fails says
 
-  pub at-mark : (old : Tokenizer K) (b : ℕ) (s : S × Notes ℕ) → sound s.0 → (odd : Bool) (d : Doctype) (t : List ℕ) (i : Item) → i ≡ marked odd (given (standing old InData) d 1)
-      → play (noting step quiet) noting_error (noting_cdata cdata) (noting_end ends) (rows_of old) i b s (62 ∷ t) ≡ (noting step quiet (s.0, more (owed_for (and_slight_if odd (grave_if d.force_quirks))) s.1) (DoctypeToken d) (line_number b) >>= λ p. reading (noting step quiet) noting_error (noting_cdata cdata) (noting_end ends) (rows_of old) (standing old InData) (b + 0) p.0 t)
-  at-mark old b s h odd d t i is = end-says step view cdata ends sound number broken errors quiet laws (and_slight_if odd (grave_if d.force_quirks)) old b s h (DoctypeToken d) t (62 ∷ t) 1 i tt is refl refl
+  pub at-mark : (old : Tokenizer K) (b : ℕ) (s : Sink.State × Notes ℕ) → Sink.is_sound s.0 → (odd : Bool) (d : Doctype) (t : List ℕ) (i : Item) → i ≡ marked odd (given (standing old InData) d 1)
+      → play (noting Sink.step Sink.is_quiet) noting_error (noting_cdata Sink.asks_cdata) (noting_end Sink.ended) (rows_of old) i b s (62 ∷ t) ≡ (noting Sink.step Sink.is_quiet (s.0, more (owed_for (and_slight_if odd (grave_if d.force_quirks))) s.1) (DoctypeToken d) (line_number b) >>= λ p. reading (noting Sink.step Sink.is_quiet) noting_error (noting_cdata Sink.asks_cdata) (noting_end Sink.ended) (rows_of old) (standing old InData) (b + 0) p.0 t)
+  at-mark old b s h odd d t i is = end-says Sink laws (and_slight_if odd (grave_if d.force_quirks)) old b s h (DoctypeToken d) t (62 ∷ t) 1 i tt is refl refl
 
   -- ">" at each place
   pub before_name-says : (old : Tokenizer K) (cs : List ℕ) → DoctypeSays state.BeforeDoctypeName old cs false (forced no_doctype)
@@ -228,158 +229,158 @@ module _ {K S H : Type 0} (step : Step S) (view : K → S) (cdata : S → Bool) 
 
   -- What is slight before a doctype with a fault changes nothing.
   module _ (old : Tokenizer K) (c : ℕ) where
-    pub doctype-absorbs : IsAt old state.Doctype → not (ends_word c) ≡ true → Absorbs step view cdata ends sound number broken errors quiet old c
+    pub doctype-absorbs : IsAt old state.Doctype → not (ends_word c) ≡ true → Absorbs Sink old c
     unfolding held_at
-    doctype-absorbs from h = state-absorbs step view cdata ends sound number broken errors quiet laws old c state.Doctype from (λ b s t. item-absorbs step view cdata ends sound number broken errors quiet laws old (doctype_at (standing old InData) (c ∷ t)) b s (c ∷ t) (doctype-odd (standing old InData) c t h))
+    doctype-absorbs from h = state-absorbs Sink laws old c state.Doctype from (λ b s t. item-absorbs Sink laws old (doctype_at (standing old InData) (c ∷ t)) b s (c ∷ t) (doctype-odd (standing old InData) c t h))
 
-    pub name-absorbs : IsAt old state.DoctypeName → nat_eq c 0 ≡ true → Absorbs step view cdata ends sound number broken errors quiet old c
+    pub name-absorbs : IsAt old state.DoctypeName → nat_eq c 0 ≡ true → Absorbs Sink old c
     unfolding held_at
-    name-absorbs from h = state-absorbs step view cdata ends sound number broken errors quiet laws old c state.DoctypeName from (λ b s t. item-absorbs step view cdata ends sound number broken errors quiet laws old (doctype_name_after (standing old InData) old.temporary (c ∷ t)) b s (c ∷ t) (name-odd (standing old InData) old.temporary c t h))
+    name-absorbs from h = state-absorbs Sink laws old c state.DoctypeName from (λ b s t. item-absorbs Sink laws old (doctype_name_after (standing old InData) old.temporary (c ∷ t)) b s (c ∷ t) (name-odd (standing old InData) old.temporary c t h))
 
-    pub keyword-absorbs : (kind : DoctypeIdKind) → IsAt old (state.AfterDoctypeKeyword kind) → Absorbs step view cdata ends sound number broken errors quiet old c
+    pub keyword-absorbs : (kind : DoctypeIdKind) → IsAt old (state.AfterDoctypeKeyword kind) → Absorbs Sink old c
     unfolding held_at
-    keyword-absorbs id.Public from = state-absorbs step view cdata ends sound number broken errors quiet laws old c (state.AfterDoctypeKeyword id.Public) from (λ b s t. item-absorbs step view cdata ends sound number broken errors quiet laws old (after_public_keyword (standing old InData) old.doctype (c ∷ t)) b s (c ∷ t) (public_keyword-fault (standing old InData) old.doctype (c ∷ t)))
-    keyword-absorbs id.System from = state-absorbs step view cdata ends sound number broken errors quiet laws old c (state.AfterDoctypeKeyword id.System) from (λ b s t. item-absorbs step view cdata ends sound number broken errors quiet laws old (after_system_keyword (standing old InData) old.doctype (c ∷ t)) b s (c ∷ t) (system_keyword-fault (standing old InData) old.doctype (c ∷ t)))
+    keyword-absorbs id.Public from = state-absorbs Sink laws old c (state.AfterDoctypeKeyword id.Public) from (λ b s t. item-absorbs Sink laws old (after_public_keyword (standing old InData) old.doctype (c ∷ t)) b s (c ∷ t) (public_keyword-fault (standing old InData) old.doctype (c ∷ t)))
+    keyword-absorbs id.System from = state-absorbs Sink laws old c (state.AfterDoctypeKeyword id.System) from (λ b s t. item-absorbs Sink laws old (after_system_keyword (standing old InData) old.doctype (c ∷ t)) b s (c ∷ t) (system_keyword-fault (standing old InData) old.doctype (c ∷ t)))
 
-    pub double-absorbs : (kind : DoctypeIdKind) → IsAt old (state.DoctypeIdentifierDoubleQuoted kind) → Absorbs step view cdata ends sound number broken errors quiet old c
+    pub double-absorbs : (kind : DoctypeIdKind) → IsAt old (state.DoctypeIdentifierDoubleQuoted kind) → Absorbs Sink old c
     unfolding held_at
-    double-absorbs id.Public from = state-absorbs step view cdata ends sound number broken errors quiet laws old c (state.DoctypeIdentifierDoubleQuoted id.Public) from (λ b s t. item-absorbs step view cdata ends sound number broken errors quiet laws old (public_after 34 (standing old InData) old.doctype old.temporary (c ∷ t)) b s (c ∷ t) (public-fault 34 (standing old InData) old.doctype old.temporary (c ∷ t)))
-    double-absorbs id.System from = state-absorbs step view cdata ends sound number broken errors quiet laws old c (state.DoctypeIdentifierDoubleQuoted id.System) from (λ b s t. item-absorbs step view cdata ends sound number broken errors quiet laws old (system_after 34 (standing old InData) old.doctype old.temporary (c ∷ t)) b s (c ∷ t) (system-fault 34 (standing old InData) old.doctype old.temporary (c ∷ t)))
+    double-absorbs id.Public from = state-absorbs Sink laws old c (state.DoctypeIdentifierDoubleQuoted id.Public) from (λ b s t. item-absorbs Sink laws old (public_after 34 (standing old InData) old.doctype old.temporary (c ∷ t)) b s (c ∷ t) (public-fault 34 (standing old InData) old.doctype old.temporary (c ∷ t)))
+    double-absorbs id.System from = state-absorbs Sink laws old c (state.DoctypeIdentifierDoubleQuoted id.System) from (λ b s t. item-absorbs Sink laws old (system_after 34 (standing old InData) old.doctype old.temporary (c ∷ t)) b s (c ∷ t) (system-fault 34 (standing old InData) old.doctype old.temporary (c ∷ t)))
 
-    pub single-absorbs : (kind : DoctypeIdKind) → IsAt old (state.DoctypeIdentifierSingleQuoted kind) → Absorbs step view cdata ends sound number broken errors quiet old c
+    pub single-absorbs : (kind : DoctypeIdKind) → IsAt old (state.DoctypeIdentifierSingleQuoted kind) → Absorbs Sink old c
     unfolding held_at
-    single-absorbs id.Public from = state-absorbs step view cdata ends sound number broken errors quiet laws old c (state.DoctypeIdentifierSingleQuoted id.Public) from (λ b s t. item-absorbs step view cdata ends sound number broken errors quiet laws old (public_after 39 (standing old InData) old.doctype old.temporary (c ∷ t)) b s (c ∷ t) (public-fault 39 (standing old InData) old.doctype old.temporary (c ∷ t)))
-    single-absorbs id.System from = state-absorbs step view cdata ends sound number broken errors quiet laws old c (state.DoctypeIdentifierSingleQuoted id.System) from (λ b s t. item-absorbs step view cdata ends sound number broken errors quiet laws old (system_after 39 (standing old InData) old.doctype old.temporary (c ∷ t)) b s (c ∷ t) (system-fault 39 (standing old InData) old.doctype old.temporary (c ∷ t)))
+    single-absorbs id.Public from = state-absorbs Sink laws old c (state.DoctypeIdentifierSingleQuoted id.Public) from (λ b s t. item-absorbs Sink laws old (public_after 39 (standing old InData) old.doctype old.temporary (c ∷ t)) b s (c ∷ t) (public-fault 39 (standing old InData) old.doctype old.temporary (c ∷ t)))
+    single-absorbs id.System from = state-absorbs Sink laws old c (state.DoctypeIdentifierSingleQuoted id.System) from (λ b s t. item-absorbs Sink laws old (system_after 39 (standing old InData) old.doctype old.temporary (c ∷ t)) b s (c ∷ t) (system-fault 39 (standing old InData) old.doctype old.temporary (c ∷ t)))
 
-    pub identifier-absorbs : (kind : DoctypeIdKind) → IsAt old (state.AfterDoctypeIdentifier kind) → Absorbs step view cdata ends sound number broken errors quiet old c
+    pub identifier-absorbs : (kind : DoctypeIdKind) → IsAt old (state.AfterDoctypeIdentifier kind) → Absorbs Sink old c
     unfolding held_at
-    identifier-absorbs id.Public from = state-absorbs step view cdata ends sound number broken errors quiet laws old c (state.AfterDoctypeIdentifier id.Public) from (λ b s t. item-absorbs step view cdata ends sound number broken errors quiet laws old (after_public (standing old InData) old.doctype (c ∷ t)) b s (c ∷ t) (after_public-fault (standing old InData) old.doctype (c ∷ t)))
-    identifier-absorbs id.System from = state-absorbs step view cdata ends sound number broken errors quiet laws old c (state.AfterDoctypeIdentifier id.System) from (λ b s t. item-absorbs step view cdata ends sound number broken errors quiet laws old (after_system (standing old InData) old.doctype (c ∷ t)) b s (c ∷ t) (after_system-fault (standing old InData) old.doctype (c ∷ t)))
+    identifier-absorbs id.Public from = state-absorbs Sink laws old c (state.AfterDoctypeIdentifier id.Public) from (λ b s t. item-absorbs Sink laws old (after_public (standing old InData) old.doctype (c ∷ t)) b s (c ∷ t) (after_public-fault (standing old InData) old.doctype (c ∷ t)))
+    identifier-absorbs id.System from = state-absorbs Sink laws old c (state.AfterDoctypeIdentifier id.System) from (λ b s t. item-absorbs Sink laws old (after_system (standing old InData) old.doctype (c ∷ t)) b s (c ∷ t) (after_system-fault (standing old InData) old.doctype (c ∷ t)))
 
-    pub bogus-absorbs : IsAt old state.BogusDoctype → Absorbs step view cdata ends sound number broken errors quiet old c
+    pub bogus-absorbs : IsAt old state.BogusDoctype → Absorbs Sink old c
     unfolding held_at
-    bogus-absorbs from = state-absorbs step view cdata ends sound number broken errors quiet laws old c state.BogusDoctype from (λ b s t. item-absorbs step view cdata ends sound number broken errors quiet laws old (junk_after (standing old InData) old.doctype (c ∷ t)) b s (c ∷ t) (junk-fault (standing old InData) old.doctype (c ∷ t)))
+    bogus-absorbs from = state-absorbs Sink laws old c state.BogusDoctype from (λ b s t. item-absorbs Sink laws old (junk_after (standing old InData) old.doctype (c ∷ t)) b s (c ∷ t) (junk-fault (standing old InData) old.doctype (c ∷ t)))
 
   -- The machine moves on by a character that ends no doctype.
-  module _ (old : Tokenizer K) (c : ℕ) (ok : sound (view old.sink)) where
+  module _ (old : Tokenizer K) (c : ℕ) (ok : Sink.is_sound (Sink.view old.sink)) where
     stays : (st : State) → IsAt old st
-        → ((b : ℕ) (s : S × Notes ℕ) (t : List ℕ) → at step view cdata ends sound number broken errors quiet st old b s (c ∷ t) ≡ at step view cdata ends sound number broken errors quiet st old (b + line_break (nat_eq c 10)) s t)
-        → Took step view cdata ends sound number broken errors quiet old old c flow.Continue
-    stays st from law = took step view cdata ends sound number broken errors quiet old old c st st from from refl refl ok law
+        → ((b : ℕ) (s : Sink.State × Notes ℕ) (t : List ℕ) → at Sink st old b s (c ∷ t) ≡ at Sink st old (b + line_break (nat_eq c 10)) s t)
+        → Took Sink old old c flow.Continue
+    stays st from law = took Sink old old c st st from from refl refl ok law
 
     grows : (st : State) (front : List ℕ) → IsAt old st
-        → ((b : ℕ) (s : S × Notes ℕ) (t : List ℕ) → at step view cdata ends sound number broken errors quiet st old b s (c ∷ t) ≡ at step view cdata ends sound number broken errors quiet st (record old { temporary = front }) (b + line_break (nat_eq c 10)) s t)
-        → Took step view cdata ends sound number broken errors quiet old (record old { temporary = front }) c flow.Continue
-    grows st front from law = took step view cdata ends sound number broken errors quiet old (record old { temporary = front }) c st st from (record { state = from.state; fresh = from.fresh }) refl refl ok law
+        → ((b : ℕ) (s : Sink.State × Notes ℕ) (t : List ℕ) → at Sink st old b s (c ∷ t) ≡ at Sink st (record old { temporary = front }) (b + line_break (nat_eq c 10)) s t)
+        → Took Sink old (record old { temporary = front }) c flow.Continue
+    grows st front from law = took Sink old (record old { temporary = front }) c st st from (record { state = from.state; fresh = from.fresh }) refl refl ok law
 
     moves : (st st' : State) (front : List ℕ) (d : Doctype) → IsAt old st
-        → ((b : ℕ) (s : S × Notes ℕ) (t : List ℕ) → at step view cdata ends sound number broken errors quiet st old b s (c ∷ t) ≡ at step view cdata ends sound number broken errors quiet st' (record old { temporary = front; doctype = d; state = st' }) (b + line_break (nat_eq c 10)) s t)
-        → Took step view cdata ends sound number broken errors quiet old (record old { temporary = front; doctype = d; state = st' }) c flow.Continue
-    moves st st' front d from law = took step view cdata ends sound number broken errors quiet old (record old { temporary = front; doctype = d; state = st' }) c st st' from (record { state = refl; fresh = from.fresh }) refl refl ok law
+        → ((b : ℕ) (s : Sink.State × Notes ℕ) (t : List ℕ) → at Sink st old b s (c ∷ t) ≡ at Sink st' (record old { temporary = front; doctype = d; state = st' }) (b + line_break (nat_eq c 10)) s t)
+        → Took Sink old (record old { temporary = front; doctype = d; state = st' }) c flow.Continue
+    moves st st' front d from law = took Sink old (record old { temporary = front; doctype = d; state = st' }) c st st' from (record { state = refl; fresh = from.fresh }) refl refl ok law
 
-    behind-c : (i j : Item) (b : ℕ) (s : S × Notes ℕ) (t : List ℕ) → i ≡ behind j → play (noting step quiet) noting_error (noting_cdata cdata) (noting_end ends) (rows_of old) i b s (c ∷ t) ≡ play (noting step quiet) noting_error (noting_cdata cdata) (noting_end ends) (rows_of old) j (b + line_break (nat_eq c 10)) s t
-    behind-c i j b s t is = behind-any step view cdata ends sound number broken errors quiet laws old i j b s c t is
+    behind-c : (i j : Item) (b : ℕ) (s : Sink.State × Notes ℕ) (t : List ℕ) → i ≡ behind j → play (noting Sink.step Sink.is_quiet) noting_error (noting_cdata Sink.asks_cdata) (noting_end Sink.ended) (rows_of old) i b s (c ∷ t) ≡ play (noting Sink.step Sink.is_quiet) noting_error (noting_cdata Sink.asks_cdata) (noting_end Sink.ended) (rows_of old) j (b + line_break (nat_eq c 10)) s t
+    behind-c i j b s t is = behind-any Sink laws old i j b s c t is
 
     -- white space
-    pub before_name-white : IsAt old state.BeforeDoctypeName → is_white_space c ≡ true → Took step view cdata ends sound number broken errors quiet old old c flow.Continue
+    pub before_name-white : IsAt old state.BeforeDoctypeName → is_white_space c ≡ true → Took Sink old old c flow.Continue
     unfolding held_at
     before_name-white from e = stays state.BeforeDoctypeName from (λ b s t. behind-c _ _ b s t (skip-white (doctype_name_at (standing old InData)) c t e))
 
-    pub name-white : (front word : List ℕ) (d : Doctype) → IsAt old state.DoctypeName → is_white_space c ≡ true → front ≡ [] → word ≡ [] → d ≡ record no_doctype { name = Some old.temporary } → Took step view cdata ends sound number broken errors quiet old (record old { temporary = front; doctype = d; keyword = word; state = state.AfterDoctypeName }) c flow.Continue
+    pub name-white : (front word : List ℕ) (d : Doctype) → IsAt old state.DoctypeName → is_white_space c ≡ true → front ≡ [] → word ≡ [] → d ≡ record no_doctype { name = Some old.temporary } → Took Sink old (record old { temporary = front; doctype = d; keyword = word; state = state.AfterDoctypeName }) c flow.Continue
     unfolding held_at
-    name-white front word d from e is is' is'' = rw (is, is', is'') (took step view cdata ends sound number broken errors quiet old (record old { temporary = []; doctype = record no_doctype { name = Some old.temporary }; keyword = []; state = state.AfterDoctypeName }) c state.DoctypeName state.AfterDoctypeName from (record { state = refl; fresh = from.fresh }) refl refl ok (λ b s t.
+    name-white front word d from e is is' is'' = rw (is, is', is'') (took Sink old (record old { temporary = []; doctype = record no_doctype { name = Some old.temporary }; keyword = []; state = state.AfterDoctypeName }) c state.DoctypeName state.AfterDoctypeName from (record { state = refl; fresh = from.fresh }) refl refl ok (λ b s t.
         behind-c _ _ b s t (name-ends (standing old InData) old.temporary c t (word-white c e) ∙ skip-white (keyword_at (standing old InData) (record no_doctype { name = Some old.temporary })) c t e)))
 
-    pub before_identifier-white : (kind : DoctypeIdKind) → IsAt old (state.BeforeDoctypeIdentifier kind) → is_white_space c ≡ true → Took step view cdata ends sound number broken errors quiet old old c flow.Continue
+    pub before_identifier-white : (kind : DoctypeIdKind) → IsAt old (state.BeforeDoctypeIdentifier kind) → is_white_space c ≡ true → Took Sink old old c flow.Continue
     unfolding held_at
     before_identifier-white id.Public from e = stays (state.BeforeDoctypeIdentifier id.Public) from (λ b s t. behind-c _ _ b s t (skip-white (public_at (standing old InData) old.doctype) c t e))
     before_identifier-white id.System from e = stays (state.BeforeDoctypeIdentifier id.System) from (λ b s t. behind-c _ _ b s t (skip-white (system_at (standing old InData) old.doctype) c t e))
 
-    pub between-white : IsAt old state.BetweenDoctypePublicAndSystemIdentifiers → is_white_space c ≡ true → Took step view cdata ends sound number broken errors quiet old old c flow.Continue
+    pub between-white : IsAt old state.BetweenDoctypePublicAndSystemIdentifiers → is_white_space c ≡ true → Took Sink old old c flow.Continue
     unfolding held_at
     between-white from e = stays state.BetweenDoctypePublicAndSystemIdentifiers from (λ b s t. behind-c _ _ b s t (skip-white (behind_public (standing old InData) old.doctype) c t e))
 
-    pub after_system-white : IsAt old (state.AfterDoctypeIdentifier id.System) → is_white_space c ≡ true → Took step view cdata ends sound number broken errors quiet old old c flow.Continue
+    pub after_system-white : IsAt old (state.AfterDoctypeIdentifier id.System) → is_white_space c ≡ true → Took Sink old old c flow.Continue
     unfolding held_at
     after_system-white from e = stays (state.AfterDoctypeIdentifier id.System) from (λ b s t. behind-c _ _ b s t (skip-white (behind_system (standing old InData) old.doctype) c t e))
 
     -- characters of a name or an identifier, and junk
-    pub name-push : (front : List ℕ) → IsAt old state.DoctypeName → is_white_space c ≡ false → nat_eq c 62 ≡ false → front ≡ old.temporary ++ lowered c ∷ [] → Took step view cdata ends sound number broken errors quiet old (record old { temporary = front }) c flow.Continue
+    pub name-push : (front : List ℕ) → IsAt old state.DoctypeName → is_white_space c ≡ false → nat_eq c 62 ≡ false → front ≡ old.temporary ++ lowered c ∷ [] → Took Sink old (record old { temporary = front }) c flow.Continue
     unfolding held_at
-    name-push front from e f is = rw is (took_marked step view cdata ends sound number broken errors quiet (nat_eq c 0) old (record old { temporary = old.temporary ++ lowered c ∷ [] }) c state.DoctypeName state.DoctypeName from (record { state = from.state; fresh = from.fresh }) refl refl ok
-        (λ b s t. behind-odd step view cdata ends sound number broken errors quiet laws (nat_eq c 0) old _ _ b s c t (name-goes_on (standing old InData) old.temporary c t (word-other c e f))))
+    name-push front from e f is = rw is (took_marked Sink (nat_eq c 0) old (record old { temporary = old.temporary ++ lowered c ∷ [] }) c state.DoctypeName state.DoctypeName from (record { state = from.state; fresh = from.fresh }) refl refl ok
+        (λ b s t. behind-odd Sink laws (nat_eq c 0) old _ _ b s c t (name-goes_on (standing old InData) old.temporary c t (word-other c e f))))
 
-    pub double-push : (kind : DoctypeIdKind) (front : List ℕ) → IsAt old (state.DoctypeIdentifierDoubleQuoted kind) → nat_eq c 34 ≡ false → nat_eq c 62 ≡ false → front ≡ old.temporary ++ shown c ∷ [] → Took step view cdata ends sound number broken errors quiet old (record old { temporary = front }) c flow.Continue
+    pub double-push : (kind : DoctypeIdKind) (front : List ℕ) → IsAt old (state.DoctypeIdentifierDoubleQuoted kind) → nat_eq c 34 ≡ false → nat_eq c 62 ≡ false → front ≡ old.temporary ++ shown c ∷ [] → Took Sink old (record old { temporary = front }) c flow.Continue
     unfolding held_at
     double-push id.Public front from e f is = rw is (grows (state.DoctypeIdentifierDoubleQuoted id.Public) (old.temporary ++ shown c ∷ []) from (λ b s t. behind-c _ _ b s t (public-goes_on 34 (standing old InData) old.doctype old.temporary c t (neither c 34 e f))))
     double-push id.System front from e f is = rw is (grows (state.DoctypeIdentifierDoubleQuoted id.System) (old.temporary ++ shown c ∷ []) from (λ b s t. behind-c _ _ b s t (system-goes_on 34 (standing old InData) old.doctype old.temporary c t (neither c 34 e f))))
 
-    pub single-push : (kind : DoctypeIdKind) (front : List ℕ) → IsAt old (state.DoctypeIdentifierSingleQuoted kind) → nat_eq c 39 ≡ false → nat_eq c 62 ≡ false → front ≡ old.temporary ++ shown c ∷ [] → Took step view cdata ends sound number broken errors quiet old (record old { temporary = front }) c flow.Continue
+    pub single-push : (kind : DoctypeIdKind) (front : List ℕ) → IsAt old (state.DoctypeIdentifierSingleQuoted kind) → nat_eq c 39 ≡ false → nat_eq c 62 ≡ false → front ≡ old.temporary ++ shown c ∷ [] → Took Sink old (record old { temporary = front }) c flow.Continue
     unfolding held_at
     single-push id.Public front from e f is = rw is (grows (state.DoctypeIdentifierSingleQuoted id.Public) (old.temporary ++ shown c ∷ []) from (λ b s t. behind-c _ _ b s t (public-goes_on 39 (standing old InData) old.doctype old.temporary c t (neither c 39 e f))))
     single-push id.System front from e f is = rw is (grows (state.DoctypeIdentifierSingleQuoted id.System) (old.temporary ++ shown c ∷ []) from (λ b s t. behind-c _ _ b s t (system-goes_on 39 (standing old InData) old.doctype old.temporary c t (neither c 39 e f))))
 
-    pub bogus-junk : IsAt old state.BogusDoctype → nat_eq c 62 ≡ false → Took step view cdata ends sound number broken errors quiet old old c flow.Continue
+    pub bogus-junk : IsAt old state.BogusDoctype → nat_eq c 62 ≡ false → Took Sink old old c flow.Continue
     unfolding held_at
     bogus-junk from e = stays state.BogusDoctype from (λ b s t. behind-c _ _ b s t (rw e refl))
 
   -- Quotes.
-  module _ (old : Tokenizer K) (ok : sound (view old.sink)) where
-    pub double-closed : (kind : DoctypeIdKind) (front : List ℕ) (d : Doctype) → IsAt old (state.DoctypeIdentifierDoubleQuoted kind) → front ≡ [] → d ≡ with_identifier kind old.doctype old.temporary → Took step view cdata ends sound number broken errors quiet old (record old { temporary = front; doctype = d; state = state.AfterDoctypeIdentifier kind }) 34 flow.Continue
+  module _ (old : Tokenizer K) (ok : Sink.is_sound (Sink.view old.sink)) where
+    pub double-closed : (kind : DoctypeIdKind) (front : List ℕ) (d : Doctype) → IsAt old (state.DoctypeIdentifierDoubleQuoted kind) → front ≡ [] → d ≡ with_identifier kind old.doctype old.temporary → Took Sink old (record old { temporary = front; doctype = d; state = state.AfterDoctypeIdentifier kind }) 34 flow.Continue
     unfolding held_at
     double-closed id.Public front d from is is' = rw (is, is') (moves old 34 ok (state.DoctypeIdentifierDoubleQuoted id.Public) (state.AfterDoctypeIdentifier id.Public) [] (with_identifier id.Public old.doctype old.temporary) from (λ b s t.
         behind-c old 34 ok (public_after 34 (standing old InData) old.doctype old.temporary (34 ∷ t)) _ b s t (rw append-nil refl)))
     double-closed id.System front d from is is' = rw (is, is') (moves old 34 ok (state.DoctypeIdentifierDoubleQuoted id.System) (state.AfterDoctypeIdentifier id.System) [] (with_identifier id.System old.doctype old.temporary) from (λ b s t.
         behind-c old 34 ok (system_after 34 (standing old InData) old.doctype old.temporary (34 ∷ t)) _ b s t (rw append-nil refl)))
 
-    pub single-closed : (kind : DoctypeIdKind) (front : List ℕ) (d : Doctype) → IsAt old (state.DoctypeIdentifierSingleQuoted kind) → front ≡ [] → d ≡ with_identifier kind old.doctype old.temporary → Took step view cdata ends sound number broken errors quiet old (record old { temporary = front; doctype = d; state = state.AfterDoctypeIdentifier kind }) 39 flow.Continue
+    pub single-closed : (kind : DoctypeIdKind) (front : List ℕ) (d : Doctype) → IsAt old (state.DoctypeIdentifierSingleQuoted kind) → front ≡ [] → d ≡ with_identifier kind old.doctype old.temporary → Took Sink old (record old { temporary = front; doctype = d; state = state.AfterDoctypeIdentifier kind }) 39 flow.Continue
     unfolding held_at
     single-closed id.Public front d from is is' = rw (is, is') (moves old 39 ok (state.DoctypeIdentifierSingleQuoted id.Public) (state.AfterDoctypeIdentifier id.Public) [] (with_identifier id.Public old.doctype old.temporary) from (λ b s t.
         behind-c old 39 ok (public_after 39 (standing old InData) old.doctype old.temporary (39 ∷ t)) _ b s t (rw append-nil refl)))
     single-closed id.System front d from is is' = rw (is, is') (moves old 39 ok (state.DoctypeIdentifierSingleQuoted id.System) (state.AfterDoctypeIdentifier id.System) [] (with_identifier id.System old.doctype old.temporary) from (λ b s t.
         behind-c old 39 ok (system_after 39 (standing old InData) old.doctype old.temporary (39 ∷ t)) _ b s t (rw append-nil refl)))
 
-    pub double-opened : (kind : DoctypeIdKind) (front : List ℕ) → IsAt old (state.BeforeDoctypeIdentifier kind) → front ≡ [] → Took step view cdata ends sound number broken errors quiet old (record old { temporary = front; state = state.DoctypeIdentifierDoubleQuoted kind }) 34 flow.Continue
+    pub double-opened : (kind : DoctypeIdKind) (front : List ℕ) → IsAt old (state.BeforeDoctypeIdentifier kind) → front ≡ [] → Took Sink old (record old { temporary = front; state = state.DoctypeIdentifierDoubleQuoted kind }) 34 flow.Continue
     unfolding held_at
     double-opened id.Public front from is = rw is (moves old 34 ok (state.BeforeDoctypeIdentifier id.Public) (state.DoctypeIdentifierDoubleQuoted id.Public) [] old.doctype from (λ b s t. behind-c old 34 ok _ _ b s t refl))
     double-opened id.System front from is = rw is (moves old 34 ok (state.BeforeDoctypeIdentifier id.System) (state.DoctypeIdentifierDoubleQuoted id.System) [] old.doctype from (λ b s t. behind-c old 34 ok _ _ b s t refl))
 
-    pub single-opened : (kind : DoctypeIdKind) (front : List ℕ) → IsAt old (state.BeforeDoctypeIdentifier kind) → front ≡ [] → Took step view cdata ends sound number broken errors quiet old (record old { temporary = front; state = state.DoctypeIdentifierSingleQuoted kind }) 39 flow.Continue
+    pub single-opened : (kind : DoctypeIdKind) (front : List ℕ) → IsAt old (state.BeforeDoctypeIdentifier kind) → front ≡ [] → Took Sink old (record old { temporary = front; state = state.DoctypeIdentifierSingleQuoted kind }) 39 flow.Continue
     unfolding held_at
     single-opened id.Public front from is = rw is (moves old 39 ok (state.BeforeDoctypeIdentifier id.Public) (state.DoctypeIdentifierSingleQuoted id.Public) [] old.doctype from (λ b s t. behind-c old 39 ok _ _ b s t refl))
     single-opened id.System front from is = rw is (moves old 39 ok (state.BeforeDoctypeIdentifier id.System) (state.DoctypeIdentifierSingleQuoted id.System) [] old.doctype from (λ b s t. behind-c old 39 ok _ _ b s t refl))
 
-    pub second-double : (front : List ℕ) → IsAt old state.BetweenDoctypePublicAndSystemIdentifiers → front ≡ [] → Took step view cdata ends sound number broken errors quiet old (record old { temporary = front; state = state.DoctypeIdentifierDoubleQuoted id.System }) 34 flow.Continue
+    pub second-double : (front : List ℕ) → IsAt old state.BetweenDoctypePublicAndSystemIdentifiers → front ≡ [] → Took Sink old (record old { temporary = front; state = state.DoctypeIdentifierDoubleQuoted id.System }) 34 flow.Continue
     unfolding held_at
     second-double front from is = rw is (moves old 34 ok state.BetweenDoctypePublicAndSystemIdentifiers (state.DoctypeIdentifierDoubleQuoted id.System) [] old.doctype from (λ b s t. behind-c old 34 ok _ _ b s t refl))
 
-    pub second-single : (front : List ℕ) → IsAt old state.BetweenDoctypePublicAndSystemIdentifiers → front ≡ [] → Took step view cdata ends sound number broken errors quiet old (record old { temporary = front; state = state.DoctypeIdentifierSingleQuoted id.System }) 39 flow.Continue
+    pub second-single : (front : List ℕ) → IsAt old state.BetweenDoctypePublicAndSystemIdentifiers → front ≡ [] → Took Sink old (record old { temporary = front; state = state.DoctypeIdentifierSingleQuoted id.System }) 39 flow.Continue
     unfolding held_at
     second-single front from is = rw is (moves old 39 ok state.BetweenDoctypePublicAndSystemIdentifiers (state.DoctypeIdentifierSingleQuoted id.System) [] old.doctype from (λ b s t. behind-c old 39 ok _ _ b s t refl))
 
   -- The character is one of another state.
   module _ (old new : Tokenizer K) (c : ℕ) (result : Result (ProcessResult H) ParseFault) where
     goes-on : (st st' : State) (front : List ℕ) (d : Doctype) → IsAt old st
-        → ((b : ℕ) (s : S × Notes ℕ) (t : List ℕ) → at step view cdata ends sound number broken errors quiet st old b s (c ∷ t) ≡ at step view cdata ends sound number broken errors quiet st' (record old { temporary = front; doctype = d; state = st' }) b s (c ∷ t))
-        → Keeps step view cdata ends sound number broken errors quiet (record old { temporary = front; doctype = d; state = st' }) new c result → Keeps step view cdata ends sound number broken errors quiet old new c result
-    goes-on st st' front d from law keeps = keeps_silent step view cdata ends sound number broken errors quiet old (record old { temporary = front; doctype = d; state = st' }) new c st st' result from (record { state = refl; fresh = from.fresh }) refl refl law keeps
+        → ((b : ℕ) (s : Sink.State × Notes ℕ) (t : List ℕ) → at Sink st old b s (c ∷ t) ≡ at Sink st' (record old { temporary = front; doctype = d; state = st' }) b s (c ∷ t))
+        → Keeps Sink (record old { temporary = front; doctype = d; state = st' }) new c result → Keeps Sink old new c result
+    goes-on st st' front d from law keeps = keeps_silent Sink old (record old { temporary = front; doctype = d; state = st' }) new c st st' result from (record { state = refl; fresh = from.fresh }) refl refl law keeps
 
-    same-item : (i j : Item) (b : ℕ) (s : S × Notes ℕ) (u : List ℕ) → i ≡ j → play (noting step quiet) noting_error (noting_cdata cdata) (noting_end ends) (rows_of old) i b s u ≡ play (noting step quiet) noting_error (noting_cdata cdata) (noting_end ends) (rows_of old) j b s u
-    same-item i j b s u e = ap (λ x. play (noting step quiet) noting_error (noting_cdata cdata) (noting_end ends) (rows_of old) x b s u) e
+    same-item : (i j : Item) (b : ℕ) (s : Sink.State × Notes ℕ) (u : List ℕ) → i ≡ j → play (noting Sink.step Sink.is_quiet) noting_error (noting_cdata Sink.asks_cdata) (noting_end Sink.ended) (rows_of old) i b s u ≡ play (noting Sink.step Sink.is_quiet) noting_error (noting_cdata Sink.asks_cdata) (noting_end Sink.ended) (rows_of old) j b s u
+    same-item i j b s u e = ap (λ x. play (noting Sink.step Sink.is_quiet) noting_error (noting_cdata Sink.asks_cdata) (noting_end Sink.ended) (rows_of old) x b s u) e
 
     pub before_name-other : (front : List ℕ) (d : Doctype) → IsAt old state.BeforeDoctypeName → is_white_space c ≡ false → nat_eq c 62 ≡ false → front ≡ []
-        → Keeps step view cdata ends sound number broken errors quiet (record old { temporary = front; doctype = d; state = state.DoctypeName }) new c result → Keeps step view cdata ends sound number broken errors quiet old new c result
+        → Keeps Sink (record old { temporary = front; doctype = d; state = state.DoctypeName }) new c result → Keeps Sink old new c result
     unfolding held_at
     before_name-other front d from e f is = goes-on state.BeforeDoctypeName state.DoctypeName front d from (λ b s t. rw is (same-item (doctype_behind (standing old InData) (c ∷ t)) (doctype_name_after (standing old InData) [] (c ∷ t)) b s (c ∷ t) (stop-white (doctype_name_at (standing old InData)) c t e ∙ ap (λ x. name_by x (standing old InData) (c ∷ t)) f)))
 
     pub keyword-other : (kind : DoctypeIdKind) → IsAt old (state.AfterDoctypeKeyword kind)
-        → Keeps step view cdata ends sound number broken errors quiet (record old { state = state.BeforeDoctypeIdentifier kind }) new c result → Keeps step view cdata ends sound number broken errors quiet old new c result
+        → Keeps Sink (record old { state = state.BeforeDoctypeIdentifier kind }) new c result → Keeps Sink old new c result
     unfolding held_at
     keyword-other id.Public from = goes-on (state.AfterDoctypeKeyword id.Public) (state.BeforeDoctypeIdentifier id.Public) old.temporary old.doctype from (λ b s t. refl)
     keyword-other id.System from = goes-on (state.AfterDoctypeKeyword id.System) (state.BeforeDoctypeIdentifier id.System) old.temporary old.doctype from (λ b s t. refl)
 
     pub before_identifier-other : (kind : DoctypeIdKind) → IsAt old (state.BeforeDoctypeIdentifier kind) → is_white_space c ≡ false → nat_eq c 34 ≡ false → nat_eq c 39 ≡ false
-        → Keeps step view cdata ends sound number broken errors quiet (record old { doctype = forced old.doctype; state = state.BogusDoctype }) new c result → Keeps step view cdata ends sound number broken errors quiet old new c result
+        → Keeps Sink (record old { doctype = forced old.doctype; state = state.BogusDoctype }) new c result → Keeps Sink old new c result
     unfolding held_at
     before_identifier-other id.Public from e f g = goes-on (state.BeforeDoctypeIdentifier id.Public) state.BogusDoctype old.temporary (forced old.doctype) from (λ b s t.
         same-item (after_public_keyword (standing old InData) old.doctype (c ∷ t)) (junk_after (standing old InData) (forced old.doctype) (c ∷ t)) b s (c ∷ t) (stop-white (public_at (standing old InData) old.doctype) c t e ∙ public-junk (standing old InData) old.doctype c t (nat_eq c 62) refl f g))
@@ -387,24 +388,24 @@ module _ {K S H : Type 0} (step : Step S) (view : K → S) (cdata : S → Bool) 
         same-item (after_system_keyword (standing old InData) old.doctype (c ∷ t)) (junk_after (standing old InData) (forced old.doctype) (c ∷ t)) b s (c ∷ t) (stop-white (system_at (standing old InData) old.doctype) c t e ∙ system-junk (standing old InData) old.doctype c t (nat_eq c 62) refl f g))
 
     pub between-other : IsAt old state.BetweenDoctypePublicAndSystemIdentifiers → is_white_space c ≡ false → nat_eq c 62 ≡ false → nat_eq c 34 ≡ false → nat_eq c 39 ≡ false
-        → Keeps step view cdata ends sound number broken errors quiet (record old { doctype = forced old.doctype; state = state.BogusDoctype }) new c result → Keeps step view cdata ends sound number broken errors quiet old new c result
+        → Keeps Sink (record old { doctype = forced old.doctype; state = state.BogusDoctype }) new c result → Keeps Sink old new c result
     unfolding held_at
     between-other from e f g h = goes-on state.BetweenDoctypePublicAndSystemIdentifiers state.BogusDoctype old.temporary (forced old.doctype) from (λ b s t.
         same-item (after_public (standing old InData) old.doctype (c ∷ t)) (junk_after (standing old InData) (forced old.doctype) (c ∷ t)) b s (c ∷ t) (stop-white (behind_public (standing old InData) old.doctype) c t e ∙ second-junk (standing old InData) old.doctype c t f g h))
 
     pub after_system-other : IsAt old (state.AfterDoctypeIdentifier id.System) → is_white_space c ≡ false
-        → Keeps step view cdata ends sound number broken errors quiet (record old { state = state.BogusDoctype }) new c result → Keeps step view cdata ends sound number broken errors quiet old new c result
+        → Keeps Sink (record old { state = state.BogusDoctype }) new c result → Keeps Sink old new c result
     unfolding held_at
     after_system-other from e = goes-on (state.AfterDoctypeIdentifier id.System) state.BogusDoctype old.temporary old.doctype from (λ b s t.
         same-item (after_system (standing old InData) old.doctype (c ∷ t)) (junk_after (standing old InData) old.doctype (c ∷ t)) b s (c ∷ t) (stop-white (behind_system (standing old InData) old.doctype) c t e))
 
     pub after_public-other : IsAt old (state.AfterDoctypeIdentifier id.Public)
-        → Keeps step view cdata ends sound number broken errors quiet (record old { state = state.BetweenDoctypePublicAndSystemIdentifiers }) new c result → Keeps step view cdata ends sound number broken errors quiet old new c result
+        → Keeps Sink (record old { state = state.BetweenDoctypePublicAndSystemIdentifiers }) new c result → Keeps Sink old new c result
     unfolding held_at
     after_public-other from = goes-on (state.AfterDoctypeIdentifier id.Public) state.BetweenDoctypePublicAndSystemIdentifiers old.temporary old.doctype from (λ b s t. refl)
 
     pub doctype-other : IsAt old state.Doctype
-        → Keeps step view cdata ends sound number broken errors quiet (record old { state = state.BeforeDoctypeName }) new c result → Keeps step view cdata ends sound number broken errors quiet old new c result
+        → Keeps Sink (record old { state = state.BeforeDoctypeName }) new c result → Keeps Sink old new c result
     unfolding held_at
-    doctype-other from keeps = keeps_marked step view cdata ends sound number broken errors quiet (not (ends_word c)) old (record old { state = state.BeforeDoctypeName }) new c state.Doctype state.BeforeDoctypeName result from (record { state = refl; fresh = from.fresh }) refl refl
-        (λ b s t. item-marked step view cdata ends sound number broken errors quiet laws (not (ends_word c)) old (doctype_behind (standing old InData) (c ∷ t)) b s (c ∷ t)) keeps
+    doctype-other from keeps = keeps_marked Sink (not (ends_word c)) old (record old { state = state.BeforeDoctypeName }) new c state.Doctype state.BeforeDoctypeName result from (record { state = refl; fresh = from.fresh }) refl refl
+        (λ b s t. item-marked Sink laws (not (ends_word c)) old (doctype_behind (standing old InData) (c ∷ t)) b s (c ∷ t)) keeps

@@ -32,6 +32,7 @@ use Rattle.html_tokenizer.proofs.Readings.{sum-zero}
 use Rattle.html_tokenizer.proofs.Rises.{IsNoMore, slight-no-more, slight-less, no-more-same}
 use Rattle.html_tokenizer.proofs.Words.{and_parts}
 use Rattle.html_tokens.specs.declared.states.ScriptEscapeKind.{ScriptEscapeKind}
+use Rattle.html_tokens.specs.declared.sink.TokenSink.{Ghosts}
 use Rattle.std.specs.Result.{IsErrAnd}
 
 -- what does not begin so behind a character does not before it
@@ -78,25 +79,25 @@ word-kind word h = kind_after-letters (kind_behind (raw.ScriptDataEscaped script
 slash-kind : (word : List ℕ) → list_all is_ascii_alphabetic word ≡ true → kind_after (raw.ScriptDataEscaped script.DoubleEscaped) (60 ∷ 47 ∷ word) [] ≡ raw.ScriptDataEscaped script.DoubleEscaped
 slash-kind word h = kind_after-letters (kind_behind (kind_behind (raw.ScriptDataEscaped script.DoubleEscaped) 60 (47 ∷ (word ++ []))) 47 (word ++ [])) word [] h ∙ slash-word word h
 
-module _ {K S H : Type 0} (step : Step S) (view : K → S) (cdata : S → Bool) (ends : S → S) (sound : S → Type 0) (number : H → ℕ) (broken : K → Bool) (errors : K → ℕ) (quiet : S → Token → Bool) where
+module _ {K H : Type 0} (Sink : Ghosts K H) where
   -- where a script's text is so escaped
-  ends-as : (k : Tokenizer K) (kind : RawKind) (escaped : ScriptEscapeKind) (b : ℕ) (s : S × Notes ℕ) → kind ≡ raw.ScriptDataEscaped escaped
-      → reading (noting step quiet) noting_error (noting_cdata cdata) (noting_end ends) (rows_of k) (standing k (InRaw kind)) b s [] ≡ at_end step view cdata ends sound number broken errors quiet b (noting_error Slight s)
+  ends-as : (k : Tokenizer K) (kind : RawKind) (escaped : ScriptEscapeKind) (b : ℕ) (s : Sink.State × Notes ℕ) → kind ≡ raw.ScriptDataEscaped escaped
+      → reading (noting Sink.step Sink.is_quiet) noting_error (noting_cdata Sink.asks_cdata) (noting_end Sink.ended) (rows_of k) (standing k (InRaw kind)) b s [] ≡ at_end Sink b (noting_error Slight s)
   unfolding reading_from
   ends-as k kind escaped b s e = rw e refl
 
-  dash-ends : (k : Tokenizer K) (kind : ScriptEscapeKind) → OnlyEnds step view cdata ends sound number broken errors quiet (Some Slight) (state.ScriptDataEscapedDash kind) k
+  dash-ends : (k : Tokenizer K) (kind : ScriptEscapeKind) → OnlyEnds Sink (Some Slight) (state.ScriptDataEscapedDash kind) k
   unfolding held_at reading_from
   dash-ends k script.Escaped b s = refl
   dash-ends k script.DoubleEscaped b s = refl
 
-  dashes-ends : (k : Tokenizer K) (kind : ScriptEscapeKind) → OnlyEnds step view cdata ends sound number broken errors quiet (Some Slight) (state.ScriptDataEscapedDashDash kind) k
+  dashes-ends : (k : Tokenizer K) (kind : ScriptEscapeKind) → OnlyEnds Sink (Some Slight) (state.ScriptDataEscapedDashDash kind) k
   unfolding held_at reading_from
   dashes-ends k script.Escaped b s = refl
   dashes-ends k script.DoubleEscaped b s = refl
 
   -- in a state of told text nothing is to come but the end, behind what is slight where a script's text is escaped
-  told-ends : (st : State) → is_told_text st ≡ true → (k : Tokenizer K) → list_all is_ascii_alphabetic k.word ≡ true → OnlyEnds step view cdata ends sound number broken errors quiet (slight_if (is_escaped st)) st k
+  told-ends : (st : State) → is_told_text st ≡ true → (k : Tokenizer K) → list_all is_ascii_alphabetic k.word ≡ true → OnlyEnds Sink (slight_if (is_escaped st)) st k
   unfolding held_at reading_from
   told-ends state.Data h k w b s = refl
   told-ends state.Plaintext h k w b s = refl
@@ -110,57 +111,57 @@ module _ {K S H : Type 0} (step : Step S) (view : K → S) (cdata : S → Bool) 
   told-ends _ h k w b s = absurd cc
 
   -- nothing is held of text
-  pub told-closes : (old new : Tokenizer K) (result : Result (Unit {0}) ParseFault) → is_told_text old.state ≡ true → old.char_ref ≡ None → sound (view old.sink) → list_all is_ascii_alphabetic old.word ≡ true → Errs step view cdata ends sound number broken errors quiet (owed_for (grave_if (is_escaped old.state))) old new result → Closes step view cdata ends sound number broken errors quiet old new result
-  told-closes old new result h fresh ok w errs = closes_errs step view cdata ends sound number broken errors quiet (slight_if (is_escaped old.state)) (owed_for (grave_if (is_escaped old.state))) old new old.state result (slight-less (is_escaped old.state)) (record { state = refl; fresh = fresh }) ok (told-ends old.state h old w) errs
+  pub told-closes : (old new : Tokenizer K) (result : Result (Unit {0}) ParseFault) → is_told_text old.state ≡ true → old.char_ref ≡ None → Sink.is_sound (Sink.view old.sink) → list_all is_ascii_alphabetic old.word ≡ true → Errs Sink (owed_for (grave_if (is_escaped old.state))) old new result → Closes Sink old new result
+  told-closes old new result h fresh ok w errs = closes_errs Sink (slight_if (is_escaped old.state)) (owed_for (grave_if (is_escaped old.state))) old new old.state result (slight-less (is_escaped old.state)) (record { state = refl; fresh = fresh }) ok (told-ends old.state h old w) errs
 
   -- in text that is escaped twice "<" was told
-  deep-ends : (k : Tokenizer K) → OnlyEnds step view cdata ends sound number broken errors quiet (Some Slight) (state.RawLessThanSign (raw.ScriptDataEscaped script.DoubleEscaped)) k
+  deep-ends : (k : Tokenizer K) → OnlyEnds Sink (Some Slight) (state.RawLessThanSign (raw.ScriptDataEscaped script.DoubleEscaped)) k
   unfolding held_at reading_from
   deep-ends k b s = refl
 
   -- so nothing is held there
-  pub deep-closes : (old new : Tokenizer K) (kind : RawKind) (result : Result (Unit {0}) ParseFault) → IsAt old (state.RawLessThanSign kind) → ends_at_tag kind ≡ false → sound (view old.sink) → Errs step view cdata ends sound number broken errors quiet (owed_for (grave_if (is_escaped old.state))) old new result → Closes step view cdata ends sound number broken errors quiet old new result
+  pub deep-closes : (old new : Tokenizer K) (kind : RawKind) (result : Result (Unit {0}) ParseFault) → IsAt old (state.RawLessThanSign kind) → ends_at_tag kind ≡ false → Sink.is_sound (Sink.view old.sink) → Errs Sink (owed_for (grave_if (is_escaped old.state))) old new result → Closes Sink old new result
   deep-closes old new kind result from e ok errs =
       let at-deep : IsAt old (state.RawLessThanSign (raw.ScriptDataEscaped script.DoubleEscaped)) = rw (double_escaped kind e) at from in
-      closes_errs step view cdata ends sound number broken errors quiet (Some Slight) (owed_for (grave_if (is_escaped old.state))) old new (state.RawLessThanSign (raw.ScriptDataEscaped script.DoubleEscaped)) result
+      closes_errs Sink (Some Slight) (owed_for (grave_if (is_escaped old.state))) old new (state.RawLessThanSign (raw.ScriptDataEscaped script.DoubleEscaped)) result
       (subst (λ b. IsNoMore (owed_for (Some Slight)) (owed_for (grave_if b))) (sym (ap is_escaped at-deep.state)) slight-no-more) at-deep ok (deep-ends old) errs
 
   -- in a CDATA section nothing is to come but the end, which cuts it off
-  cdata-ends : (k : Tokenizer K) → OnlyEnds step view cdata ends sound number broken errors quiet (Some Grave) state.CdataSection k
+  cdata-ends : (k : Tokenizer K) → OnlyEnds Sink (Some Grave) state.CdataSection k
   unfolding held_at reading_from
   cdata-ends k b s = refl
 
   -- a section that does not end is an error
-  pub cdata-closes : (old new : Tokenizer K) (result : Result (Unit {0}) ParseFault) → IsAt old state.CdataSection → sound (view old.sink) → Errs step view cdata ends sound number broken errors quiet a_fault old new result → Closes step view cdata ends sound number broken errors quiet old new result
-  cdata-closes old new result from ok h = closes_errs step view cdata ends sound number broken errors quiet (Some Grave) a_fault old new state.CdataSection result (no-more-same a_fault) from ok (cdata-ends old) h
+  pub cdata-closes : (old new : Tokenizer K) (result : Result (Unit {0}) ParseFault) → IsAt old state.CdataSection → Sink.is_sound (Sink.view old.sink) → Errs Sink a_fault old new result → Closes Sink old new result
+  cdata-closes old new result from ok h = closes_errs Sink (Some Grave) a_fault old new state.CdataSection result (no-more-same a_fault) from ok (cdata-ends old) h
 
-module _ {K S H : Type 0} (step : Step S) (view : K → S) (cdata : S → Bool) (ends : S → S) (sound : S → Type 0) (number : H → ℕ) (broken : K → Bool) (errors : K → ℕ) (quiet : S → Token → Bool) (laws : SinkLaws sound step ends quiet) where
+module _ {K H : Type 0} (Sink : Ghosts K H) (laws : SinkLaws Sink.is_sound Sink.step Sink.ended Sink.is_quiet) where
   -- behind "<" that is to come, and then the end
-  open-last : (k : Tokenizer K) → TellsLast step view cdata ends sound number broken errors quiet state.TagOpen k (owed_for (Some Slight)) (CharacterTokens (60 ∷ []))
+  open-last : (k : Tokenizer K) → TellsLast Sink state.TagOpen k (owed_for (Some Slight)) (CharacterTokens (60 ∷ []))
   unfolding held_at reading_from
   open-last k b s h =
       let here = standing k InData in
-      reading-token (λ p. sound p.0) (noting step quiet) noting_error (noting_cdata cdata) (noting_end ends) (rows_of k) (noting-lawful sound step ends quiet laws) (Some Slight) here here b s h 60 [] (CharacterTokens (60 ∷ [])) tt refl refl
-      ∙ ap (λ n. noting step quiet (noting_error Slight s) (CharacterTokens (60 ∷ [])) (line_number b) >>= λ p. at_end step view cdata ends sound number broken errors quiet n p.0) (sum-zero b)
+      reading-token (λ p. Sink.is_sound p.0) (noting Sink.step Sink.is_quiet) noting_error (noting_cdata Sink.asks_cdata) (noting_end Sink.ended) (rows_of k) (noting-lawful Sink.is_sound Sink.step Sink.ended Sink.is_quiet laws) (Some Slight) here here b s h 60 [] (CharacterTokens (60 ∷ [])) tt refl refl
+      ∙ ap (λ n. noting Sink.step Sink.is_quiet (noting_error Slight s) (CharacterTokens (60 ∷ [])) (line_number b) >>= λ p. at_end Sink n p.0) (sum-zero b)
 
   -- "<" was text
-  pub open-closes : (old new : Tokenizer K) (result : Result (Unit {0}) ParseFault) → IsAt old state.TagOpen → sound (view old.sink) → Tells step view cdata ends sound number broken errors quiet (owed_for (Some Slight)) (CharacterTokens (60 ∷ [])) old new result → Closes step view cdata ends sound number broken errors quiet old new result
-  open-closes old new result from ok told = closes_told step view cdata ends sound number broken errors quiet (owed_for (Some Slight)) old new state.TagOpen (CharacterTokens (60 ∷ [])) result from ok (open-last old) told
+  pub open-closes : (old new : Tokenizer K) (result : Result (Unit {0}) ParseFault) → IsAt old state.TagOpen → Sink.is_sound (Sink.view old.sink) → Tells Sink (owed_for (Some Slight)) (CharacterTokens (60 ∷ [])) old new result → Closes Sink old new result
+  open-closes old new result from ok told = closes_told Sink (owed_for (Some Slight)) old new state.TagOpen (CharacterTokens (60 ∷ [])) result from ok (open-last old) told
 
   -- behind "</" those are to come, and then the end
-  end_open-last : (k : Tokenizer K) → TellsLast step view cdata ends sound number broken errors quiet state.EndTagOpen k (owed_for (Some Slight)) (CharacterTokens (60 ∷ 47 ∷ []))
+  end_open-last : (k : Tokenizer K) → TellsLast Sink state.EndTagOpen k (owed_for (Some Slight)) (CharacterTokens (60 ∷ 47 ∷ []))
   unfolding held_at reading_from
   end_open-last k b s h =
       let here = standing k InData in
-      let lawful = noting-lawful sound step ends quiet laws in
-      reading-token (λ p. sound p.0) (noting step quiet) noting_error (noting_cdata cdata) (noting_end ends) (rows_of k) lawful (Some Slight) here here b s h 60 (47 ∷ []) (CharacterTokens (60 ∷ [])) tt refl refl
-      ∙ ap (λ n. noting step quiet (noting_error Slight s) (CharacterTokens (60 ∷ [])) (line_number b) >>= λ p. reading (noting step quiet) noting_error (noting_cdata cdata) (noting_end ends) (rows_of k) here n p.0 (47 ∷ [])) (sum-zero b)
-      ∙ told-more (λ p. sound p.0) (noting step quiet) noting_error (noting_cdata cdata) (noting_end ends) (rows_of k) lawful here here b (noting_error Slight s) h (60 ∷ []) 47 [] (line_number b)
-      (λ q g. reading-text (λ p. sound p.0) (noting step quiet) noting_error (noting_cdata cdata) (noting_end ends) (rows_of k) lawful here here b q g 47 [] (line_number b) refl refl)
+      let lawful = noting-lawful Sink.is_sound Sink.step Sink.ended Sink.is_quiet laws in
+      reading-token (λ p. Sink.is_sound p.0) (noting Sink.step Sink.is_quiet) noting_error (noting_cdata Sink.asks_cdata) (noting_end Sink.ended) (rows_of k) lawful (Some Slight) here here b s h 60 (47 ∷ []) (CharacterTokens (60 ∷ [])) tt refl refl
+      ∙ ap (λ n. noting Sink.step Sink.is_quiet (noting_error Slight s) (CharacterTokens (60 ∷ [])) (line_number b) >>= λ p. reading (noting Sink.step Sink.is_quiet) noting_error (noting_cdata Sink.asks_cdata) (noting_end Sink.ended) (rows_of k) here n p.0 (47 ∷ [])) (sum-zero b)
+      ∙ told-more (λ p. Sink.is_sound p.0) (noting Sink.step Sink.is_quiet) noting_error (noting_cdata Sink.asks_cdata) (noting_end Sink.ended) (rows_of k) lawful here here b (noting_error Slight s) h (60 ∷ []) 47 [] (line_number b)
+      (λ q g. reading-text (λ p. Sink.is_sound p.0) (noting Sink.step Sink.is_quiet) noting_error (noting_cdata Sink.asks_cdata) (noting_end Sink.ended) (rows_of k) lawful here here b q g 47 [] (line_number b) refl refl)
 
   -- "</" was text
-  pub end_open-closes : (old new : Tokenizer K) (result : Result (Unit {0}) ParseFault) → IsAt old state.EndTagOpen → sound (view old.sink) → Tells step view cdata ends sound number broken errors quiet (owed_for (Some Slight)) (CharacterTokens (60 ∷ 47 ∷ [])) old new result → Closes step view cdata ends sound number broken errors quiet old new result
-  end_open-closes old new result from ok told = closes_told step view cdata ends sound number broken errors quiet (owed_for (Some Slight)) old new state.EndTagOpen (CharacterTokens (60 ∷ 47 ∷ [])) result from ok (end_open-last old) told
+  pub end_open-closes : (old new : Tokenizer K) (result : Result (Unit {0}) ParseFault) → IsAt old state.EndTagOpen → Sink.is_sound (Sink.view old.sink) → Tells Sink (owed_for (Some Slight)) (CharacterTokens (60 ∷ 47 ∷ [])) old new result → Closes Sink old new result
+  end_open-closes old new result from ok told = closes_told Sink (owed_for (Some Slight)) old new state.EndTagOpen (CharacterTokens (60 ∷ 47 ∷ [])) result from ok (end_open-last old) told
 
   -- "<" in raw text is read as text
   raw_open-item : (k : Tokenizer K) (kind : RawKind) (x : Bool) → ends_at_tag kind ≡ true → item (rows_of k) x (standing k (InRaw kind)) 60 [] ≡ character 60 (standing k (InRaw kind))
@@ -175,15 +176,15 @@ module _ {K S H : Type 0} (step : Step S) (view : K → S) (cdata : S → Bool) 
   escaped-less : (old mid : Tokenizer K) (st : State) → IsAt old st → mid ≡ record old { sink = mid.sink } → IsNoMore (owed_for (slight_if (is_escaped st))) (owed_for (grave_if (is_escaped mid.state)))
   escaped-less old mid st from changed = subst (λ x. IsNoMore (owed_for (slight_if (is_escaped st))) (owed_for (grave_if (is_escaped x)))) (sym (ap (λ (k : Tokenizer K). k.state) changed ∙ from.state)) (slight-less (is_escaped st))
 
-  raw_open-read : (k : Tokenizer K) (kind : RawKind) (b : ℕ) (s : S × Notes ℕ) → sound s.0 → ends_at_tag kind ≡ true
-      → reading (noting step quiet) noting_error (noting_cdata cdata) (noting_end ends) (rows_of k) (standing k (InRaw kind)) b s (60 ∷ []) ≡ (noting step quiet s (CharacterTokens (60 ∷ [])) (line_number b) >>= λ p. at_end step view cdata ends sound number broken errors quiet b (erred_by noting_error (slight_if (is_escaped_kind kind)) p.0))
+  raw_open-read : (k : Tokenizer K) (kind : RawKind) (b : ℕ) (s : Sink.State × Notes ℕ) → Sink.is_sound s.0 → ends_at_tag kind ≡ true
+      → reading (noting Sink.step Sink.is_quiet) noting_error (noting_cdata Sink.asks_cdata) (noting_end Sink.ended) (rows_of k) (standing k (InRaw kind)) b s (60 ∷ []) ≡ (noting Sink.step Sink.is_quiet s (CharacterTokens (60 ∷ [])) (line_number b) >>= λ p. at_end Sink b (erred_by noting_error (slight_if (is_escaped_kind kind)) p.0))
   unfolding reading_from
   raw_open-read k kind b s h e =
       let here = standing k (InRaw kind) in
-      reading-text (λ p. sound p.0) (noting step quiet) noting_error (noting_cdata cdata) (noting_end ends) (rows_of k) (noting-lawful sound step ends quiet laws) here here b s h 60 [] (line_number b) refl (raw_open-item k kind (cdata s.0) e)
+      reading-text (λ p. Sink.is_sound p.0) (noting Sink.step Sink.is_quiet) noting_error (noting_cdata Sink.asks_cdata) (noting_end Sink.ended) (rows_of k) (noting-lawful Sink.is_sound Sink.step Sink.ended Sink.is_quiet laws) here here b s h 60 [] (line_number b) refl (raw_open-item k kind (Sink.asks_cdata s.0) e)
 
   -- the same by the state behind it
-  raw_open-last : (k : Tokenizer K) (kind : RawKind) → ends_at_tag kind ≡ true → TellsThen step view cdata ends sound number broken errors quiet (slight_if (is_escaped_kind kind)) (state.RawLessThanSign kind) k (CharacterTokens (60 ∷ []))
+  raw_open-last : (k : Tokenizer K) (kind : RawKind) → ends_at_tag kind ≡ true → TellsThen Sink (slight_if (is_escaped_kind kind)) (state.RawLessThanSign kind) k (CharacterTokens (60 ∷ []))
   unfolding held_at
   raw_open-last k raw.Rcdata e b s h = raw_open-read k raw.Rcdata b s h e
   raw_open-last k raw.Rawtext e b s h = raw_open-read k raw.Rawtext b s h e
@@ -192,66 +193,66 @@ module _ {K S H : Type 0} (step : Step S) (view : K → S) (cdata : S → Bool) 
   raw_open-last k (raw.ScriptDataEscaped script.DoubleEscaped) e b s h = absurd cc
 
   -- "<" was text
-  pub raw_open-closes : (old mid new : Tokenizer K) (kind : RawKind) (result : Result (Unit {0}) ParseFault) → IsAt old (state.RawLessThanSign kind) → sound (view old.sink) → ends_at_tag kind ≡ true → Told step view cdata ends sound number broken errors quiet nothing (CharacterTokens (60 ∷ [])) old mid → Errs step view cdata ends sound number broken errors quiet (owed_for (grave_if (is_escaped mid.state))) mid new result → Closes step view cdata ends sound number broken errors quiet old new result
-  raw_open-closes old mid new kind result from ok e told errs = closes_then step view cdata ends sound number broken errors quiet (slight_if (is_escaped_kind kind)) (owed_for (grave_if (is_escaped mid.state))) old mid new (state.RawLessThanSign kind) (CharacterTokens (60 ∷ [])) result (escaped-less old mid (state.RawLessThanSign kind) from told.changed) from ok (raw_open-last old kind e) told errs
+  pub raw_open-closes : (old mid new : Tokenizer K) (kind : RawKind) (result : Result (Unit {0}) ParseFault) → IsAt old (state.RawLessThanSign kind) → Sink.is_sound (Sink.view old.sink) → ends_at_tag kind ≡ true → Told Sink nothing (CharacterTokens (60 ∷ [])) old mid → Errs Sink (owed_for (grave_if (is_escaped mid.state))) mid new result → Closes Sink old new result
+  raw_open-closes old mid new kind result from ok e told errs = closes_then Sink (slight_if (is_escaped_kind kind)) (owed_for (grave_if (is_escaped mid.state))) old mid new (state.RawLessThanSign kind) (CharacterTokens (60 ∷ [])) result (escaped-less old mid (state.RawLessThanSign kind) from told.changed) from ok (raw_open-last old kind e) told errs
 
-  pub raw_open-untold : (old new : Tokenizer K) (kind : RawKind) (told : ParseFault) (result : Result (Unit {0}) ParseFault) → IsAt old (state.RawLessThanSign kind) → sound (view old.sink) → ends_at_tag kind ≡ true → Tells step view cdata ends sound number broken errors quiet nothing (CharacterTokens (60 ∷ [])) old new (Err told) → IsErrAnd result (λ y. y ≡ told) → Closes step view cdata ends sound number broken errors quiet old new result
-  raw_open-untold old new kind told result from ok e fails is = closes_untold step view cdata ends sound number broken errors quiet (slight_if (is_escaped_kind kind)) old new (state.RawLessThanSign kind) (CharacterTokens (60 ∷ [])) told result from ok (raw_open-last old kind e) fails is
+  pub raw_open-untold : (old new : Tokenizer K) (kind : RawKind) (told : ParseFault) (result : Result (Unit {0}) ParseFault) → IsAt old (state.RawLessThanSign kind) → Sink.is_sound (Sink.view old.sink) → ends_at_tag kind ≡ true → Tells Sink nothing (CharacterTokens (60 ∷ [])) old new (Err told) → IsErrAnd result (λ y. y ≡ told) → Closes Sink old new result
+  raw_open-untold old new kind told result from ok e fails is = closes_untold Sink (slight_if (is_escaped_kind kind)) old new (state.RawLessThanSign kind) (CharacterTokens (60 ∷ [])) told result from ok (raw_open-last old kind e) fails is
 
   -- "</" and letters in raw text are to come, and then the end
-  raw_name-read : (k : Tokenizer K) (kind : RawKind) (word : List ℕ) (b : ℕ) (s : S × Notes ℕ) → sound s.0 → list_all is_ascii_alphabetic word ≡ true
-      → reading (noting step quiet) noting_error (noting_cdata cdata) (noting_end ends) (rows_of k) (standing k (InRaw kind)) b s (60 ∷ 47 ∷ (word ++ [])) ≡ (noting step quiet s (CharacterTokens (60 ∷ 47 ∷ word)) (line_number b) >>= λ p. at_end step view cdata ends sound number broken errors quiet b (erred_by noting_error (slight_if (is_escaped_kind kind)) p.0))
+  raw_name-read : (k : Tokenizer K) (kind : RawKind) (word : List ℕ) (b : ℕ) (s : Sink.State × Notes ℕ) → Sink.is_sound s.0 → list_all is_ascii_alphabetic word ≡ true
+      → reading (noting Sink.step Sink.is_quiet) noting_error (noting_cdata Sink.asks_cdata) (noting_end Sink.ended) (rows_of k) (standing k (InRaw kind)) b s (60 ∷ 47 ∷ (word ++ [])) ≡ (noting Sink.step Sink.is_quiet s (CharacterTokens (60 ∷ 47 ∷ word)) (line_number b) >>= λ p. at_end Sink b (erred_by noting_error (slight_if (is_escaped_kind kind)) p.0))
   unfolding reading_from
   raw_name-read k kind word b s h w =
-      end_tag-run step view cdata ends sound number broken errors quiet laws k kind word b s h [] w
+      end_tag-run Sink laws k kind word b s h [] w
       (ap (λ u. ends_at_tag kind && is_fitting_end k.last_start_tag (47 ∷ u)) (append-nil word) ∙ rw (unfit-last k.last_start_tag word w) (and-none (ends_at_tag kind)))
-      ∙ ap (λ kind. noting step quiet s (CharacterTokens (60 ∷ 47 ∷ word)) (line_number b) >>= λ p. reading (noting step quiet) noting_error (noting_cdata cdata) (noting_end ends) (rows_of k) (standing k (InRaw kind)) b p.0 []) (slash-behind kind word w)
+      ∙ ap (λ kind. noting Sink.step Sink.is_quiet s (CharacterTokens (60 ∷ 47 ∷ word)) (line_number b) >>= λ p. reading (noting Sink.step Sink.is_quiet) noting_error (noting_cdata Sink.asks_cdata) (noting_end Sink.ended) (rows_of k) (standing k (InRaw kind)) b p.0 []) (slash-behind kind word w)
 
   -- the same by the states behind "</" and behind the letters
-  raw_end_open-last : (k : Tokenizer K) (kind : RawKind) → TellsThen step view cdata ends sound number broken errors quiet (slight_if (is_escaped_kind kind)) (state.RawEndTagOpen kind) k (CharacterTokens (60 ∷ 47 ∷ []))
+  raw_end_open-last : (k : Tokenizer K) (kind : RawKind) → TellsThen Sink (slight_if (is_escaped_kind kind)) (state.RawEndTagOpen kind) k (CharacterTokens (60 ∷ 47 ∷ []))
   unfolding held_at
   raw_end_open-last k kind b s h = raw_name-read k kind [] b s h refl
 
-  raw_name-last : (k : Tokenizer K) (kind : RawKind) → list_all is_ascii_alphabetic k.word ≡ true → TellsThen step view cdata ends sound number broken errors quiet (slight_if (is_escaped_kind kind)) (state.RawEndTagName kind) k (CharacterTokens (60 ∷ 47 ∷ k.word))
+  raw_name-last : (k : Tokenizer K) (kind : RawKind) → list_all is_ascii_alphabetic k.word ≡ true → TellsThen Sink (slight_if (is_escaped_kind kind)) (state.RawEndTagName kind) k (CharacterTokens (60 ∷ 47 ∷ k.word))
   unfolding held_at
   raw_name-last k kind w b s h = raw_name-read k kind k.word b s h w
 
   -- they were text
-  pub raw_end_open-closes : (old mid new : Tokenizer K) (kind : RawKind) (result : Result (Unit {0}) ParseFault) → IsAt old (state.RawEndTagOpen kind) → sound (view old.sink) → Told step view cdata ends sound number broken errors quiet nothing (CharacterTokens (60 ∷ 47 ∷ [])) old mid → Errs step view cdata ends sound number broken errors quiet (owed_for (grave_if (is_escaped mid.state))) mid new result → Closes step view cdata ends sound number broken errors quiet old new result
-  raw_end_open-closes old mid new kind result from ok told errs = closes_then step view cdata ends sound number broken errors quiet (slight_if (is_escaped_kind kind)) (owed_for (grave_if (is_escaped mid.state))) old mid new (state.RawEndTagOpen kind) (CharacterTokens (60 ∷ 47 ∷ [])) result (escaped-less old mid (state.RawEndTagOpen kind) from told.changed) from ok (raw_end_open-last old kind) told errs
+  pub raw_end_open-closes : (old mid new : Tokenizer K) (kind : RawKind) (result : Result (Unit {0}) ParseFault) → IsAt old (state.RawEndTagOpen kind) → Sink.is_sound (Sink.view old.sink) → Told Sink nothing (CharacterTokens (60 ∷ 47 ∷ [])) old mid → Errs Sink (owed_for (grave_if (is_escaped mid.state))) mid new result → Closes Sink old new result
+  raw_end_open-closes old mid new kind result from ok told errs = closes_then Sink (slight_if (is_escaped_kind kind)) (owed_for (grave_if (is_escaped mid.state))) old mid new (state.RawEndTagOpen kind) (CharacterTokens (60 ∷ 47 ∷ [])) result (escaped-less old mid (state.RawEndTagOpen kind) from told.changed) from ok (raw_end_open-last old kind) told errs
 
-  pub raw_end_open-untold : (old new : Tokenizer K) (kind : RawKind) (told : ParseFault) (result : Result (Unit {0}) ParseFault) → IsAt old (state.RawEndTagOpen kind) → sound (view old.sink) → Tells step view cdata ends sound number broken errors quiet nothing (CharacterTokens (60 ∷ 47 ∷ [])) old new (Err told) → IsErrAnd result (λ y. y ≡ told) → Closes step view cdata ends sound number broken errors quiet old new result
-  raw_end_open-untold old new kind told result from ok fails is = closes_untold step view cdata ends sound number broken errors quiet (slight_if (is_escaped_kind kind)) old new (state.RawEndTagOpen kind) (CharacterTokens (60 ∷ 47 ∷ [])) told result from ok (raw_end_open-last old kind) fails is
+  pub raw_end_open-untold : (old new : Tokenizer K) (kind : RawKind) (told : ParseFault) (result : Result (Unit {0}) ParseFault) → IsAt old (state.RawEndTagOpen kind) → Sink.is_sound (Sink.view old.sink) → Tells Sink nothing (CharacterTokens (60 ∷ 47 ∷ [])) old new (Err told) → IsErrAnd result (λ y. y ≡ told) → Closes Sink old new result
+  raw_end_open-untold old new kind told result from ok fails is = closes_untold Sink (slight_if (is_escaped_kind kind)) old new (state.RawEndTagOpen kind) (CharacterTokens (60 ∷ 47 ∷ [])) told result from ok (raw_end_open-last old kind) fails is
 
-  pub raw_name-closes : (old mid new : Tokenizer K) (kind : RawKind) (result : Result (Unit {0}) ParseFault) → IsAt old (state.RawEndTagName kind) → sound (view old.sink) → list_all is_ascii_alphabetic old.word ≡ true → Told step view cdata ends sound number broken errors quiet nothing (CharacterTokens (60 ∷ 47 ∷ old.word)) old mid → Errs step view cdata ends sound number broken errors quiet (owed_for (grave_if (is_escaped mid.state))) mid new result → Closes step view cdata ends sound number broken errors quiet old new result
-  raw_name-closes old mid new kind result from ok w told errs = closes_then step view cdata ends sound number broken errors quiet (slight_if (is_escaped_kind kind)) (owed_for (grave_if (is_escaped mid.state))) old mid new (state.RawEndTagName kind) (CharacterTokens (60 ∷ 47 ∷ old.word)) result (escaped-less old mid (state.RawEndTagName kind) from told.changed) from ok (raw_name-last old kind w) told errs
+  pub raw_name-closes : (old mid new : Tokenizer K) (kind : RawKind) (result : Result (Unit {0}) ParseFault) → IsAt old (state.RawEndTagName kind) → Sink.is_sound (Sink.view old.sink) → list_all is_ascii_alphabetic old.word ≡ true → Told Sink nothing (CharacterTokens (60 ∷ 47 ∷ old.word)) old mid → Errs Sink (owed_for (grave_if (is_escaped mid.state))) mid new result → Closes Sink old new result
+  raw_name-closes old mid new kind result from ok w told errs = closes_then Sink (slight_if (is_escaped_kind kind)) (owed_for (grave_if (is_escaped mid.state))) old mid new (state.RawEndTagName kind) (CharacterTokens (60 ∷ 47 ∷ old.word)) result (escaped-less old mid (state.RawEndTagName kind) from told.changed) from ok (raw_name-last old kind w) told errs
 
-  pub raw_name-untold : (old new : Tokenizer K) (kind : RawKind) (told : ParseFault) (result : Result (Unit {0}) ParseFault) → IsAt old (state.RawEndTagName kind) → sound (view old.sink) → list_all is_ascii_alphabetic old.word ≡ true → Tells step view cdata ends sound number broken errors quiet nothing (CharacterTokens (60 ∷ 47 ∷ old.word)) old new (Err told) → IsErrAnd result (λ y. y ≡ told) → Closes step view cdata ends sound number broken errors quiet old new result
-  raw_name-untold old new kind told result from ok w fails is = closes_untold step view cdata ends sound number broken errors quiet (slight_if (is_escaped_kind kind)) old new (state.RawEndTagName kind) (CharacterTokens (60 ∷ 47 ∷ old.word)) told result from ok (raw_name-last old kind w) fails is
+  pub raw_name-untold : (old new : Tokenizer K) (kind : RawKind) (told : ParseFault) (result : Result (Unit {0}) ParseFault) → IsAt old (state.RawEndTagName kind) → Sink.is_sound (Sink.view old.sink) → list_all is_ascii_alphabetic old.word ≡ true → Tells Sink nothing (CharacterTokens (60 ∷ 47 ∷ old.word)) old new (Err told) → IsErrAnd result (λ y. y ≡ told) → Closes Sink old new result
+  raw_name-untold old new kind told result from ok w fails is = closes_untold Sink (slight_if (is_escaped_kind kind)) old new (state.RawEndTagName kind) (CharacterTokens (60 ∷ 47 ∷ old.word)) told result from ok (raw_name-last old kind w) fails is
 
   -- in a CDATA section "]" or "]]" is to come, and then the end, which cuts it off
-  bracket-last : (k : Tokenizer K) → TellsThen step view cdata ends sound number broken errors quiet (Some Grave) state.CdataSectionBracket k (CharacterTokens (93 ∷ []))
+  bracket-last : (k : Tokenizer K) → TellsThen Sink (Some Grave) state.CdataSectionBracket k (CharacterTokens (93 ∷ []))
   unfolding held_at reading_from
   bracket-last k b s h =
       let here = standing k InCdata in
-      reading-text (λ p. sound p.0) (noting step quiet) noting_error (noting_cdata cdata) (noting_end ends) (rows_of k) (noting-lawful sound step ends quiet laws) here here b s h 93 [] (line_number b) refl refl
+      reading-text (λ p. Sink.is_sound p.0) (noting Sink.step Sink.is_quiet) noting_error (noting_cdata Sink.asks_cdata) (noting_end Sink.ended) (rows_of k) (noting-lawful Sink.is_sound Sink.step Sink.ended Sink.is_quiet laws) here here b s h 93 [] (line_number b) refl refl
 
-  brackets-last : (k : Tokenizer K) → TellsThen step view cdata ends sound number broken errors quiet (Some Grave) state.CdataSectionEnd k (CharacterTokens (93 ∷ 93 ∷ []))
+  brackets-last : (k : Tokenizer K) → TellsThen Sink (Some Grave) state.CdataSectionEnd k (CharacterTokens (93 ∷ 93 ∷ []))
   unfolding held_at reading_from
   brackets-last k b s h =
       let here = standing k InCdata in
-      reading-two (λ p. sound p.0) (noting step quiet) noting_error (noting_cdata cdata) (noting_end ends) (rows_of k) (noting-lawful sound step ends quiet laws) here here here b s h 93 93 [] (line_number b) refl refl (λ x. refl) (λ x. refl)
+      reading-two (λ p. Sink.is_sound p.0) (noting Sink.step Sink.is_quiet) noting_error (noting_cdata Sink.asks_cdata) (noting_end Sink.ended) (rows_of k) (noting-lawful Sink.is_sound Sink.step Sink.ended Sink.is_quiet laws) here here here b s h 93 93 [] (line_number b) refl refl (λ x. refl) (λ x. refl)
 
   -- the "]" behind which a section does not end was text, and that it does not is an error
-  pub bracket-closes : (old mid new : Tokenizer K) (result : Result (Unit {0}) ParseFault) → IsAt old state.CdataSectionBracket → sound (view old.sink) → Told step view cdata ends sound number broken errors quiet nothing (CharacterTokens (93 ∷ [])) old mid → Errs step view cdata ends sound number broken errors quiet a_fault mid new result → Closes step view cdata ends sound number broken errors quiet old new result
-  bracket-closes old mid new result from ok told errs = closes_then step view cdata ends sound number broken errors quiet (Some Grave) a_fault old mid new state.CdataSectionBracket (CharacterTokens (93 ∷ [])) result (no-more-same a_fault) from ok (bracket-last old) told errs
+  pub bracket-closes : (old mid new : Tokenizer K) (result : Result (Unit {0}) ParseFault) → IsAt old state.CdataSectionBracket → Sink.is_sound (Sink.view old.sink) → Told Sink nothing (CharacterTokens (93 ∷ [])) old mid → Errs Sink a_fault mid new result → Closes Sink old new result
+  bracket-closes old mid new result from ok told errs = closes_then Sink (Some Grave) a_fault old mid new state.CdataSectionBracket (CharacterTokens (93 ∷ [])) result (no-more-same a_fault) from ok (bracket-last old) told errs
 
-  pub bracket-untold : (old new : Tokenizer K) (told : ParseFault) (result : Result (Unit {0}) ParseFault) → IsAt old state.CdataSectionBracket → sound (view old.sink) → Tells step view cdata ends sound number broken errors quiet nothing (CharacterTokens (93 ∷ [])) old new (Err told) → IsErrAnd result (λ y. y ≡ told) → Closes step view cdata ends sound number broken errors quiet old new result
-  bracket-untold old new told result from ok fails is = closes_untold step view cdata ends sound number broken errors quiet (Some Grave) old new state.CdataSectionBracket (CharacterTokens (93 ∷ [])) told result from ok (bracket-last old) fails is
+  pub bracket-untold : (old new : Tokenizer K) (told : ParseFault) (result : Result (Unit {0}) ParseFault) → IsAt old state.CdataSectionBracket → Sink.is_sound (Sink.view old.sink) → Tells Sink nothing (CharacterTokens (93 ∷ [])) old new (Err told) → IsErrAnd result (λ y. y ≡ told) → Closes Sink old new result
+  bracket-untold old new told result from ok fails is = closes_untold Sink (Some Grave) old new state.CdataSectionBracket (CharacterTokens (93 ∷ [])) told result from ok (bracket-last old) fails is
 
   -- the same of "]]"
-  pub brackets-closes : (old mid new : Tokenizer K) (result : Result (Unit {0}) ParseFault) → IsAt old state.CdataSectionEnd → sound (view old.sink) → Told step view cdata ends sound number broken errors quiet nothing (CharacterTokens (93 ∷ 93 ∷ [])) old mid → Errs step view cdata ends sound number broken errors quiet a_fault mid new result → Closes step view cdata ends sound number broken errors quiet old new result
-  brackets-closes old mid new result from ok told errs = closes_then step view cdata ends sound number broken errors quiet (Some Grave) a_fault old mid new state.CdataSectionEnd (CharacterTokens (93 ∷ 93 ∷ [])) result (no-more-same a_fault) from ok (brackets-last old) told errs
+  pub brackets-closes : (old mid new : Tokenizer K) (result : Result (Unit {0}) ParseFault) → IsAt old state.CdataSectionEnd → Sink.is_sound (Sink.view old.sink) → Told Sink nothing (CharacterTokens (93 ∷ 93 ∷ [])) old mid → Errs Sink a_fault mid new result → Closes Sink old new result
+  brackets-closes old mid new result from ok told errs = closes_then Sink (Some Grave) a_fault old mid new state.CdataSectionEnd (CharacterTokens (93 ∷ 93 ∷ [])) result (no-more-same a_fault) from ok (brackets-last old) told errs
 
-  pub brackets-untold : (old new : Tokenizer K) (told : ParseFault) (result : Result (Unit {0}) ParseFault) → IsAt old state.CdataSectionEnd → sound (view old.sink) → Tells step view cdata ends sound number broken errors quiet nothing (CharacterTokens (93 ∷ 93 ∷ [])) old new (Err told) → IsErrAnd result (λ y. y ≡ told) → Closes step view cdata ends sound number broken errors quiet old new result
-  brackets-untold old new told result from ok fails is = closes_untold step view cdata ends sound number broken errors quiet (Some Grave) old new state.CdataSectionEnd (CharacterTokens (93 ∷ 93 ∷ [])) told result from ok (brackets-last old) fails is
+  pub brackets-untold : (old new : Tokenizer K) (told : ParseFault) (result : Result (Unit {0}) ParseFault) → IsAt old state.CdataSectionEnd → Sink.is_sound (Sink.view old.sink) → Tells Sink nothing (CharacterTokens (93 ∷ 93 ∷ [])) old new (Err told) → IsErrAnd result (λ y. y ≡ told) → Closes Sink old new result
+  brackets-untold old new told result from ok fails is = closes_untold Sink (Some Grave) old new state.CdataSectionEnd (CharacterTokens (93 ∷ 93 ∷ [])) told result from ok (brackets-last old) fails is

@@ -6,6 +6,7 @@ use Rattle.html_tokens.specs.Notes.{Notes, noting_error}
 use Rattle.html_tokens.specs.declared.states.AttrValueKind.TheVariants as value
 use Rattle.html_tokens.specs.declared.states.State.{State}
 use Rattle.html_tokens.specs.declared.states.State.TheVariants as state
+use Rattle.html_tokens.specs.declared.sink.TokenSink.{Ghosts}
 use Rattle.html_tokens.specs.Reading.{reading_from}
 use Rattle.html_tokens.specs.Tags.{value_from}
 use Rattle.html_tokens.specs.Sink.{Step}
@@ -19,13 +20,13 @@ use Rattle.html_tokenizer.proofs.Rises.{no-more-same}
 use Rattle.html_tokenizer.proofs.Readings.{sum-zero}
 use Rattle.html_tokens.specs.Item.{Grave}
 
-module _ {K S H : Type 0} (step : Step S) (view : K → S) (cdata : S → Bool) (ends : S → S) (sound : S → Type 0) (number : H → ℕ) (broken : K → Bool) (errors : K → ℕ) (quiet : S → Token → Bool) where
+module _ {K H : Type 0} (Sink : Ghosts K H) where
   -- the end behind no characters more
-  end-here : (b : ℕ) (s : S × Notes ℕ) → at_end step view cdata ends sound number broken errors quiet (b + 0) s ≡ at_end step view cdata ends sound number broken errors quiet b s
-  end-here b s = ap (λ n. at_end step view cdata ends sound number broken errors quiet n s) (sum-zero b)
+  end-here : (b : ℕ) (s : Sink.State × Notes ℕ) → at_end Sink (b + 0) s ≡ at_end Sink b s
+  end-here b s = ap (λ n. at_end Sink n s) (sum-zero b)
 
   -- whatever was read of a tag, nothing is to come of it but its fault
-  pub tag-ends : (st : State) → is_tag_part st ≡ true → (k : Tokenizer K) → OnlyEnds step view cdata ends sound number broken errors quiet (Some Grave) st k
+  pub tag-ends : (st : State) → is_tag_part st ≡ true → (k : Tokenizer K) → OnlyEnds Sink (Some Grave) st k
   unfolding held_at reading_from value_from
   tag-ends state.TagName h k b s = end-here b (noting_error Grave s)
   tag-ends state.BeforeAttributeName h k b s = refl
@@ -40,5 +41,5 @@ module _ {K S H : Type 0} (step : Step S) (view : K → S) (cdata : S → Bool) 
   tag-ends _ h k b s = absurd cc
 
   -- a tag that does not end is an error, and is not told
-  pub tag-closes : (old new : Tokenizer K) (result : Result (Unit {0}) ParseFault) → is_tag_part old.state ≡ true → old.char_ref ≡ None → sound (view old.sink) → Errs step view cdata ends sound number broken errors quiet a_fault old new result → Closes step view cdata ends sound number broken errors quiet old new result
-  tag-closes old new result h fresh ok errs = closes_errs step view cdata ends sound number broken errors quiet (Some Grave) a_fault old new old.state result (no-more-same a_fault) (record { state = refl; fresh = fresh }) ok (tag-ends old.state h old) errs
+  pub tag-closes : (old new : Tokenizer K) (result : Result (Unit {0}) ParseFault) → is_tag_part old.state ≡ true → old.char_ref ≡ None → Sink.is_sound (Sink.view old.sink) → Errs Sink a_fault old new result → Closes Sink old new result
+  tag-closes old new result h fresh ok errs = closes_errs Sink (Some Grave) a_fault old new old.state result (no-more-same a_fault) (record { state = refl; fresh = fresh }) ok (tag-ends old.state h old) errs

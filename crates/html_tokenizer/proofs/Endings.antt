@@ -3,6 +3,7 @@ use Rattle.std.proofs.Common.{◌≡◌, ◌∙◌, ℕ, Bool, [], Result, Ok, E
 use Rattle.markup.specs.declared.fault.ParseFault.{ParseFault}
 use Rattle.html_tokens.specs.declared.token.Token.{Token}
 use Rattle.html_tokens.specs.declared.token.Token.TheVariants.{EOFToken}
+use Rattle.html_tokens.specs.declared.sink.TokenSink.{Ghosts}
 use Rattle.html_tokens.specs.Notes.{Notes, noting_end}
 use Rattle.html_tokens.specs.Reading.{line_number}
 use Rattle.html_tokens.specs.Sink.{Step}
@@ -12,26 +13,26 @@ use Rattle.html_tokenizer.specs.Steps.{Tells, nothing, hearing, together, more}
 use Rattle.html_tokenizer.proofs.Glue.{fails-before, token-fails, told-next, told-works}
 use Rattle.html_tokenizer.proofs.Rises.{more-more, rises-then}
 
-module _ {K S H : Type 0} (step : Step S) (view : K → S) (cdata : S → Bool) (ends : S → S) (sound : S → Type 0) (number : H → ℕ) (broken : K → Bool) (errors : K → ℕ) (quiet : S → Token → Bool) where
+module _ {K H : Type 0} (Sink : Ghosts K H) where
   -- what is to come where all that was held was told
-  closed-now : (old mid : Tokenizer K) (h : Closed step view cdata ends sound number broken errors quiet old mid) (notes : Notes ℕ)
-      → to_come step view cdata ends sound number broken errors quiet old notes [] ≡ at_end step view cdata ends sound number broken errors quiet mid.stream.breaks (view mid.sink, more h.owed notes)
-  closed-now old mid h notes = h.same notes ∙ ap (λ x. at_end step view cdata ends sound number broken errors quiet x.breaks (view mid.sink, more h.owed notes)) (sym h.stream)
+  closed-now : (old mid : Tokenizer K) (h : Closed Sink old mid) (notes : Notes ℕ)
+      → to_come Sink old notes [] ≡ at_end Sink mid.stream.breaks (Sink.view mid.sink, more h.owed notes)
+  closed-now old mid h notes = h.same notes ∙ ap (λ x. at_end Sink x.breaks (Sink.view mid.sink, more h.owed notes)) (sym h.stream)
 
   -- The end was told, or could not be told.
-  pub ended : (old mid new : Tokenizer K) (result : Result (Unit {0}) ParseFault) → Closed step view cdata ends sound number broken errors quiet old mid → Tells step view cdata ends sound number broken errors quiet nothing EOFToken mid new result
-      → TellsEnd step view cdata ends sound number broken errors quiet old new result
+  pub ended : (old mid new : Tokenizer K) (result : Result (Unit {0}) ParseFault) → Closed Sink old mid → Tells Sink nothing EOFToken mid new result
+      → TellsEnd Sink old new result
   ended old mid new (Ok x) h told = record {
-    owed = together (hearing (quiet (view mid.sink) EOFToken) nothing) h.owed;
-    rises = rises-then errors old.sink mid.sink new.sink h.rises told.rises;
+    owed = together (hearing (Sink.is_quiet (Sink.view mid.sink) EOFToken) nothing) h.owed;
+    rises = rises-then Sink.errors old.sink mid.sink new.sink h.rises told.rises;
     same = λ notes.
         closed-now old mid h notes
-        ∙ told-next step view cdata ends sound number broken errors quiet nothing mid new EOFToken (more h.owed notes) (λ s. Ok (noting_end ends s)) told
-        ∙ ap (λ n. Ok (ends (view new.sink), n)) (more-more (hearing (quiet (view mid.sink) EOFToken) nothing) h.owed notes);
+        ∙ told-next Sink nothing mid new EOFToken (more h.owed notes) (λ s. Ok (noting_end Sink.ended s)) told
+        ∙ ap (λ n. Ok (Sink.ended (Sink.view new.sink), n)) (more-more (hearing (Sink.is_quiet (Sink.view mid.sink) EOFToken) nothing) h.owed notes);
     stream = ap (λ k. k.stream) told.changed ∙ h.stream;
     sound = told.sound;
     works = λ e. told-works told.works e;
   }
   ended old mid new (Err fault) h fails = λ notes.
-      fails-before step view cdata ends sound number broken errors quiet mid.sink old.sink _ fault h.works
-      (token-fails step view cdata ends sound number broken errors quiet mid.sink _ (view mid.sink) (more h.owed notes) EOFToken (line_number mid.stream.breaks) fault _ fails (closed-now old mid h notes))
+      fails-before Sink mid.sink old.sink _ fault h.works
+      (token-fails Sink mid.sink _ (Sink.view mid.sink) (more h.owed notes) EOFToken (line_number mid.stream.breaks) fault _ fails (closed-now old mid h notes))

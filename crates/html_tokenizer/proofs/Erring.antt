@@ -5,6 +5,7 @@ use Rattle.std.proofs.lemmas.Result.{err_from_is_err_and}
 use Rattle.markup.specs.declared.fault.ParseFault.{ParseFault}
 use Rattle.html_tokens.specs.declared.replies.ProcessResult.{ProcessResult}
 use Rattle.html_tokens.specs.declared.token.Token.{Token}
+use Rattle.html_tokens.specs.declared.sink.TokenSink.{Ghosts}
 use Rattle.html_tokens.specs.Item.{grave_if}
 use Rattle.html_tokens.specs.Notes.{noting, noting_error, noting_cdata, noting_end}
 use Rattle.html_tokens.specs.Sink.{Step}
@@ -17,47 +18,47 @@ use Rattle.html_tokenizer.proofs.HeldRefused.{held-refused}
 use Rattle.html_tokenizer.proofs.Refused.{noting-refused, noting-errs, every-fails}
 use Rattle.html_tokenizer.proofs.Rises.{rises-then, rises-less, each-more}
 
-module _ {K S H : Type 0} (step : Step S) (view : K → S) (cdata : S → Bool) (ends : S → S) (sound : S → Type 0) (number : H → ℕ) (broken : K → Bool) (errors : K → ℕ) (quiet : S → Token → Bool) where
+module _ {K H : Type 0} (Sink : Ghosts K H) where
   -- An error could not be told, so nothing that is to come could, whatever reference was held.
-  pub keeps_refused : (old new : Tokenizer K) (held : Option (List ℕ)) (c : ℕ) (fault : ParseFault) (result : Result (ProcessResult H) ParseFault) → Errs step view cdata ends sound number broken errors quiet nothing old new (Err fault)
-      → IsErrAnd result (λ y. y ≡ fault) → Keeps step view cdata ends sound number broken errors quiet (record old { char_ref = held }) new c result
+  pub keeps_refused : (old new : Tokenizer K) (held : Option (List ℕ)) (c : ℕ) (fault : ParseFault) (result : Result (ProcessResult H) ParseFault) → Errs Sink nothing old new (Err fault)
+      → IsErrAnd result (λ y. y ≡ fault) → Keeps Sink (record old { char_ref = held }) new c result
   keeps_refused old new held c fault result fails is =
       let p = err_from_is_err_and result is in
       let k : Tokenizer K = record old { char_ref = held } in
       rw (p.1, p.2) (λ notes t.
-      every-fails step view cdata ends sound number broken errors quiet old.sink (view old.sink) fault (now step view cdata ends sound number broken errors quiet k old.stream.breaks (view old.sink, notes) (c ∷ t)) fails
-      (λ h. held-refused (noting step quiet) noting_error (noting_cdata cdata) (noting_end ends) (noting-errs step view cdata ends sound number broken errors quiet) old.state k old.stream.breaks (view old.sink, notes) (pending held ++ c ∷ t)
-      (noting-refused step view cdata ends sound number broken errors quiet (view old.sink) notes h)))
+      every-fails Sink old.sink (Sink.view old.sink) fault (now Sink k old.stream.breaks (Sink.view old.sink, notes) (c ∷ t)) fails
+      (λ h. held-refused (noting Sink.step Sink.is_quiet) noting_error (noting_cdata Sink.asks_cdata) (noting_end Sink.ended) (noting-errs Sink) old.state k old.stream.breaks (Sink.view old.sink, notes) (pending held ++ c ∷ t)
+      (noting-refused Sink (Sink.view old.sink) notes h)))
 
   -- The same of a run.
-  pub run_refused : (old new : Tokenizer K) (run : List ℕ) (fault : ParseFault) (result : Result (Unit {0}) ParseFault) → Errs step view cdata ends sound number broken errors quiet nothing old new (Err fault)
-      → IsErrAnd result (λ y. y ≡ fault) → KeepsRun step view cdata ends sound number broken errors quiet old new run result
+  pub run_refused : (old new : Tokenizer K) (run : List ℕ) (fault : ParseFault) (result : Result (Unit {0}) ParseFault) → Errs Sink nothing old new (Err fault)
+      → IsErrAnd result (λ y. y ≡ fault) → KeepsRun Sink old new run result
   run_refused old new run fault result fails is =
       let p = err_from_is_err_and result is in
       rw (p.1, p.2) (λ notes t.
-      every-fails step view cdata ends sound number broken errors quiet old.sink (view old.sink) fault (now step view cdata ends sound number broken errors quiet old old.stream.breaks (view old.sink, notes) (run ++ t)) fails
-      (λ h. held-refused (noting step quiet) noting_error (noting_cdata cdata) (noting_end ends) (noting-errs step view cdata ends sound number broken errors quiet) old.state old old.stream.breaks (view old.sink, notes) (pending old.char_ref ++ (run ++ t))
-      (noting-refused step view cdata ends sound number broken errors quiet (view old.sink) notes h)))
+      every-fails Sink old.sink (Sink.view old.sink) fault (now Sink old old.stream.breaks (Sink.view old.sink, notes) (run ++ t)) fails
+      (λ h. held-refused (noting Sink.step Sink.is_quiet) noting_error (noting_cdata Sink.asks_cdata) (noting_end Sink.ended) (noting-errs Sink) old.state old old.stream.breaks (Sink.view old.sink, notes) (pending old.char_ref ++ (run ++ t))
+      (noting-refused Sink (Sink.view old.sink) notes h)))
 
   -- Errors were told, and then more.
-  pub erred-then : {m n : Owed} (old mid new : Tokenizer K) → Erred step view cdata ends sound number broken errors quiet m old mid → Erred step view cdata ends sound number broken errors quiet n mid new → Erred step view cdata ends sound number broken errors quiet (together n m) old new
+  pub erred-then : {m n : Owed} (old mid new : Tokenizer K) → Erred Sink m old mid → Erred Sink n mid new → Erred Sink (together n m) old new
   erred-then old mid new h k = record {
     sink = k.sink ∙ h.sink;
     changed = k.changed ∙ ap {A = Tokenizer K} (λ x. record x { sink = new.sink }) h.changed;
     works = λ e. h.works (k.works e);
-    rises = rises-then errors old.sink mid.sink new.sink h.rises k.rises;
+    rises = rises-then Sink.errors old.sink mid.sink new.sink h.rises k.rises;
   }
 
   -- An error for each character of a text that passes, and then of one more.
-  pub erred-each : (passes : ℕ → Bool) (front : List ℕ) (c : ℕ) (old mid new : Tokenizer K) → Erred step view cdata ends sound number broken errors quiet (owed_for_each passes front) old mid → Erred step view cdata ends sound number broken errors quiet (owed_for (grave_if (passes c))) mid new
-      → Erred step view cdata ends sound number broken errors quiet (owed_for_each passes (front ++ c ∷ [])) old new
+  pub erred-each : (passes : ℕ → Bool) (front : List ℕ) (c : ℕ) (old mid new : Tokenizer K) → Erred Sink (owed_for_each passes front) old mid → Erred Sink (owed_for (grave_if (passes c))) mid new
+      → Erred Sink (owed_for_each passes (front ++ c ∷ [])) old new
   erred-each passes front c old mid new h k =
       let both = erred-then old mid new h k in
-      record { sink = both.sink; changed = both.changed; works = both.works; rises = rises-less errors old.sink new.sink (each-more passes front c) both.rises }
+      record { sink = both.sink; changed = both.changed; works = both.works; rises = rises-less Sink.errors old.sink new.sink (each-more passes front c) both.rises }
 
   -- Errors were told, and then one could not be told.
-  pub errs-behind : {m : Owed} (n : Owed) (old mid new : Tokenizer K) (fault : ParseFault) (result : Result (Unit {0}) ParseFault) → Erred step view cdata ends sound number broken errors quiet m old mid → Errs step view cdata ends sound number broken errors quiet nothing mid new (Err fault)
-      → IsErrAnd result (λ y. y ≡ fault) → Errs step view cdata ends sound number broken errors quiet n old new result
+  pub errs-behind : {m : Owed} (n : Owed) (old mid new : Tokenizer K) (fault : ParseFault) (result : Result (Unit {0}) ParseFault) → Erred Sink m old mid → Errs Sink nothing mid new (Err fault)
+      → IsErrAnd result (λ y. y ≡ fault) → Errs Sink n old new result
   errs-behind n old mid new fault result h fails is =
       let p = err_from_is_err_and result is in
-      rw (p.1, p.2) (λ token line. rw (← h.sink) (fails-before step view cdata ends sound number broken errors quiet mid.sink old.sink _ fault h.works (fails token line)))
+      rw (p.1, p.2) (λ token line. rw (← h.sink) (fails-before Sink mid.sink old.sink _ fault h.works (fails token line)))

@@ -25,6 +25,7 @@ use Rattle.html_tokenizer.proofs.Glue.{held-other, fails-along, fails-before}
 use Rattle.html_tokenizer.specs.Stops.{stops_of}
 use Rattle.html_queue.specs.declared.set.SmallCharSet.{SmallCharSet}
 use Rattle.html_tokens.specs.declared.states.State.{State}
+use Rattle.html_tokens.specs.declared.sink.TokenSink.{Ghosts}
 
 -- what was there is what was taken and what is left
 took-front : (taken : List ℕ) (from to : Queue) (t : List ℕ) → Takes taken from to → from.characters ++ t ≡ taken ++ (to.characters ++ t)
@@ -46,15 +47,15 @@ last-close (c ∷ x ∷ a) (d ∷ b) h = last-close (x ∷ a) (d ∷ b) h
 abbrev pub IsOther : Stream → Stream → Type 0
 IsOther old new = new ≡ record old { ignore_lf = new.ignore_lf; discard_bom = new.discard_bom }
 
-module _ {K S H : Type 0} (step : Step S) (view : K → S) (cdata : S → Bool) (ends : S → S) (sound : S → Type 0) (number : H → ℕ) (broken : K → Bool) (errors : K → ℕ) (quiet : S → Token → Bool) where
+module _ {K H : Type 0} (Sink : Ghosts K H) where
   -- The front of the input was taken from the queue: the machine is to make of the characters that come what it is to make of the input.
   pub comes-to : (old mid : Tokenizer K) (u v : List ℕ) (notes : Notes ℕ) → IsOther old.stream mid.stream → mid ≡ record old { stream = mid.stream } → coming_in old.stream u ≡ v
-      → to_come step view cdata ends sound number broken errors quiet old notes u ≡ now step view cdata ends sound number broken errors quiet mid mid.stream.breaks (view mid.sink, notes) v
+      → to_come Sink old notes u ≡ now Sink mid mid.stream.breaks (Sink.view mid.sink, notes) v
   comes-to old mid u v notes other is comes =
-      ap (λ x. now step view cdata ends sound number broken errors quiet old old.stream.breaks (view old.sink, notes) x) comes
-      ∙ sym (held-other (noting step quiet) noting_error (noting_cdata cdata) (noting_end ends) old.state old old.sink mid.stream old.stream.breaks (view old.sink, notes) (pending old.char_ref ++ v) (ap (λ s. s.table) other))
-      ∙ ap (λ n. now step view cdata ends sound number broken errors quiet (record old { stream = mid.stream }) n (view old.sink, notes) v) (sym (ap (λ s. s.breaks) other))
-      ∙ sym (ap (λ (k : Tokenizer K). now step view cdata ends sound number broken errors quiet k mid.stream.breaks (view k.sink, notes) v) is)
+      ap (λ x. now Sink old old.stream.breaks (Sink.view old.sink, notes) x) comes
+      ∙ sym (held-other (noting Sink.step Sink.is_quiet) noting_error (noting_cdata Sink.asks_cdata) (noting_end Sink.ended) old.state old old.sink mid.stream old.stream.breaks (Sink.view old.sink, notes) (pending old.char_ref ++ v) (ap (λ s. s.table) other))
+      ∙ ap (λ n. now Sink (record old { stream = mid.stream }) n (Sink.view old.sink, notes) v) (sym (ap (λ s. s.breaks) other))
+      ∙ sym (ap (λ (k : Tokenizer K). now Sink k mid.stream.breaks (Sink.view k.sink, notes) v) is)
 
   -- So far some characters were taken: whatever follows them, what is to come is what was to come.
   pub record Going (old new : Tokenizer K) (from to : Queue) : Type 0 where
@@ -63,28 +64,28 @@ module _ {K S H : Type 0} (step : Step S) (view : K → S) (cdata : S → Bool) 
     pub came : List ℕ
     pub comes : (t : List ℕ) → coming old (taken ++ t) ≡ came ++ coming new t
     pub owed : Owed
-    pub rises : Rises errors (together owed (owed_for_text old.stream.exact_errors came)) old.sink new.sink
-    pub same : (notes : Notes ℕ) (t : List ℕ) → to_come step view cdata ends sound number broken errors quiet old notes (taken ++ t) ≡ to_come step view cdata ends sound number broken errors quiet new (more owed notes) t
-    pub ready : IsReady step view cdata ends sound number broken errors quiet new
-    pub works : broken new.sink ≡ true → broken old.sink ≡ true
+    pub rises : Rises Sink.errors (together owed (owed_for_text old.stream.exact_errors came)) old.sink new.sink
+    pub same : (notes : Notes ℕ) (t : List ℕ) → to_come Sink old notes (taken ++ t) ≡ to_come Sink new (more owed notes) t
+    pub ready : IsReady Sink new
+    pub works : Sink.has_failed new.sink ≡ true → Sink.has_failed old.sink ≡ true
     pub ended : new.stream.has_ended ≡ old.stream.has_ended
     pub failed : new.stream.has_failed ≡ old.stream.has_failed
     pub exact : new.stream.exact_errors ≡ old.stream.exact_errors
 
-  pub started : (old : Tokenizer K) (from : Queue) → IsReady step view cdata ends sound number broken errors quiet old → Going old old from from
-  started old from ready = record { taken = []; takes = record { split = refl; counted = omega arith }; came = []; comes = λ t. refl; owed = nothing; rises = rises-less errors old.sink old.sink (none-no-more old.stream.exact_errors) (rises-same errors old.sink old.sink refl); same = λ notes t. refl; ready = ready; works = λ h. h; ended = refl; failed = refl; exact = refl }
+  pub started : (old : Tokenizer K) (from : Queue) → IsReady Sink old → Going old old from from
+  started old from ready = record { taken = []; takes = record { split = refl; counted = omega arith }; came = []; comes = λ t. refl; owed = nothing; rises = rises-less Sink.errors old.sink old.sink (none-no-more old.stream.exact_errors) (rises-same Sink.errors old.sink old.sink refl); same = λ notes t. refl; ready = ready; works = λ h. h; ended = refl; failed = refl; exact = refl }
 
   -- what was to come over all that was taken
-  both-taken : (old mid new : Tokenizer K) (from via to : Queue) (result : ProcessResult H) (h : Going old mid from via) (m : Moved step view cdata ends sound number broken errors quiet mid new via to result) (notes : Notes ℕ) (t : List ℕ)
-      → to_come step view cdata ends sound number broken errors quiet old notes ((h.taken ++ m.taken) ++ t) ≡ to_come step view cdata ends sound number broken errors quiet new (noted_by number (together m.owed h.owed) notes result) t
+  both-taken : (old mid new : Tokenizer K) (from via to : Queue) (result : ProcessResult H) (h : Going old mid from via) (m : Moved Sink mid new via to result) (notes : Notes ℕ) (t : List ℕ)
+      → to_come Sink old notes ((h.taken ++ m.taken) ++ t) ≡ to_come Sink new (noted_by Sink.number (together m.owed h.owed) notes result) t
   both-taken old mid new from via to result h m notes t =
-      ap (λ u. to_come step view cdata ends sound number broken errors quiet old notes u) (append_assoc h.taken m.taken t)
+      ap (λ u. to_come Sink old notes u) (append_assoc h.taken m.taken t)
       ∙ h.same notes (m.taken ++ t)
       ∙ m.same (more h.owed notes) t
-      ∙ ap (λ n. to_come step view cdata ends sound number broken errors quiet new (record n { pauses = paused_by number notes.pauses result }) t) (more-more m.owed h.owed notes)
+      ∙ ap (λ n. to_come Sink new (record n { pauses = paused_by Sink.number notes.pauses result }) t) (more-more m.owed h.owed notes)
 
   -- the characters that came of all that was taken
-  both-come : (old mid new : Tokenizer K) (from via to : Queue) (result : ProcessResult H) (h : Going old mid from via) (m : Moved step view cdata ends sound number broken errors quiet mid new via to result) (t : List ℕ)
+  both-come : (old mid new : Tokenizer K) (from via to : Queue) (result : ProcessResult H) (h : Going old mid from via) (m : Moved Sink mid new via to result) (t : List ℕ)
       → coming old ((h.taken ++ m.taken) ++ t) ≡ (h.came ++ m.came) ++ coming new t
   both-come old mid new from via to result h m t =
       ap (coming old) (append_assoc h.taken m.taken t)
@@ -93,12 +94,12 @@ module _ {K S H : Type 0} (step : Step S) (view : K → S) (cdata : S → Bool) 
       ∙ sym (append_assoc h.came m.came (coming new t))
 
   -- what errors rose by
-  both-rise : (old mid new : Tokenizer K) (from via to : Queue) (result : ProcessResult H) (h : Going old mid from via) (m : Moved step view cdata ends sound number broken errors quiet mid new via to result)
-      → Rises errors (together (together m.owed h.owed) (owed_for_text old.stream.exact_errors (h.came ++ m.came))) old.sink new.sink
+  both-rise : (old mid new : Tokenizer K) (from via to : Queue) (result : ProcessResult H) (h : Going old mid from via) (m : Moved Sink mid new via to result)
+      → Rises Sink.errors (together (together m.owed h.owed) (owed_for_text old.stream.exact_errors (h.came ++ m.came))) old.sink new.sink
   both-rise old mid new from via to result h m =
-      rises-besides errors old.stream.exact_errors h.owed m.owed h.came m.came old.sink mid.sink new.sink h.rises (subst (λ b. Rises errors (together m.owed (owed_for_text b m.came)) mid.sink new.sink) h.exact m.rises)
+      rises-besides Sink.errors old.stream.exact_errors h.owed m.owed h.came m.came old.sink mid.sink new.sink h.rises (subst (λ b. Rises Sink.errors (together m.owed (owed_for_text b m.came)) mid.sink new.sink) h.exact m.rises)
 
-  pub going-on : (old mid new : Tokenizer K) (from via to : Queue) → Going old mid from via → Moved step view cdata ends sound number broken errors quiet mid new via to flow.Continue → Going old new from to
+  pub going-on : (old mid new : Tokenizer K) (from via to : Queue) → Going old mid from via → Moved Sink mid new via to flow.Continue → Going old new from to
   going-on old mid new from via to h m = record {
     taken = h.taken ++ m.taken;
     takes = takes-more h.taken m.taken from via to h.takes m.takes;
@@ -115,15 +116,15 @@ module _ {K S H : Type 0} (step : Step S) (view : K → S) (cdata : S → Bool) 
   }
 
   -- fewer characters are left
-  pub going-less : (mid new : Tokenizer K) (via to : Queue) → Moved step view cdata ends sound number broken errors quiet mid new via to flow.Continue → length to.characters < length via.characters
+  pub going-less : (mid new : Tokenizer K) (via to : Queue) → Moved Sink mid new via to flow.Continue → length to.characters < length via.characters
   going-less mid new via to m =
       let sizes : length via.characters ≡ length m.taken + length to.characters = ap length m.takes.split ∙ length-append m.taken to.characters in
       let some : 0 < length m.taken = m.left in
       omega arith
 
   -- the call ends where a step ends so
-  fed : (old mid new : Tokenizer K) (from via to : Queue) (result : ProcessResult H) (given : TokenizerResult H) (h : Going old mid from via) (m : Moved step view cdata ends sound number broken errors quiet mid new via to result)
-      → ((pauses : List Reply) → paused_by number pauses result ≡ paused_with number pauses given) → Rests step view cdata ends sound number broken errors quiet given new (h.taken ++ m.taken) to → Fed step view cdata ends sound number broken errors quiet old new from to given
+  fed : (old mid new : Tokenizer K) (from via to : Queue) (result : ProcessResult H) (given : TokenizerResult H) (h : Going old mid from via) (m : Moved Sink mid new via to result)
+      → ((pauses : List Reply) → paused_by Sink.number pauses result ≡ paused_with Sink.number pauses given) → Rests Sink given new (h.taken ++ m.taken) to → Fed Sink old new from to given
   fed old mid new from via to result given h m pauses_same rests = record {
     taken = h.taken ++ m.taken;
     takes = takes-more h.taken m.taken from via to h.takes m.takes;
@@ -131,7 +132,7 @@ module _ {K S H : Type 0} (step : Step S) (view : K → S) (cdata : S → Bool) 
     comes = both-come old mid new from via to result h m;
     owed = together m.owed h.owed;
     rises = both-rise old mid new from via to result h m;
-    same = λ notes t. both-taken old mid new from via to result h m notes t ∙ ap (λ x. to_come step view cdata ends sound number broken errors quiet new (record (more (together m.owed h.owed) notes) { pauses = x }) t) (pauses_same notes.pauses);
+    same = λ notes t. both-taken old mid new from via to result h m notes t ∙ ap (λ x. to_come Sink new (record (more (together m.owed h.owed) notes) { pauses = x }) t) (pauses_same notes.pauses);
     ready = m.ready;
     works = λ x. h.works (m.works x);
     ended = m.ended ∙ h.ended;
@@ -140,56 +141,56 @@ module _ {K S H : Type 0} (step : Step S) (view : K → S) (cdata : S → Bool) 
     left = rests;
   }
 
-  pub fed-whole : (old mid new : Tokenizer K) (from via to : Queue) → Going old mid from via → Moved step view cdata ends sound number broken errors quiet mid new via to flow.Suspend → Fed step view cdata ends sound number broken errors quiet old new from to answer.Done
+  pub fed-whole : (old mid new : Tokenizer K) (from via to : Queue) → Going old mid from via → Moved Sink mid new via to flow.Suspend → Fed Sink old new from to answer.Done
   fed-whole old mid new from via to h m = fed old mid new from via to flow.Suspend answer.Done h m (λ pauses. refl) m.left
 
-  pub fed-script : (old mid new : Tokenizer K) (from via to : Queue) (handle : H) → Going old mid from via → Moved step view cdata ends sound number broken errors quiet mid new via to (flow.Script handle) → Fed step view cdata ends sound number broken errors quiet old new from to (answer.Script handle)
+  pub fed-script : (old mid new : Tokenizer K) (from via to : Queue) (handle : H) → Going old mid from via → Moved Sink mid new via to (flow.Script handle) → Fed Sink old new from to (answer.Script handle)
   fed-script old mid new from via to handle h m = fed old mid new from via to (flow.Script handle) (answer.Script handle) h m (λ pauses. refl) (last-close h.taken m.taken m.left.0, m.left.1)
 
-  pub fed-encoding : (old mid new : Tokenizer K) (from via to : Queue) (label : List ℕ) → Going old mid from via → Moved step view cdata ends sound number broken errors quiet mid new via to (flow.EncodingIndicator label) → Fed step view cdata ends sound number broken errors quiet old new from to (answer.EncodingIndicator label)
+  pub fed-encoding : (old mid new : Tokenizer K) (from via to : Queue) (label : List ℕ) → Going old mid from via → Moved Sink mid new via to (flow.EncodingIndicator label) → Fed Sink old new from to (answer.EncodingIndicator label)
   fed-encoding old mid new from via to label h m = fed old mid new from via to (flow.EncodingIndicator label) (answer.EncodingIndicator label) h m (λ pauses. refl) (last-close h.taken m.taken m.left.0, m.left.1)
 
   -- a step failed, and so does the call
-  pub not-fed : (old mid new : Tokenizer K) (from via to : Queue) (fault : ParseFault) (result : Result (TokenizerResult H) ParseFault) → Going old mid from via → Moves step view cdata ends sound number broken errors quiet mid new via to (Err fault)
-      → IsErrAnd result (λ y. y ≡ fault) → Runs step view cdata ends sound number broken errors quiet old new from to result
+  pub not-fed : (old mid new : Tokenizer K) (from via to : Queue) (fault : ParseFault) (result : Result (TokenizerResult H) ParseFault) → Going old mid from via → Moves Sink mid new via to (Err fault)
+      → IsErrAnd result (λ y. y ≡ fault) → Runs Sink old new from to result
   not-fed old mid new from via to fault result h m is =
       let p = err_from_is_err_and result is in
-      rw (p.1, p.2) (λ notes t. fails-along step view cdata ends sound number broken errors quiet old.sink _ _ fault
-      (ap (λ u. to_come step view cdata ends sound number broken errors quiet old notes (u ++ t)) h.takes.split ∙ ap (λ u. to_come step view cdata ends sound number broken errors quiet old notes u) (append_assoc h.taken via.characters t) ∙ h.same notes (via.characters ++ t))
-      (fails-before step view cdata ends sound number broken errors quiet mid.sink old.sink _ fault h.works (m (more h.owed notes) t)))
+      rw (p.1, p.2) (λ notes t. fails-along Sink old.sink _ _ fault
+      (ap (λ u. to_come Sink old notes (u ++ t)) h.takes.split ∙ ap (λ u. to_come Sink old notes u) (append_assoc h.taken via.characters t) ∙ h.same notes (via.characters ++ t))
+      (fails-before Sink mid.sink old.sink _ fault h.works (m (more h.owed notes) t)))
 
   -- NO CHARACTER IS LEFT, OR ONE COMES, OR A RUN
 
-  other-fits : (old mid : Tokenizer K) → mid ≡ record old { stream = mid.stream } → IsReady step view cdata ends sound number broken errors quiet old → IsReady step view cdata ends sound number broken errors quiet mid
+  other-fits : (old mid : Tokenizer K) → mid ≡ record old { stream = mid.stream } → IsReady Sink old → IsReady Sink mid
   other-fits old mid is ready = rw is (record { sound = ready.sound; fits = ready.fits })
 
-  pub moved-nowhere : (old mid : Tokenizer K) (from to : Queue) → mid ≡ record old { stream = mid.stream } → Vanishes old.stream mid.stream from to → IsReady step view cdata ends sound number broken errors quiet old → Moved step view cdata ends sound number broken errors quiet old mid from to flow.Suspend
+  pub moved-nowhere : (old mid : Tokenizer K) (from to : Queue) → mid ≡ record old { stream = mid.stream } → Vanishes old.stream mid.stream from to → IsReady Sink old → Moved Sink old mid from to flow.Suspend
   moved-nowhere old mid from to is h ready = record {
     taken = h.taken;
     takes = h.takes;
     came = [];
     comes = h.all;
     owed = nothing;
-    rises = rises-less errors old.sink mid.sink (none-no-more old.stream.exact_errors) (rises-same errors old.sink mid.sink (ap (λ (k : Tokenizer K). k.sink) is));
+    rises = rises-less Sink.errors old.sink mid.sink (none-no-more old.stream.exact_errors) (rises-same Sink.errors old.sink mid.sink (ap (λ (k : Tokenizer K). k.sink) is));
     same = λ notes t. comes-to old mid (h.taken ++ t) (coming_in mid.stream t) notes h.changed is (h.all t);
     ready = other-fits old mid is ready;
-    works = λ x. ap (λ (k : Tokenizer K). broken k.sink) (sym is) ∙ x;
+    works = λ x. ap (λ (k : Tokenizer K). Sink.has_failed k.sink) (sym is) ∙ x;
     ended = ap (λ s. s.has_ended) h.changed;
     failed = ap (λ s. s.has_failed) h.changed;
     exact = ap (λ s. s.exact_errors) h.changed;
     left = h.empty;
   }
 
-  leaves : (result : ProcessResult H) (c : ℕ) (new : Tokenizer K) (taken : List ℕ) (to : Queue) → 0 < length taken → newline_for (last_of taken) ≡ c → PausesAt result c new → Leaves step view cdata ends sound number broken errors quiet result new taken to
+  leaves : (result : ProcessResult H) (c : ℕ) (new : Tokenizer K) (taken : List ℕ) (to : Queue) → 0 < length taken → newline_for (last_of taken) ≡ c → PausesAt result c new → Leaves Sink result new taken to
   leaves flow.Continue c new taken to filled last h = filled
   leaves flow.Suspend c new taken to filled last h = absurd h
   leaves (flow.Script handle) c new taken to filled last h = (newline-close (last_of taken) (nat_eq (last_of taken) 13) refl (last ∙ h.0), h.1)
   leaves (flow.EncodingIndicator label) c new taken to filled last h = (newline-close (last_of taken) (nat_eq (last_of taken) 13) refl (last ∙ h.0), h.1)
 
   -- what errors rose by from the machine whose input's front was taken
-  from-mid : (old mid new : Tokenizer K) (owed : Owed) (came : List ℕ) → mid ≡ record old { stream = mid.stream } → mid.stream.exact_errors ≡ old.stream.exact_errors → Rises errors (together owed (owed_for_text mid.stream.exact_errors came)) mid.sink new.sink → Rises errors (together owed (owed_for_text old.stream.exact_errors came)) old.sink new.sink
+  from-mid : (old mid new : Tokenizer K) (owed : Owed) (came : List ℕ) → mid ≡ record old { stream = mid.stream } → mid.stream.exact_errors ≡ old.stream.exact_errors → Rises Sink.errors (together owed (owed_for_text mid.stream.exact_errors came)) mid.sink new.sink → Rises Sink.errors (together owed (owed_for_text old.stream.exact_errors came)) old.sink new.sink
   from-mid old mid new owed came is exact h =
-      subst (λ s. Rises errors (together owed (owed_for_text old.stream.exact_errors came)) s new.sink) (ap (λ (k : Tokenizer K). k.sink) is) (subst (λ b. Rises errors (together owed (owed_for_text b came)) mid.sink new.sink) exact h)
+      subst (λ s. Rises Sink.errors (together owed (owed_for_text old.stream.exact_errors came)) s new.sink) (ap (λ (k : Tokenizer K). k.sink) is) (subst (λ b. Rises Sink.errors (together owed (owed_for_text b came)) mid.sink new.sink) exact h)
 
   -- a run comes only where control characters and noncharacters are not told
   run-plain : (exact : Bool) (held : Option (List ℕ)) (st : State) (set : SmallCharSet) → stops_of exact held st ≡ Some set → exact ≡ false
@@ -197,31 +198,31 @@ module _ {K S H : Type 0} (step : Step S) (view : K → S) (cdata : S → Bool) 
   run-plain false held st set e = refl
 
   pub moved-one : (old mid new : Tokenizer K) (from to : Queue) (c : ℕ) (result : Result (ProcessResult H) ParseFault) → mid ≡ record old { stream = mid.stream } → ComesAs old.stream mid.stream from to c
-      → Passes step view cdata ends sound number broken errors quiet mid new c result → Moves step view cdata ends sound number broken errors quiet old new from to result
+      → Passes Sink mid new c result → Moves Sink old new from to result
   moved-one old mid new from to c (Ok result) is h p = record {
     taken = h.taken;
     takes = h.takes;
     came = c ∷ [];
     comes = λ t. h.front t ∙ ap (λ s. c ∷ coming_in s t) (sym p.stream);
     owed = p.owed;
-    rises = from-mid old mid new p.owed (c ∷ []) is (ap (λ s. s.exact_errors) h.changed) (rises-less errors mid.sink new.sink (char-no-more mid.stream.exact_errors c p.owed) p.rises);
+    rises = from-mid old mid new p.owed (c ∷ []) is (ap (λ s. s.exact_errors) h.changed) (rises-less Sink.errors mid.sink new.sink (char-no-more mid.stream.exact_errors c p.owed) p.rises);
     same = λ notes t.
         comes-to old mid (h.taken ++ t) (c ∷ coming_in mid.stream t) notes h.changed is (h.front t)
         ∙ p.same notes (coming_in mid.stream t)
-        ∙ ap (λ s. now step view cdata ends sound number broken errors quiet new new.stream.breaks (view new.sink, noted_by number p.owed notes result) (coming_in s t)) (sym p.stream);
+        ∙ ap (λ s. now Sink new new.stream.breaks (Sink.view new.sink, noted_by Sink.number p.owed notes result) (coming_in s t)) (sym p.stream);
     ready = record { sound = p.sound; fits = p.fits };
-    works = λ x. ap (λ (k : Tokenizer K). broken k.sink) (sym is) ∙ p.works x;
+    works = λ x. ap (λ (k : Tokenizer K). Sink.has_failed k.sink) (sym is) ∙ p.works x;
     ended = ap (λ s. s.has_ended) p.stream ∙ ap (λ s. s.has_ended) h.changed;
     failed = ap (λ s. s.has_failed) p.stream ∙ ap (λ s. s.has_failed) h.changed;
     exact = ap (λ s. s.exact_errors) p.stream ∙ ap (λ s. s.exact_errors) h.changed;
     left = leaves result c new h.taken to h.filled h.last p.paused;
   }
   moved-one old mid new from to c (Err fault) is h p = λ notes t.
-      fails-along step view cdata ends sound number broken errors quiet old.sink _ _ fault (ap (λ u. to_come step view cdata ends sound number broken errors quiet old notes u) (took-front h.taken from to t h.takes) ∙ comes-to old mid (h.taken ++ (to.characters ++ t)) (c ∷ coming_in mid.stream (to.characters ++ t)) notes h.changed is (h.front (to.characters ++ t)))
-      (fails-before step view cdata ends sound number broken errors quiet mid.sink old.sink _ fault (λ x. ap (λ (k : Tokenizer K). broken k.sink) (sym is) ∙ x) (p notes (coming_in mid.stream (to.characters ++ t))))
+      fails-along Sink old.sink _ _ fault (ap (λ u. to_come Sink old notes u) (took-front h.taken from to t h.takes) ∙ comes-to old mid (h.taken ++ (to.characters ++ t)) (c ∷ coming_in mid.stream (to.characters ++ t)) notes h.changed is (h.front (to.characters ++ t)))
+      (fails-before Sink mid.sink old.sink _ fault (λ x. ap (λ (k : Tokenizer K). Sink.has_failed k.sink) (sym is) ∙ x) (p notes (coming_in mid.stream (to.characters ++ t))))
 
   pub moved-run : (old mid new : Tokenizer K) (from to : Queue) (run : List ℕ) (result : Result (ProcessResult H) ParseFault) → mid ≡ record old { stream = mid.stream } → ComesAsRunAt old mid.stream from to run
-      → KeepsText step view cdata ends sound number broken errors quiet mid new run result → Moves step view cdata ends sound number broken errors quiet old new from to result
+      → KeepsText Sink mid new run result → Moves Sink old new from to result
   moved-run old mid new from to run (Ok flow.Continue) is h p = record {
     taken = run;
     takes = h.comes.takes;
@@ -230,14 +231,14 @@ module _ {K S H : Type 0} (step : Step S) (view : K → S) (cdata : S → Bool) 
     owed = p.owed;
     rises =
         let plain : old.stream.exact_errors ≡ false = run-plain old.stream.exact_errors old.char_ref old.state h.stops h.are in
-        subst (λ b. Rises errors (together p.owed (owed_for_text b run)) old.sink new.sink) (sym plain)
-        (rises-less errors old.sink new.sink (text-no-more run p.owed) (subst (λ s. Rises errors p.owed s new.sink) (ap (λ (k : Tokenizer K). k.sink) is) p.rises));
+        subst (λ b. Rises Sink.errors (together p.owed (owed_for_text b run)) old.sink new.sink) (sym plain)
+        (rises-less Sink.errors old.sink new.sink (text-no-more run p.owed) (subst (λ s. Rises Sink.errors p.owed s new.sink) (ap (λ (k : Tokenizer K). k.sink) is) p.rises));
     same = λ notes t.
         comes-to old mid (run ++ t) (run ++ coming_in mid.stream t) notes h.comes.changed is (h.comes.front t)
         ∙ p.same notes (coming_in mid.stream t)
-        ∙ ap (λ s. now step view cdata ends sound number broken errors quiet new s.breaks (view new.sink, more p.owed notes) (coming_in s t)) (sym p.stream);
+        ∙ ap (λ s. now Sink new s.breaks (Sink.view new.sink, more p.owed notes) (coming_in s t)) (sym p.stream);
     ready = record { sound = p.sound; fits = p.fits };
-    works = λ x. ap (λ (k : Tokenizer K). broken k.sink) (sym is) ∙ p.works x;
+    works = λ x. ap (λ (k : Tokenizer K). Sink.has_failed k.sink) (sym is) ∙ p.works x;
     ended = ap (λ s. s.has_ended) p.stream ∙ ap (λ s. s.has_ended) h.comes.changed;
     failed = ap (λ s. s.has_failed) p.stream ∙ ap (λ s. s.has_failed) h.comes.changed;
     exact = ap (λ s. s.exact_errors) p.stream ∙ ap (λ s. s.exact_errors) h.comes.changed;
@@ -247,18 +248,18 @@ module _ {K S H : Type 0} (step : Step S) (view : K → S) (cdata : S → Bool) 
   moved-run old mid new from to run (Ok (flow.Script handle)) is h p = absurd p
   moved-run old mid new from to run (Ok (flow.EncodingIndicator label)) is h p = absurd p
   moved-run old mid new from to run (Err fault) is h p = λ notes t.
-      fails-along step view cdata ends sound number broken errors quiet old.sink _ _ fault (ap (λ u. to_come step view cdata ends sound number broken errors quiet old notes u) (took-front run from to t h.comes.takes) ∙ comes-to old mid (run ++ (to.characters ++ t)) (run ++ coming_in mid.stream (to.characters ++ t)) notes h.comes.changed is (h.comes.front (to.characters ++ t)))
-      (fails-before step view cdata ends sound number broken errors quiet mid.sink old.sink _ fault (λ x. ap (λ (k : Tokenizer K). broken k.sink) (sym is) ∙ x) (p notes (coming_in mid.stream (to.characters ++ t))))
+      fails-along Sink old.sink _ _ fault (ap (λ u. to_come Sink old notes u) (took-front run from to t h.comes.takes) ∙ comes-to old mid (run ++ (to.characters ++ t)) (run ++ coming_in mid.stream (to.characters ++ t)) notes h.comes.changed is (h.comes.front (to.characters ++ t)))
+      (fails-before Sink mid.sink old.sink _ fault (λ x. ap (λ (k : Tokenizer K). Sink.has_failed k.sink) (sym is) ∙ x) (p notes (coming_in mid.stream (to.characters ++ t))))
 
   -- The run could not be taken.
-  pub not-taken : (old new : Tokenizer K) (run : List ℕ) (fault : ParseFault) (result : Result (ProcessResult H) ParseFault) → KeepsRun step view cdata ends sound number broken errors quiet old new run (Err fault) → IsErrAnd result (λ y. y ≡ fault)
-      → KeepsText step view cdata ends sound number broken errors quiet old new run result
+  pub not-taken : (old new : Tokenizer K) (run : List ℕ) (fault : ParseFault) (result : Result (ProcessResult H) ParseFault) → KeepsRun Sink old new run (Err fault) → IsErrAnd result (λ y. y ≡ fault)
+      → KeepsText Sink old new run result
   not-taken old new run fault result h is =
       let p = err_from_is_err_and result is in
       rw (p.1, p.2) h
 
   -- The next piece could not be had for want of memory.
-  pub not-moved : (old new : Tokenizer K) (from to : Queue) (fault : ParseFault) (result : Result (ProcessResult H) ParseFault) → fault ≡ Memory → IsErrAnd result (λ y. y ≡ fault) → Moves step view cdata ends sound number broken errors quiet old new from to result
+  pub not-moved : (old new : Tokenizer K) (from to : Queue) (fault : ParseFault) (result : Result (ProcessResult H) ParseFault) → fault ≡ Memory → IsErrAnd result (λ y. y ≡ fault) → Moves Sink old new from to result
   not-moved old new from to fault result e is =
       let p = err_from_is_err_and result is in
       rw (p.1, p.2 ∙ e) (λ notes t. tt)

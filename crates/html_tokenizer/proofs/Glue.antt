@@ -20,6 +20,7 @@ use Rattle.html_tokens.specs.declared.states.ScriptEscapeKind.TheVariants as scr
 use Rattle.html_tokens.specs.declared.states.DoctypeIdKind.TheVariants as id
 use Rattle.html_tokens.specs.declared.states.AttrValueKind.TheVariants as value
 use Rattle.html_tokens.specs.declared.states.State.TheVariants as state
+use Rattle.html_tokens.specs.declared.sink.TokenSink.{Ghosts}
 use Rattle.html_tokenizer.specs.CharRefs.{fits_in}
 use Rattle.html_tokenizer.specs.declared.tokenizer.Stream.{Stream}
 use Rattle.html_tokenizer.specs.declared.tokenizer.Tokenizer.{Tokenizer}
@@ -57,49 +58,49 @@ quiet-not_odd : (odd : Bool) → (owed_for (slight_if odd)).is_quiet ≡ true �
 quiet-not_odd true h = absurd cc
 quiet-not_odd false h = refl
 
-module _ {K S H : Type 0} (step : Step S) (view : K → S) (cdata : S → Bool) (ends : S → S) (sound : S → Type 0) (number : H → ℕ) (broken : K → Bool) (errors : K → ℕ) (quiet : S → Token → Bool) where
-  abbrev pub at : State → Tokenizer K → ℕ → S × Notes ℕ → List ℕ → Result (S × Notes ℕ) (Refusal × ℕ)
-  at st k b s t = held_at (noting step quiet) noting_error (noting_cdata cdata) (noting_end ends) st k b s t
+module _ {K H : Type 0} (Sink : Ghosts K H) where
+  abbrev pub at : State → Tokenizer K → ℕ → Sink.State × Notes ℕ → List ℕ → Result (Sink.State × Notes ℕ) (Refusal × ℕ)
+  at st k b s t = held_at (noting Sink.step Sink.is_quiet) noting_error (noting_cdata Sink.asks_cdata) (noting_end Sink.ended) st k b s t
 
-  pub now-at : (k : Tokenizer K) (st : State) (b : ℕ) (s : S × Notes ℕ) (t : List ℕ) → IsAt k st → now step view cdata ends sound number broken errors quiet k b s t ≡ at st k b s t
-  now-at k st b s t h = ap (λ r. held_at (noting step quiet) noting_error (noting_cdata cdata) (noting_end ends) k.state k b s (pending r ++ t)) h.fresh ∙ ap (λ x. held_at (noting step quiet) noting_error (noting_cdata cdata) (noting_end ends) x k b s t) h.state
+  pub now-at : (k : Tokenizer K) (st : State) (b : ℕ) (s : Sink.State × Notes ℕ) (t : List ℕ) → IsAt k st → now Sink k b s t ≡ at st k b s t
+  now-at k st b s t h = ap (λ r. held_at (noting Sink.step Sink.is_quiet) noting_error (noting_cdata Sink.asks_cdata) (noting_end Sink.ended) k.state k b s (pending r ++ t)) h.fresh ∙ ap (λ x. held_at (noting Sink.step Sink.is_quiet) noting_error (noting_cdata Sink.asks_cdata) (noting_end Sink.ended) x k b s t) h.state
 
   -- The character is taken, which may be odd, and the machine stands in st'; it is quiet only where it is not odd.
-  pub noted_marked : (odd : Bool) (old new : Tokenizer K) (c : ℕ) (st st' : State) → IsAt old st → IsAt new st' → new.stream ≡ old.stream → new.sink ≡ old.sink → sound (view old.sink)
-      → ((b : ℕ) (s : S × Notes ℕ) (t : List ℕ) → at st old b s (c ∷ t) ≡ at st' new (b + line_break (nat_eq c 10)) (s.0, more (owed_for (slight_if odd)) s.1) t)
-      → (took : Took step view cdata ends sound number broken errors quiet old new c flow.Continue) × (took.owed.is_quiet ≡ true → odd ≡ false)
+  pub noted_marked : (odd : Bool) (old new : Tokenizer K) (c : ℕ) (st st' : State) → IsAt old st → IsAt new st' → new.stream ≡ old.stream → new.sink ≡ old.sink → Sink.is_sound (Sink.view old.sink)
+      → ((b : ℕ) (s : Sink.State × Notes ℕ) (t : List ℕ) → at st old b s (c ∷ t) ≡ at st' new (b + line_break (nat_eq c 10)) (s.0, more (owed_for (slight_if odd)) s.1) t)
+      → (took : Took Sink old new c flow.Continue) × (took.owed.is_quiet ≡ true → odd ≡ false)
   noted_marked odd old new c st st' from to stream same ok law = (
     record {
       owed = owed_for (slight_if odd);
-      rises = rises-slight errors odd old.sink new.sink same;
+      rises = rises-slight Sink.errors odd old.sink new.sink same;
       same = λ notes t.
-          now-at old st old.stream.breaks (view old.sink, notes) (c ∷ t) from
-          ∙ law old.stream.breaks (view old.sink, notes) t
-          ∙ sym (now-at new st' (old.stream.breaks + line_break (nat_eq c 10)) (view old.sink, more (owed_for (slight_if odd)) notes) t to)
-          ∙ ap (λ k. now step view cdata ends sound number broken errors quiet new (old.stream.breaks + line_break (nat_eq c 10)) (view k, more (owed_for (slight_if odd)) notes) t) (sym same);
+          now-at old st old.stream.breaks (Sink.view old.sink, notes) (c ∷ t) from
+          ∙ law old.stream.breaks (Sink.view old.sink, notes) t
+          ∙ sym (now-at new st' (old.stream.breaks + line_break (nat_eq c 10)) (Sink.view old.sink, more (owed_for (slight_if odd)) notes) t to)
+          ∙ ap (λ k. now Sink new (old.stream.breaks + line_break (nat_eq c 10)) (Sink.view k, more (owed_for (slight_if odd)) notes) t) (sym same);
       stream = stream;
       sound = rw same ok;
       fits = fits-at new st' to;
-      works = λ h. ap broken (sym same) ∙ h;
+      works = λ h. ap Sink.has_failed (sym same) ∙ h;
       paused = tt;
     },
     quiet-not_odd odd,
   )
 
   -- the same, where nothing is said of that
-  pub took_marked : (odd : Bool) (old new : Tokenizer K) (c : ℕ) (st st' : State) → IsAt old st → IsAt new st' → new.stream ≡ old.stream → new.sink ≡ old.sink → sound (view old.sink)
-      → ((b : ℕ) (s : S × Notes ℕ) (t : List ℕ) → at st old b s (c ∷ t) ≡ at st' new (b + line_break (nat_eq c 10)) (s.0, more (owed_for (slight_if odd)) s.1) t)
-      → Took step view cdata ends sound number broken errors quiet old new c flow.Continue
+  pub took_marked : (odd : Bool) (old new : Tokenizer K) (c : ℕ) (st st' : State) → IsAt old st → IsAt new st' → new.stream ≡ old.stream → new.sink ≡ old.sink → Sink.is_sound (Sink.view old.sink)
+      → ((b : ℕ) (s : Sink.State × Notes ℕ) (t : List ℕ) → at st old b s (c ∷ t) ≡ at st' new (b + line_break (nat_eq c 10)) (s.0, more (owed_for (slight_if odd)) s.1) t)
+      → Took Sink old new c flow.Continue
   took_marked odd old new c st st' from to stream same ok law = (noted_marked odd old new c st st' from to stream same ok law).0
 
   -- The character is taken, and the machine stands in st'.
-  pub took : (old new : Tokenizer K) (c : ℕ) (st st' : State) → IsAt old st → IsAt new st' → new.stream ≡ old.stream → new.sink ≡ old.sink → sound (view old.sink)
-      → ((b : ℕ) (s : S × Notes ℕ) (t : List ℕ) → at st old b s (c ∷ t) ≡ at st' new (b + line_break (nat_eq c 10)) s t)
-      → Took step view cdata ends sound number broken errors quiet old new c flow.Continue
+  pub took : (old new : Tokenizer K) (c : ℕ) (st st' : State) → IsAt old st → IsAt new st' → new.stream ≡ old.stream → new.sink ≡ old.sink → Sink.is_sound (Sink.view old.sink)
+      → ((b : ℕ) (s : Sink.State × Notes ℕ) (t : List ℕ) → at st old b s (c ∷ t) ≡ at st' new (b + line_break (nat_eq c 10)) s t)
+      → Took Sink old new c flow.Continue
   took old new c st st' from to stream same ok law = took_marked false old new c st st' from to stream same ok law
 
   -- What a failed call was to give comes first in this.
-  pub fails-first : (sink : K) {A B F G : Type 0} (r : Result A F) (given : Result B G) (fault : ParseFault) → (IsErr r → IsErr given) → Fails step view cdata ends sound number broken errors quiet sink r fault → Fails step view cdata ends sound number broken errors quiet sink given fault
+  pub fails-first : (sink : K) {A B F G : Type 0} (r : Result A F) (given : Result B G) (fault : ParseFault) → (IsErr r → IsErr given) → Fails Sink sink r fault → Fails Sink sink given fault
   fails-first sink r given Memory h f = tt
   fails-first sink r given TokenInText h f = (h f.0, f.1)
   fails-first sink r given Ended h f = (h f.0, f.1)
@@ -170,55 +171,55 @@ module _ {K T : Type 0} (step : NotedStep T) (erred : Fault → T → T) (cdata 
   held-other state.CdataSectionBracket k sink stream b s t e = rw e refl
   held-other state.CdataSectionEnd k sink stream b s t e = rw e refl
 
-module _ {K S H : Type 0} (step : Step S) (view : K → S) (cdata : S → Bool) (ends : S → S) (sound : S → Type 0) (number : H → ℕ) (broken : K → Bool) (errors : K → ℕ) (quiet : S → Token → Bool) where
+module _ {K H : Type 0} (Sink : Ghosts K H) where
   -- What is to come where a token is told next, behind its error if it is faulty, and what follows then.
-  abbrev pub Says : State → Tokenizer K → ℕ → Owed → Token → (ℕ → S × Notes ℕ → List ℕ → Result (S × Notes ℕ) (Refusal × ℕ)) → Type 0
-  Says st old c owed token next = (b : ℕ) (s : S × Notes ℕ) → sound s.0 → (t : List ℕ) → at step view cdata ends sound number broken errors quiet st old b s (c ∷ t) ≡ (noting step quiet (s.0, more owed s.1) token (line_number b) >>= λ p. next b p.0 t)
+  abbrev pub Says : State → Tokenizer K → ℕ → Owed → Token → (ℕ → Sink.State × Notes ℕ → List ℕ → Result (Sink.State × Notes ℕ) (Refusal × ℕ)) → Type 0
+  Says st old c owed token next = (b : ℕ) (s : Sink.State × Notes ℕ) → Sink.is_sound s.0 → (t : List ℕ) → at Sink st old b s (c ∷ t) ≡ (noting Sink.step Sink.is_quiet (s.0, more owed s.1) token (line_number b) >>= λ p. next b p.0 t)
 
-  pub fails-along : (sink : K) {A F : Type 0} (a b : Result A F) (fault : ParseFault) → a ≡ b → Fails step view cdata ends sound number broken errors quiet sink b fault → Fails step view cdata ends sound number broken errors quiet sink a fault
+  pub fails-along : (sink : K) {A F : Type 0} (a b : Result A F) (fault : ParseFault) → a ≡ b → Fails Sink sink b fault → Fails Sink sink a fault
   fails-along sink a b fault e f = rw e f
 
   -- What was to be told was refused, and so is all that was to come.
-  pub token-fails : (sink : K) {A : Type 0} (given : Result A (Refusal × ℕ)) (s : S) (notes : Notes ℕ) (token : Token) (line : ℕ) (fault : ParseFault) (next : (S × Notes ℕ) × Reply → Result A (Refusal × ℕ))
-      → Fails step view cdata ends sound number broken errors quiet sink (step s token line) fault → given ≡ (noting step quiet (s, notes) token line >>= next) → Fails step view cdata ends sound number broken errors quiet sink given fault
+  pub token-fails : (sink : K) {A : Type 0} (given : Result A (Refusal × ℕ)) (s : Sink.State) (notes : Notes ℕ) (token : Token) (line : ℕ) (fault : ParseFault) (next : (Sink.State × Notes ℕ) × Reply → Result A (Refusal × ℕ))
+      → Fails Sink sink (Sink.step s token line) fault → given ≡ (noting Sink.step Sink.is_quiet (s, notes) token line >>= next) → Fails Sink sink given fault
   token-fails sink given s notes token line fault next fails e =
-      fails-along sink _ _ fault e (fails-first step view cdata ends sound number broken errors quiet sink (step s token line) _ fault (λ h. bind-err (noting step quiet (s, notes) token line) next (noted-err (heard (quiet s token) notes) (step s token line) h)) fails)
+      fails-along sink _ _ fault e (fails-first Sink sink (Sink.step s token line) _ fault (λ h. bind-err (noting Sink.step Sink.is_quiet (s, notes) token line) next (noted-err (heard (Sink.is_quiet s token) notes) (Sink.step s token line) h)) fails)
 
   -- The call that tells a token failed, and it was to be told next.
-  pub failed : (owed : Owed) (old new : Tokenizer K) (c : ℕ) (st : State) (token : Token) (result : Result (ProcessResult H) ParseFault) (fault : ParseFault) (next : ℕ → S × Notes ℕ → List ℕ → Result (S × Notes ℕ) (Refusal × ℕ))
-      → IsAt old st → sound (view old.sink) → IsErrAnd result (λ y. y ≡ fault) → Fails step view cdata ends sound number broken errors quiet old.sink (step (view old.sink) token (line_number old.stream.breaks)) fault
+  pub failed : (owed : Owed) (old new : Tokenizer K) (c : ℕ) (st : State) (token : Token) (result : Result (ProcessResult H) ParseFault) (fault : ParseFault) (next : ℕ → Sink.State × Notes ℕ → List ℕ → Result (Sink.State × Notes ℕ) (Refusal × ℕ))
+      → IsAt old st → Sink.is_sound (Sink.view old.sink) → IsErrAnd result (λ y. y ≡ fault) → Fails Sink old.sink (Sink.step (Sink.view old.sink) token (line_number old.stream.breaks)) fault
       → Says st old c owed token next
-      → Keeps step view cdata ends sound number broken errors quiet old new c result
+      → Keeps Sink old new c result
   failed owed old new c st token result fault next from ok is fails law =
       let p = err_from_is_err_and result is in
       rw (p.1, p.2) (λ notes t.
-      token-fails old.sink _ (view old.sink) (more owed notes) token (line_number old.stream.breaks) fault _ fails
-      (now-at step view cdata ends sound number broken errors quiet old st old.stream.breaks (view old.sink, notes) (c ∷ t) from ∙ law old.stream.breaks (view old.sink, notes) ok t))
+      token-fails old.sink _ (Sink.view old.sink) (more owed notes) token (line_number old.stream.breaks) fault _ fails
+      (now-at Sink old st old.stream.breaks (Sink.view old.sink, notes) (c ∷ t) from ∙ law old.stream.breaks (Sink.view old.sink, notes) ok t))
 
   -- what is to come where a token was told behind what is owed
-  pub told-next : {owed : Owed} (owing : Owed) (old mid : Tokenizer K) (token : Token) (notes : Notes ℕ) (next : S × Notes ℕ → Result (S × Notes ℕ) (Refusal × ℕ)) → Told step view cdata ends sound number broken errors quiet owed token old mid
-      → (noting step quiet (view old.sink, more owing notes) token (line_number old.stream.breaks) >>= λ p. next p.0) ≡ next (view mid.sink, more (hearing (quiet (view old.sink) token) owing) notes)
+  pub told-next : {owed : Owed} (owing : Owed) (old mid : Tokenizer K) (token : Token) (notes : Notes ℕ) (next : Sink.State × Notes ℕ → Result (Sink.State × Notes ℕ) (Refusal × ℕ)) → Told Sink owed token old mid
+      → (noting Sink.step Sink.is_quiet (Sink.view old.sink, more owing notes) token (line_number old.stream.breaks) >>= λ p. next p.0) ≡ next (Sink.view mid.sink, more (hearing (Sink.is_quiet (Sink.view old.sink) token) owing) notes)
   told-next owing old mid token notes next told =
-      ap (λ r. noted (heard (quiet (view old.sink) token) (more owing notes)) r >>= λ p. next p.0) (told.gives (line_number old.stream.breaks) refl)
-      ∙ ap (λ n. next (view mid.sink, n)) (heard-more (quiet (view old.sink) token) owing notes)
+      ap (λ r. noted (heard (Sink.is_quiet (Sink.view old.sink) token) (more owing notes)) r >>= λ p. next p.0) (told.gives (line_number old.stream.breaks) refl)
+      ∙ ap (λ n. next (Sink.view mid.sink, n)) (heard-more (Sink.is_quiet (Sink.view old.sink) token) owing notes)
 
   -- The machine with another sink is where it was.
-  pub now-target : (k : Tokenizer K) (sink : K) (st : State) (b : ℕ) (s : S × Notes ℕ) (t : List ℕ) → IsAt k st → now step view cdata ends sound number broken errors quiet (record k { sink = sink }) b s t ≡ at step view cdata ends sound number broken errors quiet st k b s t
-  now-target k sink st b s t h = held-other (noting step quiet) noting_error (noting_cdata cdata) (noting_end ends) k.state k sink k.stream b s (pending k.char_ref ++ t) refl ∙ now-at step view cdata ends sound number broken errors quiet k st b s t h
+  pub now-target : (k : Tokenizer K) (sink : K) (st : State) (b : ℕ) (s : Sink.State × Notes ℕ) (t : List ℕ) → IsAt k st → now Sink (record k { sink = sink }) b s t ≡ at Sink st k b s t
+  now-target k sink st b s t h = held-other (noting Sink.step Sink.is_quiet) noting_error (noting_cdata Sink.asks_cdata) (noting_end Sink.ended) k.state k sink k.stream b s (pending k.char_ref ++ t) refl ∙ now-at Sink k st b s t h
 
   -- A token was told, and the machine stands in st'. The target is the machine as it was, with the fields that changed.
-  pub took_told : {owed : Owed} (old mid new target : Tokenizer K) (c : ℕ) (st st' : State) (token : Token) → IsAt old st → sound (view old.sink) → Told step view cdata ends sound number broken errors quiet owed token old mid
+  pub took_told : {owed : Owed} (old mid new target : Tokenizer K) (c : ℕ) (st st' : State) (token : Token) → IsAt old st → Sink.is_sound (Sink.view old.sink) → Told Sink owed token old mid
       → new ≡ record target { sink = mid.sink } → IsAt target st' → target.stream ≡ old.stream
-      → Says st old c owed token (λ b s t. at step view cdata ends sound number broken errors quiet st' target (b + line_break (nat_eq c 10)) s t)
-      → Took step view cdata ends sound number broken errors quiet old new c flow.Continue
+      → Says st old c owed token (λ b s t. at Sink st' target (b + line_break (nat_eq c 10)) s t)
+      → Took Sink old new c flow.Continue
   took_told {owed} old mid new target c st st' token from ok told is to stream law = rw is (record {
-    owed = hearing (quiet (view old.sink) token) owed;
+    owed = hearing (Sink.is_quiet (Sink.view old.sink) token) owed;
     rises = told.rises;
     same = λ notes t.
-        now-at step view cdata ends sound number broken errors quiet old st old.stream.breaks (view old.sink, notes) (c ∷ t) from
-        ∙ law old.stream.breaks (view old.sink, notes) ok t
-        ∙ told-next owed old mid token notes (λ s. at step view cdata ends sound number broken errors quiet st' target (old.stream.breaks + line_break (nat_eq c 10)) s t) told
-        ∙ sym (now-target target mid.sink st' (old.stream.breaks + line_break (nat_eq c 10)) (view mid.sink, more (hearing (quiet (view old.sink) token) owed) notes) t to);
+        now-at Sink old st old.stream.breaks (Sink.view old.sink, notes) (c ∷ t) from
+        ∙ law old.stream.breaks (Sink.view old.sink, notes) ok t
+        ∙ told-next owed old mid token notes (λ s. at Sink st' target (old.stream.breaks + line_break (nat_eq c 10)) s t) told
+        ∙ sym (now-target target mid.sink st' (old.stream.breaks + line_break (nat_eq c 10)) (Sink.view mid.sink, more (hearing (Sink.is_quiet (Sink.view old.sink) token) owed) notes) t to);
     stream = stream;
     sound = told.sound;
     fits = fits-at target st' to;
@@ -227,23 +228,23 @@ module _ {K S H : Type 0} (step : Step S) (view : K → S) (cdata : S → Bool) 
   })
 
   -- A token was told by the machine with other fields, where it stays.
-  pub took_emitted : {owed : Owed} (old source new : Tokenizer K) (c : ℕ) (st st' : State) (token : Token) → IsAt old st → sound (view old.sink) → source.sink ≡ old.sink → source.stream ≡ old.stream → IsAt source st'
-      → Told step view cdata ends sound number broken errors quiet owed token source new
-      → Says st old c owed token (λ b s t. at step view cdata ends sound number broken errors quiet st' source (b + line_break (nat_eq c 10)) s t)
-      → Took step view cdata ends sound number broken errors quiet old new c flow.Continue
+  pub took_emitted : {owed : Owed} (old source new : Tokenizer K) (c : ℕ) (st st' : State) (token : Token) → IsAt old st → Sink.is_sound (Sink.view old.sink) → source.sink ≡ old.sink → source.stream ≡ old.stream → IsAt source st'
+      → Told Sink owed token source new
+      → Says st old c owed token (λ b s t. at Sink st' source (b + line_break (nat_eq c 10)) s t)
+      → Took Sink old new c flow.Continue
   took_emitted {owed} old source new c st st' token from ok same stream to told law =
-      let told' : Told step view cdata ends sound number broken errors quiet owed token (record source { sink = old.sink; stream = old.stream }) new = rw (← same, ← stream) told in
+      let told' : Told Sink owed token (record source { sink = old.sink; stream = old.stream }) new = rw (← same, ← stream) told in
       let source' : Tokenizer K = record source { sink = old.sink; stream = old.stream } in
       let is : source' ≡ source = rw (← same, ← stream) refl in
       record {
-        owed = hearing (quiet (view old.sink) token) owed;
+        owed = hearing (Sink.is_quiet (Sink.view old.sink) token) owed;
         rises = told'.rises;
         same = λ notes t.
-            now-at step view cdata ends sound number broken errors quiet old st old.stream.breaks (view old.sink, notes) (c ∷ t) from
-            ∙ law old.stream.breaks (view old.sink, notes) ok t
-            ∙ told-next owed source' new token notes (λ s. at step view cdata ends sound number broken errors quiet st' source (old.stream.breaks + line_break (nat_eq c 10)) s t) told'
-            ∙ sym (now-target source new.sink st' (old.stream.breaks + line_break (nat_eq c 10)) (view new.sink, more (hearing (quiet (view old.sink) token) owed) notes) t to)
-            ∙ sym (ap (λ k. now step view cdata ends sound number broken errors quiet k (old.stream.breaks + line_break (nat_eq c 10)) (view k.sink, more (hearing (quiet (view old.sink) token) owed) notes) t) told.changed);
+            now-at Sink old st old.stream.breaks (Sink.view old.sink, notes) (c ∷ t) from
+            ∙ law old.stream.breaks (Sink.view old.sink, notes) ok t
+            ∙ told-next owed source' new token notes (λ s. at Sink st' source (old.stream.breaks + line_break (nat_eq c 10)) s t) told'
+            ∙ sym (now-target source new.sink st' (old.stream.breaks + line_break (nat_eq c 10)) (Sink.view new.sink, more (hearing (Sink.is_quiet (Sink.view old.sink) token) owed) notes) t to)
+            ∙ sym (ap (λ k. now Sink k (old.stream.breaks + line_break (nat_eq c 10)) (Sink.view k.sink, more (hearing (Sink.is_quiet (Sink.view old.sink) token) owed) notes) t) told.changed);
         stream = ap (λ k. k.stream) told.changed ∙ stream;
         sound = told.sound;
         fits = ap (λ k. fits_in k.char_ref k.state) told.changed ∙ fits-at source st' to;
@@ -252,7 +253,7 @@ module _ {K S H : Type 0} (step : Step S) (view : K → S) (cdata : S → Bool) 
       }
 
   -- A sink that has failed, if the one before it had, fails as that does.
-  pub fails-before : (after before : K) {A F : Type 0} (given : Result A F) (fault : ParseFault) → (broken after ≡ true → broken before ≡ true) → Fails step view cdata ends sound number broken errors quiet after given fault → Fails step view cdata ends sound number broken errors quiet before given fault
+  pub fails-before : (after before : K) {A F : Type 0} (given : Result A F) (fault : ParseFault) → (Sink.has_failed after ≡ true → Sink.has_failed before ≡ true) → Fails Sink after given fault → Fails Sink before given fault
   fails-before after before given Memory works f = f
   fails-before after before given TokenInText works f = f
   fails-before after before given Ended works f = f
@@ -260,14 +261,14 @@ module _ {K S H : Type 0} (step : Step S) (view : K → S) (cdata : S → Bool) 
   fails-before after before given Failed works f = works f
 
   -- The character goes on to where the machine makes of it, and of all that follows, what was to be made, with so many faulty items told.
-  pub keeps-behind : (owed : Owed) (old mid new : Tokenizer K) (c : ℕ) (result : Result (ProcessResult H) ParseFault) → mid.stream ≡ old.stream → (broken mid.sink ≡ true → broken old.sink ≡ true) → Rises errors owed old.sink mid.sink
-      → ((notes : Notes ℕ) (t : List ℕ) → now step view cdata ends sound number broken errors quiet old old.stream.breaks (view old.sink, notes) (c ∷ t) ≡ now step view cdata ends sound number broken errors quiet mid old.stream.breaks (view mid.sink, more owed notes) (c ∷ t))
-      → Keeps step view cdata ends sound number broken errors quiet mid new c result → Keeps step view cdata ends sound number broken errors quiet old new c result
+  pub keeps-behind : (owed : Owed) (old mid new : Tokenizer K) (c : ℕ) (result : Result (ProcessResult H) ParseFault) → mid.stream ≡ old.stream → (Sink.has_failed mid.sink ≡ true → Sink.has_failed old.sink ≡ true) → Rises Sink.errors owed old.sink mid.sink
+      → ((notes : Notes ℕ) (t : List ℕ) → now Sink old old.stream.breaks (Sink.view old.sink, notes) (c ∷ t) ≡ now Sink mid old.stream.breaks (Sink.view mid.sink, more owed notes) (c ∷ t))
+      → Keeps Sink mid new c result → Keeps Sink old new c result
   keeps-behind owed old mid new c (Ok result) stream works rises e h = record {
     owed = together h.owed owed;
-    rises = rises-then errors old.sink mid.sink new.sink rises h.rises;
+    rises = rises-then Sink.errors old.sink mid.sink new.sink rises h.rises;
     same = λ notes t. e notes t ∙ rw (← stream) (h.same (more owed notes) t)
-        ∙ ap (λ n. now step view cdata ends sound number broken errors quiet new (old.stream.breaks + line_break (nat_eq c 10)) (view new.sink, record n { pauses = paused_by number notes.pauses result }) t) (more-more h.owed owed notes);
+        ∙ ap (λ n. now Sink new (old.stream.breaks + line_break (nat_eq c 10)) (Sink.view new.sink, record n { pauses = paused_by Sink.number notes.pauses result }) t) (more-more h.owed owed notes);
     stream = h.stream ∙ stream;
     sound = h.sound;
     fits = h.fits;
@@ -277,54 +278,54 @@ module _ {K S H : Type 0} (step : Step S) (view : K → S) (cdata : S → Bool) 
   keeps-behind owed old mid new c (Err fault) stream works rises e h = λ notes t. fails-along old.sink _ _ fault (e notes t) (rw (← stream) (fails-before mid.sink old.sink _ fault works (h (more owed notes) t)))
 
   -- the same with none
-  pub keeps-along : (old mid new : Tokenizer K) (c : ℕ) (result : Result (ProcessResult H) ParseFault) → mid.stream ≡ old.stream → (broken mid.sink ≡ true → broken old.sink ≡ true) → Rises errors nothing old.sink mid.sink
-      → ((notes : Notes ℕ) (t : List ℕ) → now step view cdata ends sound number broken errors quiet old old.stream.breaks (view old.sink, notes) (c ∷ t) ≡ now step view cdata ends sound number broken errors quiet mid old.stream.breaks (view mid.sink, notes) (c ∷ t))
-      → Keeps step view cdata ends sound number broken errors quiet mid new c result → Keeps step view cdata ends sound number broken errors quiet old new c result
+  pub keeps-along : (old mid new : Tokenizer K) (c : ℕ) (result : Result (ProcessResult H) ParseFault) → mid.stream ≡ old.stream → (Sink.has_failed mid.sink ≡ true → Sink.has_failed old.sink ≡ true) → Rises Sink.errors nothing old.sink mid.sink
+      → ((notes : Notes ℕ) (t : List ℕ) → now Sink old old.stream.breaks (Sink.view old.sink, notes) (c ∷ t) ≡ now Sink mid old.stream.breaks (Sink.view mid.sink, notes) (c ∷ t))
+      → Keeps Sink mid new c result → Keeps Sink old new c result
   keeps-along old mid new c result stream works rises e h = keeps-behind nothing old mid new c result stream works rises e h
 
   -- The character, which may be odd here, is taken by another state, which nothing led to but the machine's own fields.
   pub keeps_marked : (odd : Bool) (old mid new : Tokenizer K) (c : ℕ) (st st' : State) (result : Result (ProcessResult H) ParseFault) → IsAt old st → IsAt mid st' → mid.stream ≡ old.stream → mid.sink ≡ old.sink
-      → ((b : ℕ) (s : S × Notes ℕ) (t : List ℕ) → at step view cdata ends sound number broken errors quiet st old b s (c ∷ t) ≡ at step view cdata ends sound number broken errors quiet st' mid b (s.0, more (owed_for (slight_if odd)) s.1) (c ∷ t))
-      → Keeps step view cdata ends sound number broken errors quiet mid new c result → Keeps step view cdata ends sound number broken errors quiet old new c result
+      → ((b : ℕ) (s : Sink.State × Notes ℕ) (t : List ℕ) → at Sink st old b s (c ∷ t) ≡ at Sink st' mid b (s.0, more (owed_for (slight_if odd)) s.1) (c ∷ t))
+      → Keeps Sink mid new c result → Keeps Sink old new c result
   keeps_marked odd old mid new c st st' result from to stream same law h =
-      keeps-behind (owed_for (slight_if odd)) old mid new c result stream (λ h. ap broken (sym same) ∙ h) (rises-slight errors odd old.sink mid.sink same) (λ notes t.
-      now-at step view cdata ends sound number broken errors quiet old st old.stream.breaks (view old.sink, notes) (c ∷ t) from
-      ∙ law old.stream.breaks (view old.sink, notes) t
-      ∙ sym (now-at step view cdata ends sound number broken errors quiet mid st' old.stream.breaks (view old.sink, more (owed_for (slight_if odd)) notes) (c ∷ t) to)
-      ∙ ap (λ k. now step view cdata ends sound number broken errors quiet mid old.stream.breaks (view k, more (owed_for (slight_if odd)) notes) (c ∷ t)) (sym same)) h
+      keeps-behind (owed_for (slight_if odd)) old mid new c result stream (λ h. ap Sink.has_failed (sym same) ∙ h) (rises-slight Sink.errors odd old.sink mid.sink same) (λ notes t.
+      now-at Sink old st old.stream.breaks (Sink.view old.sink, notes) (c ∷ t) from
+      ∙ law old.stream.breaks (Sink.view old.sink, notes) t
+      ∙ sym (now-at Sink mid st' old.stream.breaks (Sink.view old.sink, more (owed_for (slight_if odd)) notes) (c ∷ t) to)
+      ∙ ap (λ k. now Sink mid old.stream.breaks (Sink.view k, more (owed_for (slight_if odd)) notes) (c ∷ t)) (sym same)) h
 
   -- The character is taken by another state, which nothing led to but the machine's own fields.
   pub keeps_silent : (old mid new : Tokenizer K) (c : ℕ) (st st' : State) (result : Result (ProcessResult H) ParseFault) → IsAt old st → IsAt mid st' → mid.stream ≡ old.stream → mid.sink ≡ old.sink
-      → ((b : ℕ) (s : S × Notes ℕ) (t : List ℕ) → at step view cdata ends sound number broken errors quiet st old b s (c ∷ t) ≡ at step view cdata ends sound number broken errors quiet st' mid b s (c ∷ t))
-      → Keeps step view cdata ends sound number broken errors quiet mid new c result → Keeps step view cdata ends sound number broken errors quiet old new c result
+      → ((b : ℕ) (s : Sink.State × Notes ℕ) (t : List ℕ) → at Sink st old b s (c ∷ t) ≡ at Sink st' mid b s (c ∷ t))
+      → Keeps Sink mid new c result → Keeps Sink old new c result
   keeps_silent old mid new c st st' result from to stream same law h = keeps_marked false old mid new c st st' result from to stream same law h
 
   -- A token was told, and then the character is taken by another state.
-  pub keeps_told : {owed : Owed} (old mid on new target : Tokenizer K) (c : ℕ) (st st' : State) (token : Token) (result : Result (ProcessResult H) ParseFault) → IsAt old st → sound (view old.sink) → Told step view cdata ends sound number broken errors quiet owed token old mid
+  pub keeps_told : {owed : Owed} (old mid on new target : Tokenizer K) (c : ℕ) (st st' : State) (token : Token) (result : Result (ProcessResult H) ParseFault) → IsAt old st → Sink.is_sound (Sink.view old.sink) → Told Sink owed token old mid
       → on ≡ record target { sink = mid.sink } → IsAt target st' → target.stream ≡ old.stream
-      → Says st old c owed token (λ b s t. at step view cdata ends sound number broken errors quiet st' target b s (c ∷ t))
-      → Keeps step view cdata ends sound number broken errors quiet on new c result → Keeps step view cdata ends sound number broken errors quiet old new c result
+      → Says st old c owed token (λ b s t. at Sink st' target b s (c ∷ t))
+      → Keeps Sink on new c result → Keeps Sink old new c result
   keeps_told {owed} old mid on new target c st st' token result from ok told is to stream law h =
-      keeps-behind (hearing (quiet (view old.sink) token) owed) old on new c result (ap (λ k. k.stream) is ∙ stream) (λ h. told-works told.works (ap (λ k. broken k.sink) (sym is) ∙ h)) (rw is told.rises) (λ notes t.
-      now-at step view cdata ends sound number broken errors quiet old st old.stream.breaks (view old.sink, notes) (c ∷ t) from
-      ∙ law old.stream.breaks (view old.sink, notes) ok t
-      ∙ told-next owed old mid token notes (λ s. at step view cdata ends sound number broken errors quiet st' target old.stream.breaks s (c ∷ t)) told
-      ∙ sym (now-target target mid.sink st' old.stream.breaks (view mid.sink, more (hearing (quiet (view old.sink) token) owed) notes) (c ∷ t) to)
-      ∙ sym (ap (λ k. now step view cdata ends sound number broken errors quiet k old.stream.breaks (view k.sink, more (hearing (quiet (view old.sink) token) owed) notes) (c ∷ t)) is)) h
+      keeps-behind (hearing (Sink.is_quiet (Sink.view old.sink) token) owed) old on new c result (ap (λ k. k.stream) is ∙ stream) (λ h. told-works told.works (ap (λ k. Sink.has_failed k.sink) (sym is) ∙ h)) (rw is told.rises) (λ notes t.
+      now-at Sink old st old.stream.breaks (Sink.view old.sink, notes) (c ∷ t) from
+      ∙ law old.stream.breaks (Sink.view old.sink, notes) ok t
+      ∙ told-next owed old mid token notes (λ s. at Sink st' target old.stream.breaks s (c ∷ t)) told
+      ∙ sym (now-target target mid.sink st' old.stream.breaks (Sink.view mid.sink, more (hearing (Sink.is_quiet (Sink.view old.sink) token) owed) notes) (c ∷ t) to)
+      ∙ sym (ap (λ k. now Sink k old.stream.breaks (Sink.view k.sink, more (hearing (Sink.is_quiet (Sink.view old.sink) token) owed) notes) (c ∷ t)) is)) h
 
   -- The tag was told, and the character ended it.
-  pub took_tag : (old new : Tokenizer K) (c : ℕ) (st : State) (result : Result (ProcessResult H) ParseFault) → IsAt old st → c ≡ 62 → EndsTag step view cdata ends sound number broken errors quiet old new result
-      → ((b : ℕ) (s : S × Notes ℕ) → sound s.0 → (t : List ℕ) → at step view cdata ends sound number broken errors quiet st old b s (c ∷ t)
-      ≡ (noting step quiet (s.0, more (owed_for (grave_if (is_faulty_tag old.tag))) s.1) (TagToken old.tag) (line_number b) >>= λ p. reading (noting step quiet) noting_error (noting_cdata cdata) (noting_end ends) (rows_of old) (next_stand (behind_tag (standing old InData) old.tag) p.1) b p.0 t))
-      → sound (view old.sink) → Keeps step view cdata ends sound number broken errors quiet old new c result
+  pub took_tag : (old new : Tokenizer K) (c : ℕ) (st : State) (result : Result (ProcessResult H) ParseFault) → IsAt old st → c ≡ 62 → EndsTag Sink old new result
+      → ((b : ℕ) (s : Sink.State × Notes ℕ) → Sink.is_sound s.0 → (t : List ℕ) → at Sink st old b s (c ∷ t)
+      ≡ (noting Sink.step Sink.is_quiet (s.0, more (owed_for (grave_if (is_faulty_tag old.tag))) s.1) (TagToken old.tag) (line_number b) >>= λ p. reading (noting Sink.step Sink.is_quiet) noting_error (noting_cdata Sink.asks_cdata) (noting_end Sink.ended) (rows_of old) (next_stand (behind_tag (standing old InData) old.tag) p.1) b p.0 t))
+      → Sink.is_sound (Sink.view old.sink) → Keeps Sink old new c result
   took_tag old new c st (Ok result) from close h law ok = record {
-    owed = owed_by step view cdata ends sound number broken errors quiet old;
+    owed = owed_by Sink old;
     rises = h.rises;
     same = λ notes t.
-        now-at step view cdata ends sound number broken errors quiet old st old.stream.breaks (view old.sink, notes) (c ∷ t) from
-        ∙ law old.stream.breaks (view old.sink, notes) ok t
+        now-at Sink old st old.stream.breaks (Sink.view old.sink, notes) (c ∷ t) from
+        ∙ law old.stream.breaks (Sink.view old.sink, notes) ok t
         ∙ h.same notes t
-        ∙ ap (λ n. now step view cdata ends sound number broken errors quiet new n (view new.sink, noted_by number (owed_by step view cdata ends sound number broken errors quiet old) notes result) t) (sym (no-break old.stream.breaks c (ap (λ x. nat_eq x 10) close)));
+        ∙ ap (λ n. now Sink new n (Sink.view new.sink, noted_by Sink.number (owed_by Sink old) notes result) t) (sym (no-break old.stream.breaks c (ap (λ x. nat_eq x 10) close)));
     stream = h.stream;
     sound = h.sound;
     fits = h.fits;
@@ -332,49 +333,49 @@ module _ {K S H : Type 0} (step : Step S) (view : K → S) (cdata : S → Bool) 
     paused = rw close h.paused;
   }
   took_tag old new c st (Err fault) from close h law ok = λ notes t.
-      token-fails old.sink _ (view old.sink) (more (owed_for (grave_if (is_faulty_tag old.tag))) notes) (TagToken old.tag) (line_number old.stream.breaks) fault _ h
-      (now-at step view cdata ends sound number broken errors quiet old st old.stream.breaks (view old.sink, notes) (c ∷ t) from ∙ law old.stream.breaks (view old.sink, notes) ok t)
+      token-fails old.sink _ (Sink.view old.sink) (more (owed_for (grave_if (is_faulty_tag old.tag))) notes) (TagToken old.tag) (line_number old.stream.breaks) fault _ h
+      (now-at Sink old st old.stream.breaks (Sink.view old.sink, notes) (c ∷ t) from ∙ law old.stream.breaks (Sink.view old.sink, notes) ok t)
 
   -- An error that was told changes nothing that is to come.
-  pub erred-now : {owed : Owed} (old mid : Tokenizer K) (b : ℕ) (notes : Notes ℕ) (t : List ℕ) → Erred step view cdata ends sound number broken errors quiet owed old mid → now step view cdata ends sound number broken errors quiet old b (view old.sink, notes) t ≡ now step view cdata ends sound number broken errors quiet mid b (view mid.sink, notes) t
+  pub erred-now : {owed : Owed} (old mid : Tokenizer K) (b : ℕ) (notes : Notes ℕ) (t : List ℕ) → Erred Sink owed old mid → now Sink old b (Sink.view old.sink, notes) t ≡ now Sink mid b (Sink.view mid.sink, notes) t
   erred-now old mid b notes t h =
-      ap (λ s. now step view cdata ends sound number broken errors quiet old b (s, notes) t) (sym h.sink)
-      ∙ sym (held-other (noting step quiet) noting_error (noting_cdata cdata) (noting_end ends) old.state old mid.sink old.stream b (view mid.sink, notes) (pending old.char_ref ++ t) refl)
-      ∙ sym (ap (λ k. now step view cdata ends sound number broken errors quiet k b (view mid.sink, notes) t) h.changed)
+      ap (λ s. now Sink old b (s, notes) t) (sym h.sink)
+      ∙ sym (held-other (noting Sink.step Sink.is_quiet) noting_error (noting_cdata Sink.asks_cdata) (noting_end Sink.ended) old.state old mid.sink old.stream b (Sink.view mid.sink, notes) (pending old.char_ref ++ t) refl)
+      ∙ sym (ap (λ k. now Sink k b (Sink.view mid.sink, notes) t) h.changed)
 
-  pub at_erred : {owed : Owed} (old mid : Tokenizer K) (st : State) → Erred step view cdata ends sound number broken errors quiet owed old mid → IsAt old st → IsAt mid st
+  pub at_erred : {owed : Owed} (old mid : Tokenizer K) (st : State) → Erred Sink owed old mid → IsAt old st → IsAt mid st
   at_erred old mid st h at = record { state = ap (λ k. k.state) h.changed ∙ at.state; fresh = ap (λ k. k.char_ref) h.changed ∙ at.fresh }
 
-  pub sound_erred : {owed : Owed} (old mid : Tokenizer K) → Erred step view cdata ends sound number broken errors quiet owed old mid → sound (view old.sink) → sound (view mid.sink)
+  pub sound_erred : {owed : Owed} (old mid : Tokenizer K) → Erred Sink owed old mid → Sink.is_sound (Sink.view old.sink) → Sink.is_sound (Sink.view mid.sink)
   sound_erred old mid h ok = rw h.sink ok
 
   -- What is to come where the machine reads this character is the same where something slight was noted before.
   abbrev pub Absorbs : Tokenizer K → ℕ → Type 0
-  Absorbs k c = (b : ℕ) (s : S × Notes ℕ) (t : List ℕ) → now step view cdata ends sound number broken errors quiet k b s (c ∷ t) ≡ now step view cdata ends sound number broken errors quiet k b (s.0, more (owed_for (Some Slight)) s.1) (c ∷ t)
+  Absorbs k c = (b : ℕ) (s : Sink.State × Notes ℕ) (t : List ℕ) → now Sink k b s (c ∷ t) ≡ now Sink k b (s.0, more (owed_for (Some Slight)) s.1) (c ∷ t)
 
   -- An error of an odd character was told, and then the character is taken, whose reading notes that it is odd.
-  pub keeps_erred : (odd : Bool) (old mid new : Tokenizer K) (c : ℕ) (result : Result (ProcessResult H) ParseFault) → Erred step view cdata ends sound number broken errors quiet (owed_for (grave_if odd)) old mid → (odd ≡ true → Absorbs old c) → Keeps step view cdata ends sound number broken errors quiet mid new c result → Keeps step view cdata ends sound number broken errors quiet old new c result
+  pub keeps_erred : (odd : Bool) (old mid new : Tokenizer K) (c : ℕ) (result : Result (ProcessResult H) ParseFault) → Erred Sink (owed_for (grave_if odd)) old mid → (odd ≡ true → Absorbs old c) → Keeps Sink mid new c result → Keeps Sink old new c result
   keeps_erred true old mid new c result h absorbs k =
-      keeps-behind (owed_for (Some Slight)) old mid new c result (ap (λ k. k.stream) h.changed) h.works (rises-less errors old.sink mid.sink (record { faults = omega arith; quiet = λ e. absurd cc }) h.rises)
-      (λ notes t. absorbs refl old.stream.breaks (view old.sink, notes) t ∙ erred-now old mid old.stream.breaks (more (owed_for (Some Slight)) notes) (c ∷ t) h) k
+      keeps-behind (owed_for (Some Slight)) old mid new c result (ap (λ k. k.stream) h.changed) h.works (rises-less Sink.errors old.sink mid.sink (record { faults = omega arith; quiet = λ e. absurd cc }) h.rises)
+      (λ notes t. absorbs refl old.stream.breaks (Sink.view old.sink, notes) t ∙ erred-now old mid old.stream.breaks (more (owed_for (Some Slight)) notes) (c ∷ t) h) k
   keeps_erred false old mid new c result h absorbs k =
       keeps-along old mid new c result (ap (λ k. k.stream) h.changed) h.works h.rises (λ notes t. erred-now old mid old.stream.breaks notes (c ∷ t) h) k
 
   -- An error was told for a faulty item that gives no token, and the character is taken by another state.
-  pub took_faulty : {owed : Owed} (old mid new : Tokenizer K) (c : ℕ) (st st' : State) → IsAt old st → IsAt new st' → sound (view old.sink) → Erred step view cdata ends sound number broken errors quiet owed old mid → new.stream ≡ mid.stream → new.sink ≡ mid.sink
-      → ((b : ℕ) (s : S × Notes ℕ) (t : List ℕ) → at step view cdata ends sound number broken errors quiet st old b s (c ∷ t) ≡ at step view cdata ends sound number broken errors quiet st' new (b + line_break (nat_eq c 10)) (s.0, more owed s.1) t)
-      → Took step view cdata ends sound number broken errors quiet old new c flow.Continue
+  pub took_faulty : {owed : Owed} (old mid new : Tokenizer K) (c : ℕ) (st st' : State) → IsAt old st → IsAt new st' → Sink.is_sound (Sink.view old.sink) → Erred Sink owed old mid → new.stream ≡ mid.stream → new.sink ≡ mid.sink
+      → ((b : ℕ) (s : Sink.State × Notes ℕ) (t : List ℕ) → at Sink st old b s (c ∷ t) ≡ at Sink st' new (b + line_break (nat_eq c 10)) (s.0, more owed s.1) t)
+      → Took Sink old new c flow.Continue
   took_faulty {owed} old mid new c st st' from to ok h stream same law = record {
     owed = owed;
     rises = rw same h.rises;
     same = λ notes t.
-        now-at step view cdata ends sound number broken errors quiet old st old.stream.breaks (view old.sink, notes) (c ∷ t) from
-        ∙ law old.stream.breaks (view old.sink, notes) t
-        ∙ ap (λ s. at step view cdata ends sound number broken errors quiet st' new (old.stream.breaks + line_break (nat_eq c 10)) (s, more owed notes) t) (sym (ap view same ∙ h.sink))
-        ∙ sym (now-at step view cdata ends sound number broken errors quiet new st' (old.stream.breaks + line_break (nat_eq c 10)) (view new.sink, more owed notes) t to);
+        now-at Sink old st old.stream.breaks (Sink.view old.sink, notes) (c ∷ t) from
+        ∙ law old.stream.breaks (Sink.view old.sink, notes) t
+        ∙ ap (λ s. at Sink st' new (old.stream.breaks + line_break (nat_eq c 10)) (s, more owed notes) t) (sym (ap Sink.view same ∙ h.sink))
+        ∙ sym (now-at Sink new st' (old.stream.breaks + line_break (nat_eq c 10)) (Sink.view new.sink, more owed notes) t to);
     stream = stream ∙ ap (λ k. k.stream) h.changed;
-    sound = rw (ap view same ∙ h.sink) ok;
+    sound = rw (ap Sink.view same ∙ h.sink) ok;
     fits = fits-at new st' to;
-    works = λ x. h.works (ap broken (sym same) ∙ x);
+    works = λ x. h.works (ap Sink.has_failed (sym same) ∙ x);
     paused = tt;
   }

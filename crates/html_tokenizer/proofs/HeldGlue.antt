@@ -10,6 +10,7 @@ use Rattle.html_tokens.specs.declared.states.RawKind.TheVariants as raw
 use Rattle.html_tokens.specs.declared.states.State.{State}
 use Rattle.html_tokens.specs.declared.states.State.TheVariants as state
 use Rattle.html_tokens.specs.declared.token.Token.{Token}
+use Rattle.html_tokens.specs.declared.sink.TokenSink.{Ghosts}
 use Rattle.html_tokens.specs.Notes.{Notes, noting}
 use Rattle.html_tokens.specs.Reading.{◌>>=◌, line_number}
 use Rattle.html_tokens.specs.Sink.{Step}
@@ -21,10 +22,10 @@ use Rattle.html_tokenizer.proofs.Glue.{at, keeps-behind, no-break, now-target, t
 use Rattle.html_tokenizer.proofs.HeldReadings.{held-unbroken}
 use Rattle.html_tokenizer.proofs.Rises.{rises-same}
 
-module _ {K S H : Type 0} (step : Step S) (view : K → S) (cdata : S → Bool) (ends : S → S) (sound : S → Type 0) (number : H → ℕ) (broken : K → Bool) (errors : K → ℕ) (quiet : S → Token → Bool) where
+module _ {K H : Type 0} (Sink : Ghosts K H) where
   -- The reference that is held does not matter to what its state makes of a text.
-  pub held-other_reference : (st : State) → may_hold st ≡ true → (k : Tokenizer K) (r : Option (List ℕ)) (b : ℕ) (s : S × Notes ℕ) (t : List ℕ)
-      → at step view cdata ends sound number broken errors quiet st (record k { char_ref = r }) b s t ≡ at step view cdata ends sound number broken errors quiet st k b s t
+  pub held-other_reference : (st : State) → may_hold st ≡ true → (k : Tokenizer K) (r : Option (List ℕ)) (b : ℕ) (s : Sink.State × Notes ℕ) (t : List ℕ)
+      → at Sink st (record k { char_ref = r }) b s t ≡ at Sink st k b s t
   unfolding held_at
   held-other_reference state.Data h k r b s t = refl
   held-other_reference (state.RawData raw.Rcdata) h k r b s t = refl
@@ -34,23 +35,23 @@ module _ {K S H : Type 0} (step : Step S) (view : K → S) (cdata : S → Bool) 
   held-other_reference _ h k r b s t = absurd cc
 
   -- what is to come where a reference is held
-  pub now-held : (k : Tokenizer K) (st : State) (cs : List ℕ) (b : ℕ) (s : S × Notes ℕ) (t : List ℕ) → k.state ≡ st → may_hold st ≡ true
-      → now step view cdata ends sound number broken errors quiet (record k { char_ref = Some cs }) b s t ≡ at step view cdata ends sound number broken errors quiet st k b s (38 ∷ cs ++ t)
+  pub now-held : (k : Tokenizer K) (st : State) (cs : List ℕ) (b : ℕ) (s : Sink.State × Notes ℕ) (t : List ℕ) → k.state ≡ st → may_hold st ≡ true
+      → now Sink (record k { char_ref = Some cs }) b s t ≡ at Sink st k b s (38 ∷ cs ++ t)
   now-held k st cs b s t e h =
-      ap (λ x. at step view cdata ends sound number broken errors quiet x (record k { char_ref = Some cs }) b s (38 ∷ cs ++ t)) e
+      ap (λ x. at Sink x (record k { char_ref = Some cs }) b s (38 ∷ cs ++ t)) e
       ∙ held-other_reference st h k (Some cs) b s (38 ∷ cs ++ t)
 
   -- A character more is held.
-  pub took-held : (old : Tokenizer K) (c : ℕ) (cs more : List ℕ) → may_hold old.state ≡ true → sound (view old.sink) → is_held c ≡ true → more ≡ cs ++ c ∷ []
-      → Took step view cdata ends sound number broken errors quiet (record old { char_ref = Some cs }) (record old { char_ref = Some more }) c flow.Continue
+  pub took-held : (old : Tokenizer K) (c : ℕ) (cs more : List ℕ) → may_hold old.state ≡ true → Sink.is_sound (Sink.view old.sink) → is_held c ≡ true → more ≡ cs ++ c ∷ []
+      → Took Sink (record old { char_ref = Some cs }) (record old { char_ref = Some more }) c flow.Continue
   took-held old c cs more fits ok held is = record {
     owed = nothing;
-    rises = rises-same errors old.sink old.sink refl;
+    rises = rises-same Sink.errors old.sink old.sink refl;
     same = λ notes t.
-        now-held old old.state cs old.stream.breaks (view old.sink, notes) (c ∷ t) refl fits
-        ∙ ap (λ u. at step view cdata ends sound number broken errors quiet old.state old old.stream.breaks (view old.sink, notes) (38 ∷ u)) (sym (append_assoc cs (c ∷ []) t) ∙ ap (λ m. m ++ t) (sym is))
-        ∙ sym (now-held old old.state more old.stream.breaks (view old.sink, notes) t refl fits)
-        ∙ ap (λ n. now step view cdata ends sound number broken errors quiet (record old { char_ref = Some more }) n (view old.sink, notes) t) (sym (no-break old.stream.breaks c (held-unbroken c held)));
+        now-held old old.state cs old.stream.breaks (Sink.view old.sink, notes) (c ∷ t) refl fits
+        ∙ ap (λ u. at Sink old.state old old.stream.breaks (Sink.view old.sink, notes) (38 ∷ u)) (sym (append_assoc cs (c ∷ []) t) ∙ ap (λ m. m ++ t) (sym is))
+        ∙ sym (now-held old old.state more old.stream.breaks (Sink.view old.sink, notes) t refl fits)
+        ∙ ap (λ n. now Sink (record old { char_ref = Some more }) n (Sink.view old.sink, notes) t) (sym (no-break old.stream.breaks c (held-unbroken c held)));
     stream = refl;
     sound = ok;
     fits = fits;
@@ -60,27 +61,27 @@ module _ {K S H : Type 0} (step : Step S) (view : K → S) (cdata : S → Bool) 
 
   -- What was held is told as this token, and then the character comes.
   abbrev pub Resolves : State → Tokenizer K → List ℕ → ℕ → Owed → Token → Type 0
-  Resolves st k cs c owed token = (b : ℕ) (s : S × Notes ℕ) → sound s.0 → (t : List ℕ)
-      → at step view cdata ends sound number broken errors quiet st k b s (38 ∷ cs ++ c ∷ t) ≡ (noting step quiet (s.0, more_noted owed s.1) token (line_number b) >>= λ p. at step view cdata ends sound number broken errors quiet st k b p.0 (c ∷ t))
+  Resolves st k cs c owed token = (b : ℕ) (s : Sink.State × Notes ℕ) → Sink.is_sound s.0 → (t : List ℕ)
+      → at Sink st k b s (38 ∷ cs ++ c ∷ t) ≡ (noting Sink.step Sink.is_quiet (s.0, more_noted owed s.1) token (line_number b) >>= λ p. at Sink st k b p.0 (c ∷ t))
 
-  pub keeps-resolved : {owed : Owed} (old mid new : Tokenizer K) (cs : List ℕ) (c : ℕ) (st : State) (token : Token) (result : Result (ProcessResult H) ParseFault) → IsAt old st → may_hold st ≡ true → sound (view old.sink)
-      → Told step view cdata ends sound number broken errors quiet owed token old mid → Resolves st old cs c owed token
-      → Keeps step view cdata ends sound number broken errors quiet mid new c result → Keeps step view cdata ends sound number broken errors quiet (record old { char_ref = Some cs }) new c result
+  pub keeps-resolved : {owed : Owed} (old mid new : Tokenizer K) (cs : List ℕ) (c : ℕ) (st : State) (token : Token) (result : Result (ProcessResult H) ParseFault) → IsAt old st → may_hold st ≡ true → Sink.is_sound (Sink.view old.sink)
+      → Told Sink owed token old mid → Resolves st old cs c owed token
+      → Keeps Sink mid new c result → Keeps Sink (record old { char_ref = Some cs }) new c result
   keeps-resolved {owed} old mid new cs c st token result from fits ok told law h =
-      let heard = hearing (quiet (view old.sink) token) owed in
-      keeps-behind step view cdata ends sound number broken errors quiet heard (record old { char_ref = Some cs }) mid new c result (ap (λ k. k.stream) told.changed) (λ h. told-works told.works h) told.rises (λ notes t.
-      now-held old st cs old.stream.breaks (view old.sink, notes) (c ∷ t) from.state fits
-      ∙ law old.stream.breaks (view old.sink, notes) ok t
-      ∙ told-next step view cdata ends sound number broken errors quiet owed old mid token notes (λ s. at step view cdata ends sound number broken errors quiet st old old.stream.breaks s (c ∷ t)) told
-      ∙ sym (now-target step view cdata ends sound number broken errors quiet old mid.sink st old.stream.breaks (view mid.sink, more_noted heard notes) (c ∷ t) from)
-      ∙ sym (ap (λ k. now step view cdata ends sound number broken errors quiet k old.stream.breaks (view mid.sink, more_noted heard notes) (c ∷ t)) told.changed)) h
+      let heard = hearing (Sink.is_quiet (Sink.view old.sink) token) owed in
+      keeps-behind Sink heard (record old { char_ref = Some cs }) mid new c result (ap (λ k. k.stream) told.changed) (λ h. told-works told.works h) told.rises (λ notes t.
+      now-held old st cs old.stream.breaks (Sink.view old.sink, notes) (c ∷ t) from.state fits
+      ∙ law old.stream.breaks (Sink.view old.sink, notes) ok t
+      ∙ told-next Sink owed old mid token notes (λ s. at Sink st old old.stream.breaks s (c ∷ t)) told
+      ∙ sym (now-target Sink old mid.sink st old.stream.breaks (Sink.view mid.sink, more_noted heard notes) (c ∷ t) from)
+      ∙ sym (ap (λ k. now Sink k old.stream.breaks (Sink.view mid.sink, more_noted heard notes) (c ∷ t)) told.changed)) h
 
   -- What was held could not be told.
-  pub not-resolved : (owed : Owed) (old new : Tokenizer K) (cs : List ℕ) (c : ℕ) (st : State) (token : Token) (result : Result (ProcessResult H) ParseFault) (fault : ParseFault) → IsAt old st → may_hold st ≡ true → sound (view old.sink)
-      → IsErrAnd result (λ y. y ≡ fault) → Fails step view cdata ends sound number broken errors quiet old.sink (step (view old.sink) token (line_number old.stream.breaks)) fault → Resolves st old cs c owed token
-      → Keeps step view cdata ends sound number broken errors quiet (record old { char_ref = Some cs }) new c result
+  pub not-resolved : (owed : Owed) (old new : Tokenizer K) (cs : List ℕ) (c : ℕ) (st : State) (token : Token) (result : Result (ProcessResult H) ParseFault) (fault : ParseFault) → IsAt old st → may_hold st ≡ true → Sink.is_sound (Sink.view old.sink)
+      → IsErrAnd result (λ y. y ≡ fault) → Fails Sink old.sink (Sink.step (Sink.view old.sink) token (line_number old.stream.breaks)) fault → Resolves st old cs c owed token
+      → Keeps Sink (record old { char_ref = Some cs }) new c result
   not-resolved owed old new cs c st token result fault from fits ok is fails law =
       let p = err_from_is_err_and result is in
       rw (p.1, p.2) (λ notes t.
-      token-fails step view cdata ends sound number broken errors quiet old.sink _ (view old.sink) (more_noted owed notes) token (line_number old.stream.breaks) fault _ fails
-      (now-held old st cs old.stream.breaks (view old.sink, notes) (c ∷ t) from.state fits ∙ law old.stream.breaks (view old.sink, notes) ok t))
+      token-fails Sink old.sink _ (Sink.view old.sink) (more_noted owed notes) token (line_number old.stream.breaks) fault _ fails
+      (now-held old st cs old.stream.breaks (Sink.view old.sink, notes) (c ∷ t) from.state fits ∙ law old.stream.breaks (Sink.view old.sink, notes) ok t))

@@ -8,6 +8,7 @@ use Rattle.html_tokens.specs.declared.states.AttrValueKind.{AttrValueKind}
 use Rattle.html_tokens.specs.declared.states.AttrValueKind.TheVariants as value
 use Rattle.html_tokens.specs.declared.states.State.TheVariants as state
 use Rattle.html_tokens.specs.declared.token.Token.{Token}
+use Rattle.html_tokens.specs.declared.sink.TokenSink.{Ghosts}
 use Rattle.html_tokens.specs.Item.{Slight, grave_if, slight_if, InData}
 use Rattle.html_tokens.specs.Notes.{Notes, noting, noting_error, noting_cdata, noting_end}
 use Rattle.html_tokens.specs.Reference.{Reference, fault_of_reference, goes_on_at, reference_at}
@@ -34,66 +35,66 @@ slight-twice : (wrong : Bool) (notes : Notes ℕ) → wrong ≡ true → more (o
 slight-twice true notes e = refl
 slight-twice false notes e = absurd cc
 
-module _ {K S H : Type 0} (step : Step S) (view : K → S) (cdata : S → Bool) (ends : S → S) (sound : S → Type 0) (number : H → ℕ) (broken : K → Bool) (errors : K → ℕ) (quiet : S → Token → Bool) where
+module _ {K H : Type 0} (Sink : Ghosts K H) where
   -- what is noted of what was held
-  abbrev pub wronged_by : Tokenizer K → List ℕ → S × Notes ℕ → S × Notes ℕ
+  abbrev pub wronged_by : Tokenizer K → List ℕ → Sink.State × Notes ℕ → Sink.State × Notes ℕ
   wronged_by k cs s = (s.0, more (owed_for (slight_if (is_some (fault_of_reference (rows_of k) cs)))) s.1)
 
   -- what was held and what follows is read as what was held behind the value, and then what follows
-  value-resolves : (kind : AttrValueKind) (old : Tokenizer K) (cs u : List ℕ) (follows : Bool) → list_all is_held cs ≡ true → reference_at true (rows_of old) (cs ++ u) ≡ decided true (rows_of old) cs follows → fault_of_reference (rows_of old) (cs ++ u) ≡ fault_of_reference (rows_of old) cs → (b : ℕ) (s : S × Notes ℕ)
-      → at step view cdata ends sound number broken errors quiet (state.AttributeValue kind) old b s (38 ∷ cs ++ u)
-      ≡ at step view cdata ends sound number broken errors quiet (state.AttributeValue kind) (record old { attribute_value = old.attribute_value ++ resolved true (rows_of old) cs follows }) b (wronged_by old cs s) u
+  value-resolves : (kind : AttrValueKind) (old : Tokenizer K) (cs u : List ℕ) (follows : Bool) → list_all is_held cs ≡ true → reference_at true (rows_of old) (cs ++ u) ≡ decided true (rows_of old) cs follows → fault_of_reference (rows_of old) (cs ++ u) ≡ fault_of_reference (rows_of old) cs → (b : ℕ) (s : Sink.State × Notes ℕ)
+      → at Sink (state.AttributeValue kind) old b s (38 ∷ cs ++ u)
+      ≡ at Sink (state.AttributeValue kind) (record old { attribute_value = old.attribute_value ++ resolved true (rows_of old) cs follows }) b (wronged_by old cs s) u
   unfolding held_at
   value-resolves value.Unquoted old cs u follows h e f b s =
-      play-unquoted (noting step quiet) noting_error (noting_cdata cdata) (noting_end ends) (rows_of old) (λ fault s. slight-absorbed fault s) (standing old InData) old.tag old.attribute_name old.attribute_value cs u follows b s h e f
-      ∙ ap (λ q. at step view cdata ends sound number broken errors quiet (state.AttributeValue value.Unquoted) (record old { attribute_value = old.attribute_value ++ resolved true (rows_of old) cs follows }) b q u) (erred-more (slight_if (is_some (fault_of_reference (rows_of old) cs))) s)
+      play-unquoted (noting Sink.step Sink.is_quiet) noting_error (noting_cdata Sink.asks_cdata) (noting_end Sink.ended) (rows_of old) (λ fault s. slight-absorbed fault s) (standing old InData) old.tag old.attribute_name old.attribute_value cs u follows b s h e f
+      ∙ ap (λ q. at Sink (state.AttributeValue value.Unquoted) (record old { attribute_value = old.attribute_value ++ resolved true (rows_of old) cs follows }) b q u) (erred-more (slight_if (is_some (fault_of_reference (rows_of old) cs))) s)
   value-resolves value.SingleQuoted old cs u follows h e f b s =
-      play-single (noting step quiet) noting_error (noting_cdata cdata) (noting_end ends) (rows_of old) (λ fault s. slight-absorbed fault s) (standing old InData) old.tag old.attribute_name old.attribute_value cs u follows b s h e f
-      ∙ ap (λ q. at step view cdata ends sound number broken errors quiet (state.AttributeValue value.SingleQuoted) (record old { attribute_value = old.attribute_value ++ resolved true (rows_of old) cs follows }) b q u) (erred-more (slight_if (is_some (fault_of_reference (rows_of old) cs))) s)
+      play-single (noting Sink.step Sink.is_quiet) noting_error (noting_cdata Sink.asks_cdata) (noting_end Sink.ended) (rows_of old) (λ fault s. slight-absorbed fault s) (standing old InData) old.tag old.attribute_name old.attribute_value cs u follows b s h e f
+      ∙ ap (λ q. at Sink (state.AttributeValue value.SingleQuoted) (record old { attribute_value = old.attribute_value ++ resolved true (rows_of old) cs follows }) b q u) (erred-more (slight_if (is_some (fault_of_reference (rows_of old) cs))) s)
   value-resolves value.DoubleQuoted old cs u follows h e f b s =
-      play-double (noting step quiet) noting_error (noting_cdata cdata) (noting_end ends) (rows_of old) (λ fault s. slight-absorbed fault s) (standing old InData) old.tag old.attribute_name old.attribute_value cs u follows b s h e f
-      ∙ ap (λ q. at step view cdata ends sound number broken errors quiet (state.AttributeValue value.DoubleQuoted) (record old { attribute_value = old.attribute_value ++ resolved true (rows_of old) cs follows }) b q u) (erred-more (slight_if (is_some (fault_of_reference (rows_of old) cs))) s)
+      play-double (noting Sink.step Sink.is_quiet) noting_error (noting_cdata Sink.asks_cdata) (noting_end Sink.ended) (rows_of old) (λ fault s. slight-absorbed fault s) (standing old InData) old.tag old.attribute_name old.attribute_value cs u follows b s h e f
+      ∙ ap (λ q. at Sink (state.AttributeValue value.DoubleQuoted) (record old { attribute_value = old.attribute_value ++ resolved true (rows_of old) cs follows }) b q u) (erred-more (slight_if (is_some (fault_of_reference (rows_of old) cs))) s)
 
   -- the same where the input ends
-  pub value-at_end : (kind : AttrValueKind) (old : Tokenizer K) (cs : List ℕ) → list_all is_held cs ≡ true → (b : ℕ) (s : S × Notes ℕ)
-      → at step view cdata ends sound number broken errors quiet (state.AttributeValue kind) old b s (38 ∷ cs ++ [])
-      ≡ at step view cdata ends sound number broken errors quiet (state.AttributeValue kind) (record old { attribute_value = old.attribute_value ++ resolved true (rows_of old) cs false }) b (wronged_by old cs s) []
+  pub value-at_end : (kind : AttrValueKind) (old : Tokenizer K) (cs : List ℕ) → list_all is_held cs ≡ true → (b : ℕ) (s : Sink.State × Notes ℕ)
+      → at Sink (state.AttributeValue kind) old b s (38 ∷ cs ++ [])
+      ≡ at Sink (state.AttributeValue kind) (record old { attribute_value = old.attribute_value ++ resolved true (rows_of old) cs false }) b (wronged_by old cs s) []
   value-at_end kind old cs h b s = value-resolves kind old cs [] false h (ap (reference_at true (rows_of old)) (append-nil cs) ∙ reference-end true (rows_of old) cs) (ap (fault_of_reference (rows_of old)) (append-nil cs)) b s
 
   -- what is to come where a reference is held in a value that is decided before this character
-  value-comes : (old : Tokenizer K) (kind : AttrValueKind) (cs : List ℕ) (c : ℕ) → IsAt old (state.AttributeValue kind) → IsDecided (rows_of old) cs c → (b : ℕ) (s : S × Notes ℕ) (t : List ℕ)
-      → now step view cdata ends sound number broken errors quiet (record old { char_ref = Some cs }) b s (c ∷ t)
-      ≡ at step view cdata ends sound number broken errors quiet (state.AttributeValue kind) (record old { attribute_value = old.attribute_value ++ resolved true (rows_of old) cs (goes_on_at (c ∷ [])) }) b (wronged_by old cs s) (c ∷ t)
+  value-comes : (old : Tokenizer K) (kind : AttrValueKind) (cs : List ℕ) (c : ℕ) → IsAt old (state.AttributeValue kind) → IsDecided (rows_of old) cs c → (b : ℕ) (s : Sink.State × Notes ℕ) (t : List ℕ)
+      → now Sink (record old { char_ref = Some cs }) b s (c ∷ t)
+      ≡ at Sink (state.AttributeValue kind) (record old { attribute_value = old.attribute_value ++ resolved true (rows_of old) cs (goes_on_at (c ∷ [])) }) b (wronged_by old cs s) (c ∷ t)
   value-comes old kind cs c from d b s t =
-      now-held step view cdata ends sound number broken errors quiet old (state.AttributeValue kind) cs b s (c ∷ t) from.state refl
+      now-held Sink old (state.AttributeValue kind) cs b s (c ∷ t) from.state refl
       ∙ value-resolves kind old cs (c ∷ t) (goes_on_at (c ∷ [])) d.held (reference-decided true (rows_of old) cs c t d.checked d.ends) (fault-decided (rows_of old) cs c t d.checked d.ends) b s
 
   -- what was held is put behind the value, and the character is taken there
   pub value-ended : (old new : Tokenizer K) (kind : AttrValueKind) (cs text : List ℕ) (c : ℕ) (result : Result (ProcessResult H) ParseFault) → IsAt old (state.AttributeValue kind) → IsDecided (rows_of old) cs c
       → text ≡ old.attribute_value ++ resolved true (rows_of old) cs (goes_on_at (c ∷ []))
-      → Keeps step view cdata ends sound number broken errors quiet (record old { attribute_value = text }) new c result → Keeps step view cdata ends sound number broken errors quiet (record old { char_ref = Some cs }) new c result
+      → Keeps Sink (record old { attribute_value = text }) new c result → Keeps Sink (record old { char_ref = Some cs }) new c result
   value-ended old new kind cs text c result from d is h =
       let wrong = is_some (fault_of_reference (rows_of old) cs) in
       let mid : Tokenizer K = record old { attribute_value = old.attribute_value ++ resolved true (rows_of old) cs (goes_on_at (c ∷ [])) } in
-      keeps-behind step view cdata ends sound number broken errors quiet (owed_for (slight_if wrong)) (record old { char_ref = Some cs }) mid new c result refl (λ x. x) (rises-slight errors wrong old.sink old.sink refl) (λ notes t.
-      value-comes old kind cs c from d old.stream.breaks (view old.sink, notes) t
-      ∙ sym (now-at step view cdata ends sound number broken errors quiet mid (state.AttributeValue kind) old.stream.breaks (wronged_by old cs (view old.sink, notes)) (c ∷ t) (record { state = from.state; fresh = from.fresh }))) (rw is at h)
+      keeps-behind Sink (owed_for (slight_if wrong)) (record old { char_ref = Some cs }) mid new c result refl (λ x. x) (rises-slight Sink.errors wrong old.sink old.sink refl) (λ notes t.
+      value-comes old kind cs c from d old.stream.breaks (Sink.view old.sink, notes) t
+      ∙ sym (now-at Sink mid (state.AttributeValue kind) old.stream.breaks (wronged_by old cs (Sink.view old.sink, notes)) (c ∷ t) (record { state = from.state; fresh = from.fresh }))) (rw is at h)
 
   -- what is slight before a reference with which something is wrong changes nothing
   value-absorbs : (old : Tokenizer K) (kind : AttrValueKind) (cs : List ℕ) (c : ℕ) → IsAt old (state.AttributeValue kind) → IsDecided (rows_of old) cs c → is_some (fault_of_reference (rows_of old) cs) ≡ true
-      → Absorbs step view cdata ends sound number broken errors quiet (record old { char_ref = Some cs }) c
+      → Absorbs Sink (record old { char_ref = Some cs }) c
   value-absorbs old kind cs c from d wrong = λ b s t.
       value-comes old kind cs c from d b s t
-      ∙ ap (λ notes. at step view cdata ends sound number broken errors quiet (state.AttributeValue kind) (record old { attribute_value = old.attribute_value ++ resolved true (rows_of old) cs (goes_on_at (c ∷ [])) }) b (s.0, notes) (c ∷ t)) (slight-twice _ s.1 wrong)
+      ∙ ap (λ notes. at Sink (state.AttributeValue kind) (record old { attribute_value = old.attribute_value ++ resolved true (rows_of old) cs (goes_on_at (c ∷ [])) }) b (s.0, notes) (c ∷ t)) (slight-twice _ s.1 wrong)
       ∙ sym (value-comes old kind cs c from d b (s.0, more (owed_for (Some Slight)) s.1) t)
 
   -- the same behind the error that the Standard names, if it names one
   pub value-erred : (told follows : Bool) (old mid new : Tokenizer K) (kind : AttrValueKind) (cs text : List ℕ) (c : ℕ) (result : Result (ProcessResult H) ParseFault) → IsAt old (state.AttributeValue kind) → IsDecided (rows_of old) cs c → told ≡ is_faulty true (rows_of old) cs follows
-      → Erred step view cdata ends sound number broken errors quiet (owed_for (grave_if told)) old mid → text ≡ mid.attribute_value ++ resolved true (rows_of old) cs (goes_on_at (c ∷ []))
-      → Keeps step view cdata ends sound number broken errors quiet (record mid { attribute_value = text }) new c result → Keeps step view cdata ends sound number broken errors quiet (record old { char_ref = Some cs }) new c result
+      → Erred Sink (owed_for (grave_if told)) old mid → text ≡ mid.attribute_value ++ resolved true (rows_of old) cs (goes_on_at (c ∷ []))
+      → Keeps Sink (record mid { attribute_value = text }) new c result → Keeps Sink (record old { char_ref = Some cs }) new c result
   value-erred told follows old mid new kind cs text c result from d named h is k =
       let rows : rows_of mid ≡ rows_of old = ap (λ k. rows_of k) h.changed in
-      keeps_erred step view cdata ends sound number broken errors quiet told (record old { char_ref = Some cs }) (record mid { char_ref = Some cs }) new c result
+      keeps_erred Sink told (record old { char_ref = Some cs }) (record mid { char_ref = Some cs }) new c result
       (record { sink = h.sink; changed = ap {A = Tokenizer K} (λ k. record k { char_ref = Some cs }) h.changed; works = h.works; rises = h.rises })
       (λ e. value-absorbs old kind cs c from d (faulty-some true (rows_of old) cs follows (sym named ∙ e)))
-      (value-ended mid new kind cs text c result (at_erred step view cdata ends sound number broken errors quiet old mid (state.AttributeValue kind) h from) (rw rows d) (rw rows is) k)
+      (value-ended mid new kind cs text c result (at_erred Sink old mid (state.AttributeValue kind) h from) (rw rows d) (rw rows is) k)

@@ -10,6 +10,7 @@ use Rattle.html_tokens.specs.declared.tags.Tag.{Tag}
 use Rattle.html_tokens.specs.declared.tags.TagKind.TheVariants.{StartTag, EndTag}
 use Rattle.html_tokens.specs.declared.token.Token.{Token}
 use Rattle.html_tokens.specs.declared.token.Token.TheVariants.{CharacterTokens}
+use Rattle.html_tokens.specs.declared.sink.TokenSink.{Ghosts}
 use Rattle.html_tokens.specs.Comments.{bogus_comment_after}
 use Rattle.html_tokens.specs.Item.{Stand, Item, InData, behind, behind_all, Slight, Grave, unopened}
 use Rattle.html_tokens.specs.Items.{item, opening, Opening, Letter, Slash, Mark, Question, Close, Other, open_by, end_at, end_by}
@@ -66,94 +67,94 @@ end-opens c (any e) st t = rw e refl
 end-bogus : (c : ℕ) → is_ascii_alphabetic c ≡ false → nat_eq c 62 ≡ false → (st : Stand) (t : List ℕ) → end_at st (c ∷ t) ≡ behind_all 2 (bogus_comment_after st [] (c ∷ t))
 end-bogus c l e st t = end-opens c (opens-by c (nat_eq c 47) (nat_eq c 33) (nat_eq c 63) refl refl refl l e) st t
 
-module _ {K S H : Type 0} (step : Step S) (view : K → S) (cdata : S → Bool) (ends : S → S) (sound : S → Type 0) (number : H → ℕ) (broken : K → Bool) (errors : K → ℕ) (quiet : S → Token → Bool) (laws : SinkLaws sound step ends quiet) where
+module _ {K H : Type 0} (Sink : Ghosts K H) (laws : SinkLaws Sink.is_sound Sink.step Sink.ended Sink.is_quiet) where
   -- a reading at "<", by the item that stands there
-  pub opened : (old : Tokenizer K) (b : ℕ) (s : S × Notes ℕ) (t : List ℕ) (j : Item) → item (rows_of old) (cdata s.0) (standing old InData) 60 t ≡ behind j
-      → reading (noting step quiet) noting_error (noting_cdata cdata) (noting_end ends) (rows_of old) (standing old InData) b s (60 ∷ t) ≡ play (noting step quiet) noting_error (noting_cdata cdata) (noting_end ends) (rows_of old) j b s t
-  opened old b s t j is = reading-is (noting step quiet) noting_error (noting_cdata cdata) (noting_end ends) (rows_of old) (standing old InData) b s 60 t j is ∙ ap (λ x. play (noting step quiet) noting_error (noting_cdata cdata) (noting_end ends) (rows_of old) j x s t) (sum-zero b)
+  pub opened : (old : Tokenizer K) (b : ℕ) (s : Sink.State × Notes ℕ) (t : List ℕ) (j : Item) → item (rows_of old) (Sink.asks_cdata s.0) (standing old InData) 60 t ≡ behind j
+      → reading (noting Sink.step Sink.is_quiet) noting_error (noting_cdata Sink.asks_cdata) (noting_end Sink.ended) (rows_of old) (standing old InData) b s (60 ∷ t) ≡ play (noting Sink.step Sink.is_quiet) noting_error (noting_cdata Sink.asks_cdata) (noting_end Sink.ended) (rows_of old) j b s t
+  opened old b s t j is = reading-is (noting Sink.step Sink.is_quiet) noting_error (noting_cdata Sink.asks_cdata) (noting_end Sink.ended) (rows_of old) (standing old InData) b s 60 t j is ∙ ap (λ x. play (noting Sink.step Sink.is_quiet) noting_error (noting_cdata Sink.asks_cdata) (noting_end Sink.ended) (rows_of old) j x s t) (sum-zero b)
 
-  same-reading : (old : Tokenizer K) (b : ℕ) (s : S × Notes ℕ) (u : List ℕ) → reading (noting step quiet) noting_error (noting_cdata cdata) (noting_end ends) (rows_of old) (standing old InData) b s u ≡ reading (noting step quiet) noting_error (noting_cdata cdata) (noting_end ends) (rows_of old) (standing old InData) (b + 0) s u
-  same-reading old b s u = ap (λ x. reading (noting step quiet) noting_error (noting_cdata cdata) (noting_end ends) (rows_of old) (standing old InData) x s u) (sym (sum-zero b))
+  same-reading : (old : Tokenizer K) (b : ℕ) (s : Sink.State × Notes ℕ) (u : List ℕ) → reading (noting Sink.step Sink.is_quiet) noting_error (noting_cdata Sink.asks_cdata) (noting_end Sink.ended) (rows_of old) (standing old InData) b s u ≡ reading (noting Sink.step Sink.is_quiet) noting_error (noting_cdata Sink.asks_cdata) (noting_end Sink.ended) (rows_of old) (standing old InData) (b + 0) s u
+  same-reading old b s u = ap (λ x. reading (noting Sink.step Sink.is_quiet) noting_error (noting_cdata Sink.asks_cdata) (noting_end Sink.ended) (rows_of old) (standing old InData) x s u) (sym (sum-zero b))
 
   -- "/" and "!" are held
-  pub open-slash : (old : Tokenizer K) → IsAt old state.TagOpen → sound (view old.sink) → Took step view cdata ends sound number broken errors quiet old (record old { state = state.EndTagOpen }) 47 flow.Continue
+  pub open-slash : (old : Tokenizer K) → IsAt old state.TagOpen → Sink.is_sound (Sink.view old.sink) → Took Sink old (record old { state = state.EndTagOpen }) 47 flow.Continue
   unfolding held_at
-  open-slash old from ok = took step view cdata ends sound number broken errors quiet old (record old { state = state.EndTagOpen }) 47 state.TagOpen state.EndTagOpen from (record { state = refl; fresh = from.fresh }) refl refl ok (λ b s t. same-reading old b s (60 ∷ 47 ∷ t))
+  open-slash old from ok = took Sink old (record old { state = state.EndTagOpen }) 47 state.TagOpen state.EndTagOpen from (record { state = refl; fresh = from.fresh }) refl refl ok (λ b s t. same-reading old b s (60 ∷ 47 ∷ t))
 
-  pub open-mark : (old : Tokenizer K) (front : List ℕ) → IsAt old state.TagOpen → sound (view old.sink) → front ≡ [] → Took step view cdata ends sound number broken errors quiet old (record old { keyword = front; state = state.MarkupDeclarationOpen }) 33 flow.Continue
+  pub open-mark : (old : Tokenizer K) (front : List ℕ) → IsAt old state.TagOpen → Sink.is_sound (Sink.view old.sink) → front ≡ [] → Took Sink old (record old { keyword = front; state = state.MarkupDeclarationOpen }) 33 flow.Continue
   unfolding held_at
-  open-mark old front from ok is = rw is (took step view cdata ends sound number broken errors quiet old (record old { keyword = []; state = state.MarkupDeclarationOpen }) 33 state.TagOpen state.MarkupDeclarationOpen from (record { state = refl; fresh = from.fresh }) refl refl ok (λ b s t. same-reading old b s (60 ∷ 33 ∷ t)))
+  open-mark old front from ok is = rw is (took Sink old (record old { keyword = []; state = state.MarkupDeclarationOpen }) 33 state.TagOpen state.MarkupDeclarationOpen from (record { state = refl; fresh = from.fresh }) refl refl ok (λ b s t. same-reading old b s (60 ∷ 33 ∷ t)))
 
   -- a letter begins a tag's name
   pub open-letter : (old new : Tokenizer K) (c : ℕ) (tag : Tag) (result : Result (ProcessResult H) ParseFault) → IsAt old state.TagOpen → is_ascii_alphabetic c ≡ true → tag ≡ named StartTag []
-      → Keeps step view cdata ends sound number broken errors quiet (record old { tag = tag; state = state.TagName }) new c result → Keeps step view cdata ends sound number broken errors quiet old new c result
+      → Keeps Sink (record old { tag = tag; state = state.TagName }) new c result → Keeps Sink old new c result
   unfolding held_at
   open-letter old new c tag result from e is keeps =
-      keeps_silent step view cdata ends sound number broken errors quiet old (record old { tag = tag; state = state.TagName }) new c state.TagOpen state.TagName result from (record { state = refl; fresh = from.fresh }) refl refl
-      (λ b s t. rw is (opened old b s (c ∷ t) (name_after (standing old InData) (named StartTag []) (c ∷ t)) (ap (λ o. open_by o (cdata s.0) (standing old InData) c t) (is-letter c e))))
+      keeps_silent Sink old (record old { tag = tag; state = state.TagName }) new c state.TagOpen state.TagName result from (record { state = refl; fresh = from.fresh }) refl refl
+      (λ b s t. rw is (opened old b s (c ∷ t) (name_after (standing old InData) (named StartTag []) (c ∷ t)) (ap (λ o. open_by o (Sink.asks_cdata s.0) (standing old InData) c t) (is-letter c e))))
       keeps
 
   pub end-letter : (old new : Tokenizer K) (c : ℕ) (tag : Tag) (result : Result (ProcessResult H) ParseFault) → IsAt old state.EndTagOpen → is_ascii_alphabetic c ≡ true → tag ≡ named EndTag []
-      → Keeps step view cdata ends sound number broken errors quiet (record old { tag = tag; state = state.TagName }) new c result → Keeps step view cdata ends sound number broken errors quiet old new c result
+      → Keeps Sink (record old { tag = tag; state = state.TagName }) new c result → Keeps Sink old new c result
   unfolding held_at
   end-letter old new c tag result from e is keeps =
-      keeps_silent step view cdata ends sound number broken errors quiet old (record old { tag = tag; state = state.TagName }) new c state.EndTagOpen state.TagName result from (record { state = refl; fresh = from.fresh }) refl refl
+      keeps_silent Sink old (record old { tag = tag; state = state.TagName }) new c state.EndTagOpen state.TagName result from (record { state = refl; fresh = from.fresh }) refl refl
       (λ b s t. rw is (opened old b s (47 ∷ c ∷ t) (behind (name_after (standing old InData) (named EndTag []) (c ∷ t))) (ap (λ o. end_by o (standing old InData) c t) (is-letter c e))
-      ∙ behind-one step view cdata ends sound number broken errors quiet laws old 47 refl (behind (name_after (standing old InData) (named EndTag []) (c ∷ t))) (name_after (standing old InData) (named EndTag []) (c ∷ t)) b s (c ∷ t) refl))
+      ∙ behind-one Sink laws old 47 refl (behind (name_after (standing old InData) (named EndTag []) (c ∷ t))) (name_after (standing old InData) (named EndTag []) (c ∷ t)) b s (c ∷ t) refl))
       keeps
 
   -- a bogus comment
   pub open-bogus : (old new : Tokenizer K) (c : ℕ) (front : List ℕ) (result : Result (ProcessResult H) ParseFault) → IsAt old state.TagOpen → c ≡ 63 → front ≡ []
-      → Keeps step view cdata ends sound number broken errors quiet (record old { comment = front; state = state.BogusComment }) new c result → Keeps step view cdata ends sound number broken errors quiet old new c result
+      → Keeps Sink (record old { comment = front; state = state.BogusComment }) new c result → Keeps Sink old new c result
   unfolding held_at
   open-bogus old new c front result from e is keeps =
-      keeps_silent step view cdata ends sound number broken errors quiet old (record old { comment = front; state = state.BogusComment }) new c state.TagOpen state.BogusComment result from (record { state = refl; fresh = from.fresh }) refl refl
+      keeps_silent Sink old (record old { comment = front; state = state.BogusComment }) new c state.TagOpen state.BogusComment result from (record { state = refl; fresh = from.fresh }) refl refl
       (λ b s t. rw (is, e) (opened old b s (63 ∷ t) (bogus_comment_after (standing old InData) [] (63 ∷ t)) refl))
       keeps
 
   pub end-bogus_kept : (old new : Tokenizer K) (c : ℕ) (front : List ℕ) (result : Result (ProcessResult H) ParseFault) → IsAt old state.EndTagOpen → is_ascii_alphabetic c ≡ false → nat_eq c 62 ≡ false → front ≡ []
-      → Keeps step view cdata ends sound number broken errors quiet (record old { comment = front; state = state.BogusComment }) new c result → Keeps step view cdata ends sound number broken errors quiet old new c result
+      → Keeps Sink (record old { comment = front; state = state.BogusComment }) new c result → Keeps Sink old new c result
   unfolding held_at
   end-bogus_kept old new c front result from l e is keeps =
-      keeps_silent step view cdata ends sound number broken errors quiet old (record old { comment = front; state = state.BogusComment }) new c state.EndTagOpen state.BogusComment result from (record { state = refl; fresh = from.fresh }) refl refl
+      keeps_silent Sink old (record old { comment = front; state = state.BogusComment }) new c state.EndTagOpen state.BogusComment result from (record { state = refl; fresh = from.fresh }) refl refl
       (λ b s t. rw is (opened old b s (47 ∷ c ∷ t) (behind (bogus_comment_after (standing old InData) [] (c ∷ t))) (end-bogus c l e (standing old InData) t)
-      ∙ behind-one step view cdata ends sound number broken errors quiet laws old 47 refl (behind (bogus_comment_after (standing old InData) [] (c ∷ t))) (bogus_comment_after (standing old InData) [] (c ∷ t)) b s (c ∷ t) refl))
+      ∙ behind-one Sink laws old 47 refl (behind (bogus_comment_after (standing old InData) [] (c ∷ t))) (bogus_comment_after (standing old InData) [] (c ∷ t)) b s (c ∷ t) refl))
       keeps
 
   -- "<" is text
-  open-says : (old : Tokenizer K) (c : ℕ) → IsText (opening c) → Says step view cdata ends sound number broken errors quiet state.TagOpen old c (owed_for (Some Slight)) (CharacterTokens (60 ∷ [])) (λ b s t. at step view cdata ends sound number broken errors quiet state.Data (record old { state = state.Data }) b s (c ∷ t))
+  open-says : (old : Tokenizer K) (c : ℕ) → IsText (opening c) → Says Sink state.TagOpen old c (owed_for (Some Slight)) (CharacterTokens (60 ∷ [])) (λ b s t. at Sink state.Data (record old { state = state.Data }) b s (c ∷ t))
   unfolding held_at
   open-says old c e b s h t =
-      reading-char_as (λ p. sound p.0) (noting step quiet) noting_error (noting_cdata cdata) (noting_end ends) (rows_of old) (noting-lawful sound step ends quiet laws) (Some Slight) (standing old InData) (standing old InData) b s h 60 60 (c ∷ t) (line_number b) (open-text (opening c) (cdata s.0) (standing old InData) c t e)
-      ∙ ap (λ x. noting step quiet (noting_error Slight s) (CharacterTokens (60 ∷ [])) (line_number b) >>= λ p. reading (noting step quiet) noting_error (noting_cdata cdata) (noting_end ends) (rows_of old) (standing old InData) x p.0 (c ∷ t)) (sum-zero b)
+      reading-char_as (λ p. Sink.is_sound p.0) (noting Sink.step Sink.is_quiet) noting_error (noting_cdata Sink.asks_cdata) (noting_end Sink.ended) (rows_of old) (noting-lawful Sink.is_sound Sink.step Sink.ended Sink.is_quiet laws) (Some Slight) (standing old InData) (standing old InData) b s h 60 60 (c ∷ t) (line_number b) (open-text (opening c) (Sink.asks_cdata s.0) (standing old InData) c t e)
+      ∙ ap (λ x. noting Sink.step Sink.is_quiet (noting_error Slight s) (CharacterTokens (60 ∷ [])) (line_number b) >>= λ p. reading (noting Sink.step Sink.is_quiet) noting_error (noting_cdata Sink.asks_cdata) (noting_end Sink.ended) (rows_of old) (standing old InData) x p.0 (c ∷ t)) (sum-zero b)
 
   pub is-text : (c : ℕ) → is_ascii_alphabetic c ≡ false → nat_eq c 47 ≡ false → nat_eq c 33 ≡ false → nat_eq c 63 ≡ false → IsText (opening c)
   is-text c l a b d = text-by c (nat_eq c 62) refl l a b d
 
-  pub open-text_kept : (old mid new : Tokenizer K) (c : ℕ) (result : Result (ProcessResult H) ParseFault) → IsAt old state.TagOpen → sound (view old.sink) → IsText (opening c) → Told step view cdata ends sound number broken errors quiet (owed_for (Some Slight)) (CharacterTokens (60 ∷ [])) old mid
-      → Keeps step view cdata ends sound number broken errors quiet (record mid { state = state.Data }) new c result → Keeps step view cdata ends sound number broken errors quiet old new c result
+  pub open-text_kept : (old mid new : Tokenizer K) (c : ℕ) (result : Result (ProcessResult H) ParseFault) → IsAt old state.TagOpen → Sink.is_sound (Sink.view old.sink) → IsText (opening c) → Told Sink (owed_for (Some Slight)) (CharacterTokens (60 ∷ [])) old mid
+      → Keeps Sink (record mid { state = state.Data }) new c result → Keeps Sink old new c result
   open-text_kept old mid new c result from ok e told keeps =
-      keeps_told step view cdata ends sound number broken errors quiet old mid (record mid { state = state.Data }) new (record old { state = state.Data }) c state.TagOpen state.Data (CharacterTokens (60 ∷ [])) result from ok told
+      keeps_told Sink old mid (record mid { state = state.Data }) new (record old { state = state.Data }) c state.TagOpen state.Data (CharacterTokens (60 ∷ [])) result from ok told
       (ap {A = Tokenizer K} (λ k. record k { state = state.Data }) told.changed) (record { state = refl; fresh = from.fresh }) refl (open-says old c e) keeps
 
-  pub open-text_failed : (old new : Tokenizer K) (c : ℕ) (result : Result (ProcessResult H) ParseFault) (fault : ParseFault) → IsAt old state.TagOpen → sound (view old.sink) → IsText (opening c) → IsErrAnd result (λ y. y ≡ fault)
-      → Fails step view cdata ends sound number broken errors quiet old.sink (step (view old.sink) (CharacterTokens (60 ∷ [])) (line_number old.stream.breaks)) fault → Keeps step view cdata ends sound number broken errors quiet old new c result
-  open-text_failed old new c result fault from ok e is fails = failed step view cdata ends sound number broken errors quiet (owed_for (Some Slight)) old new c state.TagOpen (CharacterTokens (60 ∷ [])) result fault _ from ok is fails (open-says old c e)
+  pub open-text_failed : (old new : Tokenizer K) (c : ℕ) (result : Result (ProcessResult H) ParseFault) (fault : ParseFault) → IsAt old state.TagOpen → Sink.is_sound (Sink.view old.sink) → IsText (opening c) → IsErrAnd result (λ y. y ≡ fault)
+      → Fails Sink old.sink (Sink.step (Sink.view old.sink) (CharacterTokens (60 ∷ [])) (line_number old.stream.breaks)) fault → Keeps Sink old new c result
+  open-text_failed old new c result fault from ok e is fails = failed Sink (owed_for (Some Slight)) old new c state.TagOpen (CharacterTokens (60 ∷ [])) result fault _ from ok is fails (open-says old c e)
 
   -- "</>" gives nothing but an error
-  pub end-nothing : (old mid : Tokenizer K) → IsAt old state.EndTagOpen → sound (view old.sink) → Erred step view cdata ends sound number broken errors quiet a_fault old mid → Keeps step view cdata ends sound number broken errors quiet old (record mid { state = state.Data }) 62 (Ok flow.Continue)
+  pub end-nothing : (old mid : Tokenizer K) → IsAt old state.EndTagOpen → Sink.is_sound (Sink.view old.sink) → Erred Sink a_fault old mid → Keeps Sink old (record mid { state = state.Data }) 62 (Ok flow.Continue)
   unfolding held_at
   end-nothing old mid from ok h =
-      let mid-at = at_erred step view cdata ends sound number broken errors quiet old mid state.EndTagOpen h from in
+      let mid-at = at_erred Sink old mid state.EndTagOpen h from in
       let none : ℕ → Item = λ n. record { token = None; fault = Some Grave; len = n; next = standing old InData } in
-      took_faulty step view cdata ends sound number broken errors quiet old mid (record mid { state = state.Data }) 62 state.EndTagOpen state.Data from (record { state = refl; fresh = mid-at.fresh }) ok h refl refl
+      took_faulty Sink old mid (record mid { state = state.Data }) 62 state.EndTagOpen state.Data from (record { state = refl; fresh = mid-at.fresh }) ok h refl refl
       (λ b s t. opened old b s (47 ∷ 62 ∷ t) (none 2) refl
-      ∙ behind-one step view cdata ends sound number broken errors quiet laws old 47 refl (none 2) (none 1) b s (62 ∷ t) refl
-      ∙ behind-one step view cdata ends sound number broken errors quiet laws old 62 refl (none 1) (none 0) b s t refl
-      ∙ ap (λ (k : Tokenizer K). reading (noting step quiet) noting_error (noting_cdata cdata) (noting_end ends) (rows_of k) (standing k InData) (b + 0) (noting_error Grave s) t) (sym h.changed))
+      ∙ behind-one Sink laws old 47 refl (none 2) (none 1) b s (62 ∷ t) refl
+      ∙ behind-one Sink laws old 62 refl (none 1) (none 0) b s t refl
+      ∙ ap (λ (k : Tokenizer K). reading (noting Sink.step Sink.is_quiet) noting_error (noting_cdata Sink.asks_cdata) (noting_end Sink.ended) (rows_of k) (standing k InData) (b + 0) (noting_error Grave s) t) (sym h.changed))
 
   pub end-failed : (old new : Tokenizer K) (c : ℕ) (result : Result (ProcessResult H) ParseFault) (fault : ParseFault) → IsAt old state.EndTagOpen → IsErrAnd result (λ y. y ≡ fault)
-      → ((token : Token) (line : ℕ) → Fails step view cdata ends sound number broken errors quiet old.sink (step (view old.sink) token line) fault) → Keeps step view cdata ends sound number broken errors quiet old new c result
+      → ((token : Token) (line : ℕ) → Fails Sink old.sink (Sink.step (Sink.view old.sink) token line) fault) → Keeps Sink old new c result
   unfolding held_at
-  end-failed old new c result fault from is fails = keeps_failed step view cdata ends sound number broken errors quiet old new c state.EndTagOpen result fault from is fails
-      (λ b s h t. reading-refused (noting step quiet) noting_error (noting_cdata cdata) (noting_end ends) (rows_of old) (noting-errs step view cdata ends sound number broken errors quiet) s h 0 (standing old InData) b (60 ∷ 47 ∷ c ∷ t))
+  end-failed old new c result fault from is fails = keeps_failed Sink old new c state.EndTagOpen result fault from is fails
+      (λ b s h t. reading-refused (noting Sink.step Sink.is_quiet) noting_error (noting_cdata Sink.asks_cdata) (noting_end Sink.ended) (rows_of old) (noting-errs Sink) s h 0 (standing old InData) b (60 ∷ 47 ∷ c ∷ t))

@@ -11,6 +11,7 @@ use Rattle.html_tokens.specs.Doctypes.{doctype_at, doctype_name_after, after_nam
 use Rattle.html_tokens.specs.Tags.{name_after, attribute_after, equals_at, value_at, unquoted_after, quoted_after, lacks_space}
 use Rattle.html_tokens.specs.declared.token.Token.{Token}
 use Rattle.html_tokens.specs.declared.token.Token.TheVariants.{EOFToken}
+use Rattle.html_tokens.specs.declared.sink.TokenSink.{Ghosts}
 use Rattle.html_tokens.specs.Item.{InData, Stand, Item, fault_at_end, Fault, Grave, Slight, slight_if}
 use Rattle.html_tokens.specs.Items.{item}
 use Rattle.html_tokens.specs.Notes.{Notes, noted, noting, noting_error, noting_cdata, noting_end, errors_of, no_notes}
@@ -147,13 +148,13 @@ module _ {K S : Type 0} (step : Step S) (quiet : S → Token → Bool) (cdata : 
   held-errors state.CdataSectionBracket k b s notes other t h = reading-errors step quiet cdata ends more_owed (rows_of k) 0 _ b s notes other _ h
   held-errors state.CdataSectionEnd k b s notes other t h = reading-errors step quiet cdata ends more_owed (rows_of k) 0 _ b s notes other _ h
 
-module _ {K S H : Type 0} (step : Step S) (view : K → S) (cdata : S → Bool) (ends : S → S) (sound : S → Type 0) (number : H → ℕ) (broken : K → Bool) (errors : K → ℕ) (quiet : S → Token → Bool) (errors_ended : S → ℕ → ℕ) where
+module _ {K H : Type 0} (Sink : Ghosts K H) where
   -- What is owed before a call for the characters that it takes and those that follow is owed by the items that ended, or behind it.
-  pub is-owing : IsOwing step view cdata ends sound number broken errors quiet errors_ended
+  pub is-owing : IsOwing Sink
   is-owing = (
     λ c t.
         ap errors_of (c.fed.same no_notes t)
-        ∙ held-errors step quiet cdata ends c.fed.owed.faults c.after.state c.after c.after.stream.breaks (view c.after.sink) no_notes (noted_with number c.fed.owed no_notes c.result) (pending c.after.char_ref ++ coming c.after t) refl
+        ∙ held-errors Sink.step Sink.is_quiet Sink.asks_cdata Sink.ended c.fed.owed.faults c.after.state c.after c.after.stream.breaks (Sink.view c.after.sink) no_notes (noted_with Sink.number c.fed.owed no_notes c.result) (pending c.after.char_ref ++ coming c.after t) refl
         ∙ more-sum c.fed.owed.faults _,
     λ old new e. ap errors_of (e.same no_notes) ∙ more-sum e.owed.faults 0 ∙ sum-zero e.owed.faults,
   )

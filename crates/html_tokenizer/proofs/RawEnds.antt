@@ -11,6 +11,7 @@ use Rattle.html_tokens.specs.declared.states.State.TheVariants as state
 use Rattle.html_tokens.specs.declared.tags.Tag.{Tag}
 use Rattle.html_tokens.specs.declared.tags.TagKind.TheVariants.{EndTag}
 use Rattle.html_tokens.specs.declared.token.Token.{Token}
+use Rattle.html_tokens.specs.declared.sink.TokenSink.{Ghosts}
 use Rattle.html_tokens.specs.Characters.{lowered}
 use Rattle.html_tokens.specs.Notes.{NotedStep, Notes, noting, noting_error, noting_cdata, noting_end}
 use Rattle.html_tokens.specs.Item.{Fault, slight_if, InRaw, Stand, behind}
@@ -64,18 +65,18 @@ module _ {T : Type 0} (step : NotedStep T) (erred : Fault → T → T) (cdata : 
       ∙ ap (λ n. play step erred cdata ends rows name n s (word ++ t)) (sum-zero b)
       ∙ name-letters absorbs st (named EndTag []) word b s t w
 
-module _ {K S H : Type 0} (step : Step S) (view : K → S) (cdata : S → Bool) (ends : S → S) (sound : S → Type 0) (number : H → ℕ) (broken : K → Bool) (errors : K → ℕ) (quiet : S → Token → Bool) where
+module _ {K H : Type 0} (Sink : Ghosts K H) where
   end_tag-says : (old : Tokenizer K) (kind : RawKind) (name : List ℕ) (attributes : List Attribute) (c : ℕ) → list_all is_ascii_alphabetic old.word ≡ true → ends_at_tag kind ≡ true → ends_raw_text old.last_start_tag old.word c ≡ true → name ≡ map to_ascii_lowercase old.word → attributes ≡ []
-      → (b : ℕ) (s : S × Notes ℕ) (t : List ℕ) → at step view cdata ends sound number broken errors quiet (state.RawEndTagName kind) old b s (c ∷ t)
-      ≡ at step view cdata ends sound number broken errors quiet state.TagName (record old { tag = record { kind = EndTag; name = name; self_closing = false; attrs = attributes; had_duplicate_attributes = false }; state = state.TagName }) b s (c ∷ t)
+      → (b : ℕ) (s : Sink.State × Notes ℕ) (t : List ℕ) → at Sink (state.RawEndTagName kind) old b s (c ∷ t)
+      ≡ at Sink state.TagName (record old { tag = record { kind = EndTag; name = name; self_closing = false; attrs = attributes; had_duplicate_attributes = false }; state = state.TagName }) b s (c ∷ t)
   unfolding held_at
   end_tag-says old kind name attributes c w e fits n a b s t = rw (n, a)
-      (end_tag-read (noting step quiet) noting_error (noting_cdata cdata) (noting_end ends) (rows_of old) slight-absorbed (standing old (InRaw kind)) kind old.word b s (c ∷ t) w refl e
+      (end_tag-read (noting Sink.step Sink.is_quiet) noting_error (noting_cdata Sink.asks_cdata) (noting_end Sink.ended) (rows_of old) slight-absorbed (standing old (InRaw kind)) kind old.word b s (c ∷ t) w refl e
       (fitting-word old.last_start_tag old.word c t w (no_letter old.last_start_tag old.word c fits) ∙ fits))
 
   -- the whole fitting name was read, and the tag goes on
   pub end_tag-kept : (old new : Tokenizer K) (kind : RawKind) (name : List ℕ) (attributes : List Attribute) (c : ℕ) (result : Result (ProcessResult H) ParseFault) → IsAt old (state.RawEndTagName kind) → list_all is_ascii_alphabetic old.word ≡ true → ends_at_tag kind ≡ true → ends_raw_text old.last_start_tag old.word c ≡ true
       → name ≡ map to_ascii_lowercase old.word → attributes ≡ []
-      → Keeps step view cdata ends sound number broken errors quiet (record old { tag = record { kind = EndTag; name = name; self_closing = false; attrs = attributes; had_duplicate_attributes = false }; state = state.TagName }) new c result → Keeps step view cdata ends sound number broken errors quiet old new c result
+      → Keeps Sink (record old { tag = record { kind = EndTag; name = name; self_closing = false; attrs = attributes; had_duplicate_attributes = false }; state = state.TagName }) new c result → Keeps Sink old new c result
   end_tag-kept old new kind name attributes c result from w e fits n a h =
-      keeps_silent step view cdata ends sound number broken errors quiet old (record old { tag = record { kind = EndTag; name = name; self_closing = false; attrs = attributes; had_duplicate_attributes = false }; state = state.TagName }) new c (state.RawEndTagName kind) state.TagName result from (record { state = refl; fresh = from.fresh }) refl refl (end_tag-says old kind name attributes c w e fits n a) h
+      keeps_silent Sink old (record old { tag = record { kind = EndTag; name = name; self_closing = false; attrs = attributes; had_duplicate_attributes = false }; state = state.TagName }) new c (state.RawEndTagName kind) state.TagName result from (record { state = refl; fresh = from.fresh }) refl refl (end_tag-says old kind name attributes c w e fits n a) h

@@ -13,6 +13,7 @@ use Rattle.html_tokens.specs.declared.states.ScriptEscapeKind.TheVariants as scr
 use Rattle.html_tokens.specs.declared.states.State.TheVariants as state
 use Rattle.html_tokens.specs.declared.token.Token.{Token}
 use Rattle.html_tokens.specs.declared.token.Token.TheVariants.{CharacterTokens}
+use Rattle.html_tokens.specs.declared.sink.TokenSink.{Ghosts}
 use Rattle.html_tokens.specs.Notes.{Notes, noting, noting_error, noting_cdata, noting_end}
 use Rattle.html_tokens.specs.Item.{InRaw, character}
 use Rattle.html_tokens.specs.Items.{item}
@@ -32,70 +33,70 @@ use Rattle.html_tokenizer.proofs.RawKinds.{letter-no_open, letter-no_reference, 
 use Rattle.html_tokenizer.proofs.RawStates.{raw_text, plain-item}
 use Rattle.html_tokenizer.proofs.RawEndTags.{two-says, fits-none}
 
-module _ {K S H : Type 0} (step : Step S) (view : K → S) (cdata : S → Bool) (ends : S → S) (sound : S → Type 0) (number : H → ℕ) (broken : K → Bool) (errors : K → ℕ) (quiet : S → Token → Bool) (laws : SinkLaws sound step ends quiet) where
+module _ {K H : Type 0} (Sink : Ghosts K H) (laws : SinkLaws Sink.is_sound Sink.step Sink.ended Sink.is_quiet) where
   letter-item : (old : Tokenizer K) (kind : RawKind) (x : Bool) (c : ℕ) (t : List ℕ) → is_ascii_alphabetic c ≡ true → item (rows_of old) x (standing old (InRaw kind)) c t ≡ character c (standing old (InRaw kind))
   letter-item old kind x c t l =
       plain-item old kind x c t (letter-no_open c l) (letter-no_reference c l) (letter-no_null c l)
       ∙ ap (λ k. character c (standing old (InRaw k))) (kind-same kind c t (letter-no_open c l) (letter-no_dash c l))
 
   -- text, and then letters
-  run-letters : (old : Tokenizer K) (kind : RawKind) (a word : List ℕ) (b : ℕ) (s : S × Notes ℕ) → sound s.0 → (t : List ℕ) (l : ℕ) → list_all is_ascii_alphabetic word ≡ true
-      → (noting step quiet s (CharacterTokens a) l >>= λ p. raw_text step view cdata ends sound number broken errors quiet old kind b p.0 (word ++ t)) ≡ (noting step quiet s (CharacterTokens (a ++ word)) l >>= λ p. raw_text step view cdata ends sound number broken errors quiet old kind b p.0 t)
-  run-letters old kind a [] b s h t l w = ap (λ u. noting step quiet s (CharacterTokens u) l >>= λ p. raw_text step view cdata ends sound number broken errors quiet old kind b p.0 t) (sym (append-nil a))
+  run-letters : (old : Tokenizer K) (kind : RawKind) (a word : List ℕ) (b : ℕ) (s : Sink.State × Notes ℕ) → Sink.is_sound s.0 → (t : List ℕ) (l : ℕ) → list_all is_ascii_alphabetic word ≡ true
+      → (noting Sink.step Sink.is_quiet s (CharacterTokens a) l >>= λ p. raw_text Sink old kind b p.0 (word ++ t)) ≡ (noting Sink.step Sink.is_quiet s (CharacterTokens (a ++ word)) l >>= λ p. raw_text Sink old kind b p.0 t)
+  run-letters old kind a [] b s h t l w = ap (λ u. noting Sink.step Sink.is_quiet s (CharacterTokens u) l >>= λ p. raw_text Sink old kind b p.0 t) (sym (append-nil a))
   run-letters old kind a (c ∷ word) b s h t l w =
       let p = and_parts _ _ w in
       let here = standing old (InRaw kind) in
-      told-more (λ p. sound p.0) (noting step quiet) noting_error (noting_cdata cdata) (noting_end ends) (rows_of old) (noting-lawful sound step ends quiet laws) here here b s h a c (word ++ t) l (λ s h. reading-text (λ p. sound p.0) (noting step quiet) noting_error (noting_cdata cdata) (noting_end ends) (rows_of old) (noting-lawful sound step ends quiet laws) here here b s h c (word ++ t) l (letter-no_break c p.0) (letter-item old kind (cdata s.0) c (word ++ t) p.0))
+      told-more (λ p. Sink.is_sound p.0) (noting Sink.step Sink.is_quiet) noting_error (noting_cdata Sink.asks_cdata) (noting_end Sink.ended) (rows_of old) (noting-lawful Sink.is_sound Sink.step Sink.ended Sink.is_quiet laws) here here b s h a c (word ++ t) l (λ s h. reading-text (λ p. Sink.is_sound p.0) (noting Sink.step Sink.is_quiet) noting_error (noting_cdata Sink.asks_cdata) (noting_end Sink.ended) (rows_of old) (noting-lawful Sink.is_sound Sink.step Sink.ended Sink.is_quiet laws) here here b s h c (word ++ t) l (letter-no_break c p.0) (letter-item old kind (Sink.asks_cdata s.0) c (word ++ t) p.0))
       ∙ run-letters old kind (a ++ c ∷ []) word b s h t l p.1
-      ∙ ap (λ u. noting step quiet s (CharacterTokens u) l >>= λ p. raw_text step view cdata ends sound number broken errors quiet old kind b p.0 t) (append_assoc a (c ∷ []) word)
+      ∙ ap (λ u. noting Sink.step Sink.is_quiet s (CharacterTokens u) l >>= λ p. raw_text Sink old kind b p.0 t) (append_assoc a (c ∷ []) word)
 
   -- "</" and letters, which are text
-  pub end_tag-run : (old : Tokenizer K) (kind : RawKind) (word : List ℕ) (b : ℕ) (s : S × Notes ℕ) → sound s.0 → (t : List ℕ) → list_all is_ascii_alphabetic word ≡ true → (ends_at_tag kind && is_fitting_end old.last_start_tag (47 ∷ (word ++ t))) ≡ false
-      → raw_text step view cdata ends sound number broken errors quiet old kind b s (60 ∷ 47 ∷ (word ++ t)) ≡ (noting step quiet s (CharacterTokens (60 ∷ 47 ∷ word)) (line_number b) >>= λ p. raw_text step view cdata ends sound number broken errors quiet old (kind_behind (kind_behind kind 60 (47 ∷ (word ++ t))) 47 (word ++ t)) b p.0 t)
+  pub end_tag-run : (old : Tokenizer K) (kind : RawKind) (word : List ℕ) (b : ℕ) (s : Sink.State × Notes ℕ) → Sink.is_sound s.0 → (t : List ℕ) → list_all is_ascii_alphabetic word ≡ true → (ends_at_tag kind && is_fitting_end old.last_start_tag (47 ∷ (word ++ t))) ≡ false
+      → raw_text Sink old kind b s (60 ∷ 47 ∷ (word ++ t)) ≡ (noting Sink.step Sink.is_quiet s (CharacterTokens (60 ∷ 47 ∷ word)) (line_number b) >>= λ p. raw_text Sink old (kind_behind (kind_behind kind 60 (47 ∷ (word ++ t))) 47 (word ++ t)) b p.0 t)
   end_tag-run old kind word b s h t w fits =
-      two-says step view cdata ends sound number broken errors quiet laws old kind b s h 47 (word ++ t) refl refl refl refl fits
+      two-says Sink laws old kind b s h 47 (word ++ t) refl refl refl refl fits
       ∙ run-letters old (kind_behind (kind_behind kind 60 (47 ∷ (word ++ t))) 47 (word ++ t)) (60 ∷ 47 ∷ []) word b s h t (line_number b) w
 
   -- a letter of the name
-  pub letter-taken : (old : Tokenizer K) (kind : RawKind) (word : List ℕ) (c : ℕ) → IsAt old (state.RawEndTagName kind) → sound (view old.sink) → is_ascii_alphabetic c ≡ true → word ≡ old.word ++ c ∷ [] → Took step view cdata ends sound number broken errors quiet old (record old { word = word }) c flow.Continue
+  pub letter-taken : (old : Tokenizer K) (kind : RawKind) (word : List ℕ) (c : ℕ) → IsAt old (state.RawEndTagName kind) → Sink.is_sound (Sink.view old.sink) → is_ascii_alphabetic c ≡ true → word ≡ old.word ++ c ∷ [] → Took Sink old (record old { word = word }) c flow.Continue
   unfolding held_at
-  letter-taken old kind word c from ok l e = took step view cdata ends sound number broken errors quiet old (record old { word = word }) c (state.RawEndTagName kind) (state.RawEndTagName kind) from (record { state = from.state; fresh = from.fresh }) refl refl ok
-      (λ b s t. ap (λ n. raw_text step view cdata ends sound number broken errors quiet old kind n s (60 ∷ 47 ∷ (old.word ++ c ∷ t))) (sym (no-break b c (letter-no_break c l)))
-      ∙ ap (λ u. raw_text step view cdata ends sound number broken errors quiet old kind (b + line_break (nat_eq c 10)) s (60 ∷ 47 ∷ u)) (sym (append_assoc old.word (c ∷ []) t))
-      ∙ ap (λ w. raw_text step view cdata ends sound number broken errors quiet old kind (b + line_break (nat_eq c 10)) s (60 ∷ 47 ∷ (w ++ t))) (sym e))
+  letter-taken old kind word c from ok l e = took Sink old (record old { word = word }) c (state.RawEndTagName kind) (state.RawEndTagName kind) from (record { state = from.state; fresh = from.fresh }) refl refl ok
+      (λ b s t. ap (λ n. raw_text Sink old kind n s (60 ∷ 47 ∷ (old.word ++ c ∷ t))) (sym (no-break b c (letter-no_break c l)))
+      ∙ ap (λ u. raw_text Sink old kind (b + line_break (nat_eq c 10)) s (60 ∷ 47 ∷ u)) (sym (append_assoc old.word (c ∷ []) t))
+      ∙ ap (λ w. raw_text Sink old kind (b + line_break (nat_eq c 10)) s (60 ∷ 47 ∷ (w ++ t))) (sym e))
 
   -- the end tag was text
   unfit-says : (old : Tokenizer K) (kind : RawKind) (c : ℕ) → list_all is_ascii_alphabetic old.word ≡ true → is_ascii_alphabetic c ≡ false → ends_at_tag kind ≡ true → ends_raw_text old.last_start_tag old.word c ≡ false
-      → Says step view cdata ends sound number broken errors quiet (state.RawEndTagName kind) old c nothing (CharacterTokens (60 ∷ 47 ∷ old.word)) (λ b s t. at step view cdata ends sound number broken errors quiet (state.RawData kind) (record old { state = state.RawData kind }) b s (c ∷ t))
+      → Says Sink (state.RawEndTagName kind) old c nothing (CharacterTokens (60 ∷ 47 ∷ old.word)) (λ b s t. at Sink (state.RawData kind) (record old { state = state.RawData kind }) b s (c ∷ t))
   unfolding held_at
   unfit-says old kind c w l e f b s h t =
-      end_tag-run old kind old.word b s h (c ∷ t) w (fits-none step view cdata ends sound number broken errors quiet laws old kind (47 ∷ (old.word ++ c ∷ t)) (fitting-word old.last_start_tag old.word c t w l ∙ f))
-      ∙ ap (λ k. noting step quiet s (CharacterTokens (60 ∷ 47 ∷ old.word)) (line_number b) >>= λ p. raw_text step view cdata ends sound number broken errors quiet old (kind_behind k 47 (old.word ++ c ∷ t)) b p.0 (c ∷ t)) (kind-open_slash kind (old.word ++ c ∷ t) e)
-      ∙ ap (λ k. noting step quiet s (CharacterTokens (60 ∷ 47 ∷ old.word)) (line_number b) >>= λ p. raw_text step view cdata ends sound number broken errors quiet old k b p.0 (c ∷ t)) (kind-same kind 47 (old.word ++ c ∷ t) refl refl)
+      end_tag-run old kind old.word b s h (c ∷ t) w (fits-none Sink laws old kind (47 ∷ (old.word ++ c ∷ t)) (fitting-word old.last_start_tag old.word c t w l ∙ f))
+      ∙ ap (λ k. noting Sink.step Sink.is_quiet s (CharacterTokens (60 ∷ 47 ∷ old.word)) (line_number b) >>= λ p. raw_text Sink old (kind_behind k 47 (old.word ++ c ∷ t)) b p.0 (c ∷ t)) (kind-open_slash kind (old.word ++ c ∷ t) e)
+      ∙ ap (λ k. noting Sink.step Sink.is_quiet s (CharacterTokens (60 ∷ 47 ∷ old.word)) (line_number b) >>= λ p. raw_text Sink old k b p.0 (c ∷ t)) (kind-same kind 47 (old.word ++ c ∷ t) refl refl)
 
-  pub unfit-kept : (old mid new : Tokenizer K) (kind : RawKind) (c : ℕ) (result : Result (ProcessResult H) ParseFault) → IsAt old (state.RawEndTagName kind) → sound (view old.sink) → list_all is_ascii_alphabetic old.word ≡ true → is_ascii_alphabetic c ≡ false → ends_at_tag kind ≡ true → ends_raw_text old.last_start_tag old.word c ≡ false
-      → Told step view cdata ends sound number broken errors quiet nothing (CharacterTokens (60 ∷ 47 ∷ old.word)) (record old { state = state.RawData kind }) mid → Keeps step view cdata ends sound number broken errors quiet mid new c result → Keeps step view cdata ends sound number broken errors quiet old new c result
-  unfit-kept old mid new kind c result from ok w l e f told h = keeps_then step view cdata ends sound number broken errors quiet old (record old { state = state.RawData kind }) mid new c (state.RawEndTagName kind) (state.RawData kind) (CharacterTokens (60 ∷ 47 ∷ old.word)) result from (record { state = refl; fresh = from.fresh }) refl refl ok told (unfit-says old kind c w l e f) h
+  pub unfit-kept : (old mid new : Tokenizer K) (kind : RawKind) (c : ℕ) (result : Result (ProcessResult H) ParseFault) → IsAt old (state.RawEndTagName kind) → Sink.is_sound (Sink.view old.sink) → list_all is_ascii_alphabetic old.word ≡ true → is_ascii_alphabetic c ≡ false → ends_at_tag kind ≡ true → ends_raw_text old.last_start_tag old.word c ≡ false
+      → Told Sink nothing (CharacterTokens (60 ∷ 47 ∷ old.word)) (record old { state = state.RawData kind }) mid → Keeps Sink mid new c result → Keeps Sink old new c result
+  unfit-kept old mid new kind c result from ok w l e f told h = keeps_then Sink old (record old { state = state.RawData kind }) mid new c (state.RawEndTagName kind) (state.RawData kind) (CharacterTokens (60 ∷ 47 ∷ old.word)) result from (record { state = refl; fresh = from.fresh }) refl refl ok told (unfit-says old kind c w l e f) h
 
-  pub unfit-failed : (old new : Tokenizer K) (kind : RawKind) (c : ℕ) (result : Result (ProcessResult H) ParseFault) (fault : ParseFault) → IsAt old (state.RawEndTagName kind) → sound (view old.sink) → list_all is_ascii_alphabetic old.word ≡ true → is_ascii_alphabetic c ≡ false → ends_at_tag kind ≡ true → ends_raw_text old.last_start_tag old.word c ≡ false → IsErrAnd result (λ y. y ≡ fault)
-      → Fails step view cdata ends sound number broken errors quiet old.sink (step (view old.sink) (CharacterTokens (60 ∷ 47 ∷ old.word)) (line_number old.stream.breaks)) fault → Keeps step view cdata ends sound number broken errors quiet old new c result
-  unfit-failed old new kind c result fault from ok w l e f is fails = not-told_from step view cdata ends sound number broken errors quiet nothing old old new c (state.RawEndTagName kind) (CharacterTokens (60 ∷ 47 ∷ old.word)) result fault _ from refl refl ok is fails (unfit-says old kind c w l e f)
+  pub unfit-failed : (old new : Tokenizer K) (kind : RawKind) (c : ℕ) (result : Result (ProcessResult H) ParseFault) (fault : ParseFault) → IsAt old (state.RawEndTagName kind) → Sink.is_sound (Sink.view old.sink) → list_all is_ascii_alphabetic old.word ≡ true → is_ascii_alphabetic c ≡ false → ends_at_tag kind ≡ true → ends_raw_text old.last_start_tag old.word c ≡ false → IsErrAnd result (λ y. y ≡ fault)
+      → Fails Sink old.sink (Sink.step (Sink.view old.sink) (CharacterTokens (60 ∷ 47 ∷ old.word)) (line_number old.stream.breaks)) fault → Keeps Sink old new c result
+  unfit-failed old new kind c result fault from ok w l e f is fails = not-told_from Sink nothing old old new c (state.RawEndTagName kind) (CharacterTokens (60 ∷ 47 ∷ old.word)) result fault _ from refl refl ok is fails (unfit-says old kind c w l e f)
 
   -- the same in text that is escaped twice, where no end tag is held
   deep-says : (old : Tokenizer K) (c : ℕ) → list_all is_ascii_alphabetic old.word ≡ true
-      → Says step view cdata ends sound number broken errors quiet (state.RawEndTagName (raw.ScriptDataEscaped script.DoubleEscaped)) old c nothing (CharacterTokens (60 ∷ 47 ∷ old.word)) (λ b s t. at step view cdata ends sound number broken errors quiet state.ScriptDataDoubleEscapeEnd (record old { state = state.ScriptDataDoubleEscapeEnd }) b s (c ∷ t))
+      → Says Sink (state.RawEndTagName (raw.ScriptDataEscaped script.DoubleEscaped)) old c nothing (CharacterTokens (60 ∷ 47 ∷ old.word)) (λ b s t. at Sink state.ScriptDataDoubleEscapeEnd (record old { state = state.ScriptDataDoubleEscapeEnd }) b s (c ∷ t))
   unfolding held_at
   deep-says old c w b s h t =
       let kind = raw.ScriptDataEscaped script.DoubleEscaped in
       let behind_slash = kind_behind (kind_behind kind 60 (47 ∷ (old.word ++ c ∷ t))) 47 (old.word ++ c ∷ t) in
       end_tag-run old kind old.word b s h (c ∷ t) w refl
-      ∙ ap (λ k. noting step quiet s (CharacterTokens (60 ∷ 47 ∷ old.word)) (line_number b) >>= λ p. raw_text step view cdata ends sound number broken errors quiet old k b p.0 (c ∷ t)) (sym (kind_after-letters behind_slash old.word (c ∷ t) w))
+      ∙ ap (λ k. noting Sink.step Sink.is_quiet s (CharacterTokens (60 ∷ 47 ∷ old.word)) (line_number b) >>= λ p. raw_text Sink old k b p.0 (c ∷ t)) (sym (kind_after-letters behind_slash old.word (c ∷ t) w))
 
-  pub deep_end-kept : (old mid new : Tokenizer K) (kind : RawKind) (c : ℕ) (result : Result (ProcessResult H) ParseFault) → IsAt old (state.RawEndTagName kind) → sound (view old.sink) → list_all is_ascii_alphabetic old.word ≡ true → ends_at_tag kind ≡ false
-      → Told step view cdata ends sound number broken errors quiet nothing (CharacterTokens (60 ∷ 47 ∷ old.word)) (record old { state = state.ScriptDataDoubleEscapeEnd }) mid → Keeps step view cdata ends sound number broken errors quiet mid new c result → Keeps step view cdata ends sound number broken errors quiet old new c result
+  pub deep_end-kept : (old mid new : Tokenizer K) (kind : RawKind) (c : ℕ) (result : Result (ProcessResult H) ParseFault) → IsAt old (state.RawEndTagName kind) → Sink.is_sound (Sink.view old.sink) → list_all is_ascii_alphabetic old.word ≡ true → ends_at_tag kind ≡ false
+      → Told Sink nothing (CharacterTokens (60 ∷ 47 ∷ old.word)) (record old { state = state.ScriptDataDoubleEscapeEnd }) mid → Keeps Sink mid new c result → Keeps Sink old new c result
   deep_end-kept old mid new kind c result from ok w e told h =
-      keeps_then step view cdata ends sound number broken errors quiet old (record old { state = state.ScriptDataDoubleEscapeEnd }) mid new c (state.RawEndTagName (raw.ScriptDataEscaped script.DoubleEscaped)) state.ScriptDataDoubleEscapeEnd (CharacterTokens (60 ∷ 47 ∷ old.word)) result (rw (double_escaped kind e) at from) (record { state = refl; fresh = from.fresh }) refl refl ok told (deep-says old c w) h
+      keeps_then Sink old (record old { state = state.ScriptDataDoubleEscapeEnd }) mid new c (state.RawEndTagName (raw.ScriptDataEscaped script.DoubleEscaped)) state.ScriptDataDoubleEscapeEnd (CharacterTokens (60 ∷ 47 ∷ old.word)) result (rw (double_escaped kind e) at from) (record { state = refl; fresh = from.fresh }) refl refl ok told (deep-says old c w) h
 
-  pub deep_end-failed : (old new : Tokenizer K) (kind : RawKind) (c : ℕ) (result : Result (ProcessResult H) ParseFault) (fault : ParseFault) → IsAt old (state.RawEndTagName kind) → sound (view old.sink) → list_all is_ascii_alphabetic old.word ≡ true → ends_at_tag kind ≡ false → IsErrAnd result (λ y. y ≡ fault)
-      → Fails step view cdata ends sound number broken errors quiet old.sink (step (view old.sink) (CharacterTokens (60 ∷ 47 ∷ old.word)) (line_number old.stream.breaks)) fault → Keeps step view cdata ends sound number broken errors quiet old new c result
-  deep_end-failed old new kind c result fault from ok w e is fails = not-told_from step view cdata ends sound number broken errors quiet nothing old old new c (state.RawEndTagName (raw.ScriptDataEscaped script.DoubleEscaped)) (CharacterTokens (60 ∷ 47 ∷ old.word)) result fault _ (rw (double_escaped kind e) at from) refl refl ok is fails (deep-says old c w)
+  pub deep_end-failed : (old new : Tokenizer K) (kind : RawKind) (c : ℕ) (result : Result (ProcessResult H) ParseFault) (fault : ParseFault) → IsAt old (state.RawEndTagName kind) → Sink.is_sound (Sink.view old.sink) → list_all is_ascii_alphabetic old.word ≡ true → ends_at_tag kind ≡ false → IsErrAnd result (λ y. y ≡ fault)
+      → Fails Sink old.sink (Sink.step (Sink.view old.sink) (CharacterTokens (60 ∷ 47 ∷ old.word)) (line_number old.stream.breaks)) fault → Keeps Sink old new c result
+  deep_end-failed old new kind c result fault from ok w e is fails = not-told_from Sink nothing old old new c (state.RawEndTagName (raw.ScriptDataEscaped script.DoubleEscaped)) (CharacterTokens (60 ∷ 47 ∷ old.word)) result fault _ (rw (double_escaped kind e) at from) refl refl ok is fails (deep-says old c w)

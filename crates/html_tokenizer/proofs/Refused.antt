@@ -10,6 +10,7 @@ use Rattle.html_tokens.specs.declared.replies.TokenSinkResult.TheVariants.{Conti
 use Rattle.html_tokens.specs.declared.states.State.{State}
 use Rattle.html_tokens.specs.declared.token.Token.{Token}
 use Rattle.html_tokens.specs.declared.token.Token.TheVariants.{EOFToken}
+use Rattle.html_tokens.specs.declared.sink.TokenSink.{Ghosts}
 use Rattle.html_tokens.specs.Item.{Fault, Stand, fault_at_end}
 use Rattle.html_tokens.specs.Items.{item}
 use Rattle.html_tokens.specs.Notes.{Notes, NotedStep, noting, noting_error, heard}
@@ -42,17 +43,17 @@ module _ {T : Type 0} (step : NotedStep T) (erred : Fault → T → T) (cdata : 
       said-refused i.fault s h i.token read (λ p. reading_from step erred cdata ends rows (i.len - 1) (next_stand i.next p.1) read p.0 t) (λ q g reply. reading-refused q g (i.len - 1) (next_stand i.next reply) read t)
   reading-refused s h (suc n) st b (c ∷ t) = reading-refused s h n st b t
 
-module _ {K S H : Type 0} (step : Step S) (view : K → S) (cdata : S → Bool) (ends : S → S) (sound : S → Type 0) (number : H → ℕ) (broken : K → Bool) (errors : K → ℕ) (quiet : S → Token → Bool) where
+module _ {K H : Type 0} (Sink : Ghosts K H) where
   -- a sink of which something is noted refuses what the sink refuses
-  pub noting-refused : (s : S) (notes : Notes ℕ) → ((token : Token) (line : ℕ) → IsErr (step s token line)) → (token : Token) (line : ℕ) → IsErr (noting step quiet (s, notes) token line)
-  noting-refused s notes h token line = noted-err (heard (quiet s token) notes) (step s token line) (h token line)
+  pub noting-refused : (s : Sink.State) (notes : Notes ℕ) → ((token : Token) (line : ℕ) → IsErr (Sink.step s token line)) → (token : Token) (line : ℕ) → IsErr (noting Sink.step Sink.is_quiet (s, notes) token line)
+  noting-refused s notes h token line = noted-err (heard (Sink.is_quiet s token) notes) (Sink.step s token line) (h token line)
 
   -- the same behind a fault
-  pub noting-errs : (fault : Fault) (s : S × Notes ℕ) → AllRefused (noting step quiet) s → AllRefused (noting step quiet) (noting_error fault s)
-  noting-errs fault s h token line = noted-err _ (step s.0 token line) (err-noted (heard (quiet s.0 token) s.1) (step s.0 token line) (h token line))
+  pub noting-errs : (fault : Fault) (s : Sink.State × Notes ℕ) → AllRefused (noting Sink.step Sink.is_quiet) s → AllRefused (noting Sink.step Sink.is_quiet) (noting_error fault s)
+  noting-errs fault s h token line = noted-err _ (Sink.step s.0 token line) (err-noted (heard (Sink.is_quiet s.0 token) s.1) (Sink.step s.0 token line) (h token line))
 
-  pub every-fails : (sink : K) (s : S) (fault : ParseFault) {A F : Type 0} (given : Result A F) → ((token : Token) (line : ℕ) → Fails step view cdata ends sound number broken errors quiet sink (step s token line) fault)
-      → (((token : Token) (line : ℕ) → IsErr (step s token line)) → IsErr given) → Fails step view cdata ends sound number broken errors quiet sink given fault
+  pub every-fails : (sink : K) (s : Sink.State) (fault : ParseFault) {A F : Type 0} (given : Result A F) → ((token : Token) (line : ℕ) → Fails Sink sink (Sink.step s token line) fault)
+      → (((token : Token) (line : ℕ) → IsErr (Sink.step s token line)) → IsErr given) → Fails Sink sink given fault
   every-fails sink s Memory given h k = tt
   every-fails sink s TokenInText given h k = (k (λ token line. (h token line).0), (h EOFToken 0).1)
   every-fails sink s Ended given h k = (k (λ token line. (h token line).0), (h EOFToken 0).1)
@@ -61,12 +62,12 @@ module _ {K S H : Type 0} (step : Step S) (view : K → S) (cdata : S → Bool) 
 
   -- An error could not be told, and what was to come is refused where every token is.
   pub keeps_failed : (old new : Tokenizer K) (c : ℕ) (st : State) (result : Result (ProcessResult H) ParseFault) (fault : ParseFault) → IsAt old st → IsErrAnd result (λ y. y ≡ fault)
-      → ((token : Token) (line : ℕ) → Fails step view cdata ends sound number broken errors quiet old.sink (step (view old.sink) token line) fault)
-      → ((b : ℕ) (s : S × Notes ℕ) → ((token : Token) (line : ℕ) → IsErr (noting step quiet s token line)) → (t : List ℕ) → IsErr (at step view cdata ends sound number broken errors quiet st old b s (c ∷ t)))
-      → Keeps step view cdata ends sound number broken errors quiet old new c result
+      → ((token : Token) (line : ℕ) → Fails Sink old.sink (Sink.step (Sink.view old.sink) token line) fault)
+      → ((b : ℕ) (s : Sink.State × Notes ℕ) → ((token : Token) (line : ℕ) → IsErr (noting Sink.step Sink.is_quiet s token line)) → (t : List ℕ) → IsErr (at Sink st old b s (c ∷ t)))
+      → Keeps Sink old new c result
   keeps_failed old new c st result fault from is fails law =
       let p = err_from_is_err_and result is in
       rw (p.1, p.2) (λ notes t.
-      fails-along step view cdata ends sound number broken errors quiet old.sink _ _ fault (now-at step view cdata ends sound number broken errors quiet old st old.stream.breaks (view old.sink, notes) (c ∷ t) from)
-      (every-fails old.sink (view old.sink) fault (at step view cdata ends sound number broken errors quiet st old old.stream.breaks (view old.sink, notes) (c ∷ t)) fails
-      (λ h. law old.stream.breaks (view old.sink, notes) (noting-refused (view old.sink) notes h) t)))
+      fails-along Sink old.sink _ _ fault (now-at Sink old st old.stream.breaks (Sink.view old.sink, notes) (c ∷ t) from)
+      (every-fails old.sink (Sink.view old.sink) fault (at Sink st old old.stream.breaks (Sink.view old.sink, notes) (c ∷ t)) fails
+      (λ h. law old.stream.breaks (Sink.view old.sink, notes) (noting-refused (Sink.view old.sink) notes h) t)))

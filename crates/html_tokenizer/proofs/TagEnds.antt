@@ -9,6 +9,7 @@ use Rattle.html_tokens.specs.declared.replies.TokenSinkResult.TheVariants as rep
 use Rattle.html_tokens.specs.declared.tags.Tag.{Tag}
 use Rattle.html_tokens.specs.declared.token.Token.{Token}
 use Rattle.html_tokens.specs.declared.token.Token.TheVariants.{TagToken}
+use Rattle.html_tokens.specs.declared.sink.TokenSink.{Ghosts}
 use Rattle.html_tokens.specs.Item.{grave_if, InData, Stand}
 use Rattle.html_tokens.specs.Notes.{Notes, noted, paused, noting, noting_error, noting_cdata, noting_end, heard}
 use Rattle.html_tokens.specs.Reading.{◌>>=◌, erred_by, line_number, next_stand, reading}
@@ -21,24 +22,24 @@ use Rattle.html_tokenizer.proofs.Glue.{at, fits-at, now-at}
 use Rattle.html_tokenizer.proofs.Rises.{heard-more, rises-heard}
 use Rattle.html_tokenizer.proofs.Lawful.{erred-more}
 
-module _ {K S H : Type 0} (step : Step S) (view : K → S) (cdata : S → Bool) (ends : S → S) (sound : S → Type 0) (number : H → ℕ) (broken : K → Bool) (errors : K → ℕ) (quiet : S → Token → Bool) where
+module _ {K H : Type 0} (Sink : Ghosts K H) where
   -- a tag's fault is noted
-  pub noted-tag : (k : Tokenizer K) (tag : Tag) (st : Stand) (b : ℕ) (s : S × Notes ℕ) (t : List ℕ)
-      → (noting step quiet (erred_by noting_error (grave_if (is_faulty_tag tag)) s) (TagToken tag) (line_number b) >>= λ p. reading (noting step quiet) noting_error (noting_cdata cdata) (noting_end ends) (rows_of k) (next_stand st p.1) b p.0 t)
-      ≡ (noting step quiet (s.0, more (owed_for (grave_if (is_faulty_tag tag))) s.1) (TagToken tag) (line_number b) >>= λ p. reading (noting step quiet) noting_error (noting_cdata cdata) (noting_end ends) (rows_of k) (next_stand st p.1) b p.0 t)
-  noted-tag k tag st b s t = ap (λ q. noting step quiet q (TagToken tag) (line_number b) >>= λ p. reading (noting step quiet) noting_error (noting_cdata cdata) (noting_end ends) (rows_of k) (next_stand st p.1) b p.0 t) (erred-more (grave_if (is_faulty_tag tag)) s)
+  pub noted-tag : (k : Tokenizer K) (tag : Tag) (st : Stand) (b : ℕ) (s : Sink.State × Notes ℕ) (t : List ℕ)
+      → (noting Sink.step Sink.is_quiet (erred_by noting_error (grave_if (is_faulty_tag tag)) s) (TagToken tag) (line_number b) >>= λ p. reading (noting Sink.step Sink.is_quiet) noting_error (noting_cdata Sink.asks_cdata) (noting_end Sink.ended) (rows_of k) (next_stand st p.1) b p.0 t)
+      ≡ (noting Sink.step Sink.is_quiet (s.0, more (owed_for (grave_if (is_faulty_tag tag))) s.1) (TagToken tag) (line_number b) >>= λ p. reading (noting Sink.step Sink.is_quiet) noting_error (noting_cdata Sink.asks_cdata) (noting_end Sink.ended) (rows_of k) (next_stand st p.1) b p.0 t)
+  noted-tag k tag st b s t = ap (λ q. noting Sink.step Sink.is_quiet q (TagToken tag) (line_number b) >>= λ p. reading (noting Sink.step Sink.is_quiet) noting_error (noting_cdata Sink.asks_cdata) (noting_end Sink.ended) (rows_of k) (next_stand st p.1) b p.0 t) (erred-more (grave_if (is_faulty_tag tag)) s)
 
   -- the error that goes before a tag was refused, so the tag would be
   pub tag-failed : (old new : Tokenizer K) (result : Result (ProcessResult H) ParseFault) (fault : ParseFault) → IsErrAnd result (λ y. y ≡ fault)
-      → ((token : Token) (line : ℕ) → Fails step view cdata ends sound number broken errors quiet old.sink (step (view old.sink) token line) fault) → EndsTag step view cdata ends sound number broken errors quiet old new result
+      → ((token : Token) (line : ℕ) → Fails Sink old.sink (Sink.step (Sink.view old.sink) token line) fault) → EndsTag Sink old new result
   tag-failed old new result fault is fails =
       let p = err_from_is_err_and result is in
       rw (p.1, p.2) (fails (TagToken old.tag) (line_number old.stream.breaks))
 
   -- what is read behind a tag is what the machine reads where the reply has it
-  reads-behind : (k : Tokenizer K) (reply : TokenSinkResult H) (b : ℕ) (s : S) (notes : Notes ℕ) (t : List ℕ)
-      → reading (noting step quiet) noting_error (noting_cdata cdata) (noting_end ends) (rows_of k) (next_stand (standing k InData) (numbered number reply)) b (s, record notes { pauses = paused notes.pauses (numbered number reply) }) t
-      ≡ at step view cdata ends sound number broken errors quiet (state_behind reply) k b (s, noted_by number nothing notes (answer_to reply)) t
+  reads-behind : (k : Tokenizer K) (reply : TokenSinkResult H) (b : ℕ) (s : Sink.State) (notes : Notes ℕ) (t : List ℕ)
+      → reading (noting Sink.step Sink.is_quiet) noting_error (noting_cdata Sink.asks_cdata) (noting_end Sink.ended) (rows_of k) (next_stand (standing k InData) (numbered Sink.number reply)) b (s, record notes { pauses = paused notes.pauses (numbered Sink.number reply) }) t
+      ≡ at Sink (state_behind reply) k b (s, noted_by Sink.number nothing notes (answer_to reply)) t
   unfolding held_at
   reads-behind k reply.Continue b s notes t = refl
   reads-behind k (reply.Script handle) b s notes t = refl
@@ -58,20 +59,20 @@ module _ {K S H : Type 0} (step : Step S) (view : K → S) (cdata : S → Bool) 
   paused-behind (reply.EncodingIndicator label) k at = (refl, at)
 
   ended : (old new : Tokenizer K) (reply : TokenSinkResult H) → IsAt new (state_behind reply) → new.stream ≡ old.stream → new.last_start_tag ≡ last_name old.tag.kind old.tag.name old.last_start_tag
-      → step (view old.sink) (TagToken old.tag) (line_number old.stream.breaks) ≡ Ok (view new.sink, numbered number reply) → sound (view new.sink) → broken new.sink ≡ false → Rises errors (owed_by step view cdata ends sound number broken errors quiet old) old.sink new.sink
-      → EndedTag step view cdata ends sound number broken errors quiet old new (answer_to reply)
+      → Sink.step (Sink.view old.sink) (TagToken old.tag) (line_number old.stream.breaks) ≡ Ok (Sink.view new.sink, numbered Sink.number reply) → Sink.is_sound (Sink.view new.sink) → Sink.has_failed new.sink ≡ false → Rises Sink.errors (owed_by Sink old) old.sink new.sink
+      → EndedTag Sink old new (answer_to reply)
   ended old new reply to stream last gives ok works rises =
       let fault = owed_for (grave_if (is_faulty_tag old.tag)) in
-      let owed = owed_by step view cdata ends sound number broken errors quiet old in
+      let owed = owed_by Sink old in
       record {
         rises = rises;
         same = λ notes t.
-            ap (λ r. noted (heard (quiet (view old.sink) (TagToken old.tag)) (more fault notes)) r >>= λ p. reading (noting step quiet) noting_error (noting_cdata cdata) (noting_end ends) (rows_of old) (next_stand (behind_tag (standing old InData) old.tag) p.1) old.stream.breaks p.0 t) gives
-            ∙ ap (λ n. reading (noting step quiet) noting_error (noting_cdata cdata) (noting_end ends) (rows_of old) (next_stand (behind_tag (standing old InData) old.tag) (numbered number reply)) old.stream.breaks (view new.sink, record n { pauses = paused notes.pauses (numbered number reply) }) t) (heard-more (quiet (view old.sink) (TagToken old.tag)) fault notes)
-            ∙ ap (λ st. reading (noting step quiet) noting_error (noting_cdata cdata) (noting_end ends) (rows_of old) (next_stand st (numbered number reply)) old.stream.breaks (view new.sink, record (more owed notes) { pauses = paused notes.pauses (numbered number reply) }) t) (behind old new last)
-            ∙ ap (λ x. reading (noting step quiet) noting_error (noting_cdata cdata) (noting_end ends) x.table (next_stand (standing new InData) (numbered number reply)) old.stream.breaks (view new.sink, record (more owed notes) { pauses = paused notes.pauses (numbered number reply) }) t) (sym stream)
-            ∙ reads-behind new reply old.stream.breaks (view new.sink) (more owed notes) t
-            ∙ sym (now-at step view cdata ends sound number broken errors quiet new (state_behind reply) old.stream.breaks (view new.sink, noted_by number owed notes (answer_to reply)) t to);
+            ap (λ r. noted (heard (Sink.is_quiet (Sink.view old.sink) (TagToken old.tag)) (more fault notes)) r >>= λ p. reading (noting Sink.step Sink.is_quiet) noting_error (noting_cdata Sink.asks_cdata) (noting_end Sink.ended) (rows_of old) (next_stand (behind_tag (standing old InData) old.tag) p.1) old.stream.breaks p.0 t) gives
+            ∙ ap (λ n. reading (noting Sink.step Sink.is_quiet) noting_error (noting_cdata Sink.asks_cdata) (noting_end Sink.ended) (rows_of old) (next_stand (behind_tag (standing old InData) old.tag) (numbered Sink.number reply)) old.stream.breaks (Sink.view new.sink, record n { pauses = paused notes.pauses (numbered Sink.number reply) }) t) (heard-more (Sink.is_quiet (Sink.view old.sink) (TagToken old.tag)) fault notes)
+            ∙ ap (λ st. reading (noting Sink.step Sink.is_quiet) noting_error (noting_cdata Sink.asks_cdata) (noting_end Sink.ended) (rows_of old) (next_stand st (numbered Sink.number reply)) old.stream.breaks (Sink.view new.sink, record (more owed notes) { pauses = paused notes.pauses (numbered Sink.number reply) }) t) (behind old new last)
+            ∙ ap (λ x. reading (noting Sink.step Sink.is_quiet) noting_error (noting_cdata Sink.asks_cdata) (noting_end Sink.ended) x.table (next_stand (standing new InData) (numbered Sink.number reply)) old.stream.breaks (Sink.view new.sink, record (more owed notes) { pauses = paused notes.pauses (numbered Sink.number reply) }) t) (sym stream)
+            ∙ reads-behind new reply old.stream.breaks (Sink.view new.sink) (more owed notes) t
+            ∙ sym (now-at Sink new (state_behind reply) old.stream.breaks (Sink.view new.sink, noted_by Sink.number owed notes (answer_to reply)) t to);
         stream = stream;
         sound = ok;
         fits = fits-at new (state_behind reply) to;
@@ -80,20 +81,20 @@ module _ {K S H : Type 0} (step : Step S) (view : K → S) (cdata : S → Bool) 
       }
 
   -- The tag was told behind its error, if it has one.
-  pub tag-ended : (old mid new : Tokenizer K) (after : K) (last : Option (List ℕ)) (left tag : Tag) (line : ℕ) (reply : TokenSinkResult H) (result : ProcessResult H) → old.char_ref ≡ None → Erred step view cdata ends sound number broken errors quiet (owed_for (grave_if (is_faulty_tag old.tag))) old mid
+  pub tag-ended : (old mid new : Tokenizer K) (after : K) (last : Option (List ℕ)) (left tag : Tag) (line : ℕ) (reply : TokenSinkResult H) (result : ProcessResult H) → old.char_ref ≡ None → Erred Sink (owed_for (grave_if (is_faulty_tag old.tag))) old mid
       → last ≡ last_name old.tag.kind old.tag.name old.last_start_tag → tag ≡ mid.tag → line ≡ line_number mid.stream.breaks
-      → step (view mid.sink) (TagToken tag) line ≡ Ok (view after, numbered number reply) → sound (view after) → broken after ≡ false → Rises errors (hearing (quiet (view mid.sink) (TagToken tag)) nothing) mid.sink after
+      → Sink.step (Sink.view mid.sink) (TagToken tag) line ≡ Ok (Sink.view after, numbered Sink.number reply) → Sink.is_sound (Sink.view after) → Sink.has_failed after ≡ false → Rises Sink.errors (hearing (Sink.is_quiet (Sink.view mid.sink) (TagToken tag)) nothing) mid.sink after
       → new ≡ record mid { sink = after; state = state_behind reply; last_start_tag = last; tag = left } → result ≡ answer_to reply
-      → EndedTag step view cdata ends sound number broken errors quiet old new result
+      → EndedTag Sink old new result
   tag-ended old mid new after last left tag line reply result fresh erred is_last is_tag is_line gives ok works rises is answer =
-      let gives' : step (view old.sink) (TagToken old.tag) (line_number old.stream.breaks) ≡ Ok (view after, numbered number reply) =
-      ap (λ s. step s (TagToken old.tag) (line_number old.stream.breaks)) (sym erred.sink)
-      ∙ ap (λ (k : Tokenizer K). step (view mid.sink) (TagToken k.tag) (line_number k.stream.breaks)) (sym erred.changed)
-      ∙ ap (λ x. step (view mid.sink) (TagToken x) (line_number mid.stream.breaks)) (sym is_tag)
-      ∙ ap (λ n. step (view mid.sink) (TagToken tag) n) (sym is_line)
+      let gives' : Sink.step (Sink.view old.sink) (TagToken old.tag) (line_number old.stream.breaks) ≡ Ok (Sink.view after, numbered Sink.number reply) =
+      ap (λ s. Sink.step s (TagToken old.tag) (line_number old.stream.breaks)) (sym erred.sink)
+      ∙ ap (λ (k : Tokenizer K). Sink.step (Sink.view mid.sink) (TagToken k.tag) (line_number k.stream.breaks)) (sym erred.changed)
+      ∙ ap (λ x. Sink.step (Sink.view mid.sink) (TagToken x) (line_number mid.stream.breaks)) (sym is_tag)
+      ∙ ap (λ n. Sink.step (Sink.view mid.sink) (TagToken tag) n) (sym is_line)
       ∙ gives in
-      let same_quiet : quiet (view mid.sink) (TagToken tag) ≡ quiet (view old.sink) (TagToken old.tag) =
-      ap (λ x. quiet (view mid.sink) (TagToken x)) is_tag ∙ (ap (λ (k : Tokenizer K). quiet (view mid.sink) (TagToken k.tag)) erred.changed ∙ ap (λ s. quiet s (TagToken old.tag)) erred.sink) in
+      let same_quiet : Sink.is_quiet (Sink.view mid.sink) (TagToken tag) ≡ Sink.is_quiet (Sink.view old.sink) (TagToken old.tag) =
+      ap (λ x. Sink.is_quiet (Sink.view mid.sink) (TagToken x)) is_tag ∙ (ap (λ (k : Tokenizer K). Sink.is_quiet (Sink.view mid.sink) (TagToken k.tag)) erred.changed ∙ ap (λ s. Sink.is_quiet s (TagToken old.tag)) erred.sink) in
       rw (is, answer) (ended old (record mid { sink = after; state = state_behind reply; last_start_tag = last; tag = left }) reply
       (record { state = refl; fresh = ap (λ (k : Tokenizer K). k.char_ref) erred.changed ∙ fresh })
-      (ap (λ (k : Tokenizer K). k.stream) erred.changed) is_last gives' ok works (subst (λ q. Rises errors (hearing q (owed_for (grave_if (is_faulty_tag old.tag)))) old.sink after) same_quiet (rises-heard errors (quiet (view mid.sink) (TagToken tag)) old.sink mid.sink after erred.rises rises)))
+      (ap (λ (k : Tokenizer K). k.stream) erred.changed) is_last gives' ok works (subst (λ q. Rises Sink.errors (hearing q (owed_for (grave_if (is_faulty_tag old.tag)))) old.sink after) same_quiet (rises-heard Sink.errors (Sink.is_quiet (Sink.view mid.sink) (TagToken tag)) old.sink mid.sink after erred.rises rises)))

@@ -8,6 +8,7 @@ use Rattle.html_tokens.specs.Reading.{erred_by, line_break}
 use Rattle.html_tokens.specs.declared.replies.ProcessResult.{ProcessResult}
 use Rattle.html_tokens.specs.declared.replies.ProcessResult.TheVariants as flow
 use Rattle.html_tokens.specs.declared.states.State.{State}
+use Rattle.html_tokens.specs.declared.sink.TokenSink.{Ghosts}
 use Rattle.html_tokens.specs.Sink.{Step, Refusal}
 use Rattle.html_tokenizer.specs.CharRefs.{may_hold}
 use Rattle.html_tokenizer.specs.declared.tokenizer.Tokenizer.{Tokenizer}
@@ -17,29 +18,29 @@ use Rattle.html_tokenizer.proofs.Lawful.{erred-more}
 use Rattle.html_tokenizer.proofs.Readings.{sum-zero}
 use Rattle.html_tokenizer.proofs.Rises.{rises-same}
 
-module _ {K S H : Type 0} (step : Step S) (view : K → S) (cdata : S → Bool) (ends : S → S) (sound : S → Type 0) (number : H → ℕ) (broken : K → Bool) (errors : K → ℕ) (quiet : S → Token → Bool) where
+module _ {K H : Type 0} (Sink : Ghosts K H) where
   -- The character is taken, which ends no line, and the machine stands in st'.
-  pub took_here : (old new : Tokenizer K) (c : ℕ) (st st' : State) → IsAt old st → IsAt new st' → new.stream ≡ old.stream → new.sink ≡ old.sink → sound (view old.sink) → nat_eq c 10 ≡ false
-      → ((b : ℕ) (s : S × Notes ℕ) (t : List ℕ) → at step view cdata ends sound number broken errors quiet st old b s (c ∷ t) ≡ at step view cdata ends sound number broken errors quiet st' new b s t)
-      → Took step view cdata ends sound number broken errors quiet old new c flow.Continue
+  pub took_here : (old new : Tokenizer K) (c : ℕ) (st st' : State) → IsAt old st → IsAt new st' → new.stream ≡ old.stream → new.sink ≡ old.sink → Sink.is_sound (Sink.view old.sink) → nat_eq c 10 ≡ false
+      → ((b : ℕ) (s : Sink.State × Notes ℕ) (t : List ℕ) → at Sink st old b s (c ∷ t) ≡ at Sink st' new b s t)
+      → Took Sink old new c flow.Continue
   took_here old new c st st' from to stream same ok unbroken law =
-      took step view cdata ends sound number broken errors quiet old new c st st' from to stream same ok
-      (λ b s t. law b s t ∙ ap (λ n. at step view cdata ends sound number broken errors quiet st' new n s t) (sym (no-break b c unbroken)))
+      took Sink old new c st st' from to stream same ok
+      (λ b s t. law b s t ∙ ap (λ n. at Sink st' new n s t) (sym (no-break b c unbroken)))
 
   -- "&" is taken, and with it a reference may begin.
-  pub took_reference : (old : Tokenizer K) (st : State) → IsAt old st → may_hold st ≡ true → sound (view old.sink)
-      → ((b : ℕ) (s : S × Notes ℕ) (t : List ℕ) → at step view cdata ends sound number broken errors quiet st (record old { char_ref = Some [] }) b s t ≡ at step view cdata ends sound number broken errors quiet st old b s t)
-      → Took step view cdata ends sound number broken errors quiet old (record old { char_ref = Some [] }) 38 flow.Continue
+  pub took_reference : (old : Tokenizer K) (st : State) → IsAt old st → may_hold st ≡ true → Sink.is_sound (Sink.view old.sink)
+      → ((b : ℕ) (s : Sink.State × Notes ℕ) (t : List ℕ) → at Sink st (record old { char_ref = Some [] }) b s t ≡ at Sink st old b s t)
+      → Took Sink old (record old { char_ref = Some [] }) 38 flow.Continue
   took_reference old st from fits ok same =
       let new = record old { char_ref = Some [] } in
       record {
         owed = nothing;
-        rises = rises-same errors old.sink old.sink refl;
+        rises = rises-same Sink.errors old.sink old.sink refl;
         same = λ notes t.
-            now-at step view cdata ends sound number broken errors quiet old st old.stream.breaks (view old.sink, notes) (38 ∷ t) from
-            ∙ sym (same old.stream.breaks (view old.sink, notes) (38 ∷ t))
-            ∙ ap (λ x. at step view cdata ends sound number broken errors quiet x new old.stream.breaks (view old.sink, notes) (38 ∷ t)) (sym from.state)
-            ∙ ap (λ n. at step view cdata ends sound number broken errors quiet old.state new n (view old.sink, notes) (38 ∷ t)) (sym (sum-zero old.stream.breaks));
+            now-at Sink old st old.stream.breaks (Sink.view old.sink, notes) (38 ∷ t) from
+            ∙ sym (same old.stream.breaks (Sink.view old.sink, notes) (38 ∷ t))
+            ∙ ap (λ x. at Sink x new old.stream.breaks (Sink.view old.sink, notes) (38 ∷ t)) (sym from.state)
+            ∙ ap (λ n. at Sink old.state new n (Sink.view old.sink, notes) (38 ∷ t)) (sym (sum-zero old.stream.breaks));
         stream = refl;
         sound = ok;
         fits = ap may_hold from.state ∙ fits;
@@ -49,35 +50,35 @@ module _ {K S H : Type 0} (step : Step S) (view : K → S) (cdata : S → Bool) 
 
   -- The character is taken, which may be odd, and the machine stands in st', behind what is noted of it; it is quiet only where it
   -- is not odd.
-  pub noted_odd : (odd : Bool) (old new : Tokenizer K) (c : ℕ) (st st' : State) → IsAt old st → IsAt new st' → new.stream ≡ old.stream → new.sink ≡ old.sink → sound (view old.sink)
-      → ((b : ℕ) (s : S × Notes ℕ) (t : List ℕ) → at step view cdata ends sound number broken errors quiet st old b s (c ∷ t) ≡ at step view cdata ends sound number broken errors quiet st' new (b + line_break (nat_eq c 10)) (erred_by noting_error (slight_if odd) s) t)
-      → (took : Took step view cdata ends sound number broken errors quiet old new c flow.Continue) × (took.owed.is_quiet ≡ true → odd ≡ false)
+  pub noted_odd : (odd : Bool) (old new : Tokenizer K) (c : ℕ) (st st' : State) → IsAt old st → IsAt new st' → new.stream ≡ old.stream → new.sink ≡ old.sink → Sink.is_sound (Sink.view old.sink)
+      → ((b : ℕ) (s : Sink.State × Notes ℕ) (t : List ℕ) → at Sink st old b s (c ∷ t) ≡ at Sink st' new (b + line_break (nat_eq c 10)) (erred_by noting_error (slight_if odd) s) t)
+      → (took : Took Sink old new c flow.Continue) × (took.owed.is_quiet ≡ true → odd ≡ false)
   noted_odd odd old new c st st' from to stream same ok law =
-      noted_marked step view cdata ends sound number broken errors quiet odd old new c st st' from to stream same ok
-      (λ b s t. law b s t ∙ ap (λ s. at step view cdata ends sound number broken errors quiet st' new (b + line_break (nat_eq c 10)) s t) (erred-more (slight_if odd) s))
+      noted_marked Sink odd old new c st st' from to stream same ok
+      (λ b s t. law b s t ∙ ap (λ s. at Sink st' new (b + line_break (nat_eq c 10)) s t) (erred-more (slight_if odd) s))
 
   -- the same, where nothing is said of that
-  pub took_odd : (odd : Bool) (old new : Tokenizer K) (c : ℕ) (st st' : State) → IsAt old st → IsAt new st' → new.stream ≡ old.stream → new.sink ≡ old.sink → sound (view old.sink)
-      → ((b : ℕ) (s : S × Notes ℕ) (t : List ℕ) → at step view cdata ends sound number broken errors quiet st old b s (c ∷ t) ≡ at step view cdata ends sound number broken errors quiet st' new (b + line_break (nat_eq c 10)) (erred_by noting_error (slight_if odd) s) t)
-      → Took step view cdata ends sound number broken errors quiet old new c flow.Continue
+  pub took_odd : (odd : Bool) (old new : Tokenizer K) (c : ℕ) (st st' : State) → IsAt old st → IsAt new st' → new.stream ≡ old.stream → new.sink ≡ old.sink → Sink.is_sound (Sink.view old.sink)
+      → ((b : ℕ) (s : Sink.State × Notes ℕ) (t : List ℕ) → at Sink st old b s (c ∷ t) ≡ at Sink st' new (b + line_break (nat_eq c 10)) (erred_by noting_error (slight_if odd) s) t)
+      → Took Sink old new c flow.Continue
   took_odd odd old new c st st' from to stream same ok law = (noted_odd odd old new c st st' from to stream same ok law).0
 
   -- The character, which may be odd here, is taken by another state, behind what is noted of it.
   pub keeps_odd : (odd : Bool) (old mid new : Tokenizer K) (c : ℕ) (st st' : State) (result : Result (ProcessResult H) ParseFault) → IsAt old st → IsAt mid st' → mid.stream ≡ old.stream → mid.sink ≡ old.sink
-      → ((b : ℕ) (s : S × Notes ℕ) (t : List ℕ) → at step view cdata ends sound number broken errors quiet st old b s (c ∷ t) ≡ at step view cdata ends sound number broken errors quiet st' mid b (erred_by noting_error (slight_if odd) s) (c ∷ t))
-      → Keeps step view cdata ends sound number broken errors quiet mid new c result → Keeps step view cdata ends sound number broken errors quiet old new c result
+      → ((b : ℕ) (s : Sink.State × Notes ℕ) (t : List ℕ) → at Sink st old b s (c ∷ t) ≡ at Sink st' mid b (erred_by noting_error (slight_if odd) s) (c ∷ t))
+      → Keeps Sink mid new c result → Keeps Sink old new c result
   keeps_odd odd old mid new c st st' result from to stream same law h =
-      keeps_marked step view cdata ends sound number broken errors quiet odd old mid new c st st' result from to stream same
-      (λ b s t. law b s t ∙ ap (λ s. at step view cdata ends sound number broken errors quiet st' mid b s (c ∷ t)) (erred-more (slight_if odd) s)) h
+      keeps_marked Sink odd old mid new c st st' result from to stream same
+      (λ b s t. law b s t ∙ ap (λ s. at Sink st' mid b s (c ∷ t)) (erred-more (slight_if odd) s)) h
 
   -- What is noted of a character that is odd here is the same where something slight was noted before.
-  pub absorbs_odd : (old : Tokenizer K) (c : ℕ) (st : State) (odd : Bool) (next : ℕ → S × Notes ℕ → List ℕ → Result (S × Notes ℕ) (Refusal × ℕ)) → IsAt old st → odd ≡ true
-      → ((b : ℕ) (s : S × Notes ℕ) (t : List ℕ) → at step view cdata ends sound number broken errors quiet st old b s (c ∷ t) ≡ next b (erred_by noting_error (slight_if odd) s) t)
-      → Absorbs step view cdata ends sound number broken errors quiet old c
+  pub absorbs_odd : (old : Tokenizer K) (c : ℕ) (st : State) (odd : Bool) (next : ℕ → Sink.State × Notes ℕ → List ℕ → Result (Sink.State × Notes ℕ) (Refusal × ℕ)) → IsAt old st → odd ≡ true
+      → ((b : ℕ) (s : Sink.State × Notes ℕ) (t : List ℕ) → at Sink st old b s (c ∷ t) ≡ next b (erred_by noting_error (slight_if odd) s) t)
+      → Absorbs Sink old c
   absorbs_odd old c st odd next from is law b s t =
-      now-at step view cdata ends sound number broken errors quiet old st b s (c ∷ t) from
+      now-at Sink old st b s (c ∷ t) from
       ∙ law b s t
       ∙ ap (λ odd. next b (erred_by noting_error (slight_if odd) s) t) is
       ∙ ap (λ odd. next b (erred_by noting_error (slight_if odd) (noting_error Slight s)) t) (sym is)
       ∙ sym (law b (noting_error Slight s) t)
-      ∙ sym (now-at step view cdata ends sound number broken errors quiet old st b (noting_error Slight s) (c ∷ t) from)
+      ∙ sym (now-at Sink old st b (noting_error Slight s) (c ∷ t) from)

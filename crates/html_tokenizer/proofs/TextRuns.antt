@@ -17,6 +17,7 @@ use Rattle.html_tokens.specs.declared.states.State.{State}
 use Rattle.html_tokens.specs.declared.states.State.TheVariants as state
 use Rattle.html_tokens.specs.declared.token.Token.{Token}
 use Rattle.html_tokens.specs.declared.token.Token.TheVariants.{CharacterTokens}
+use Rattle.html_tokens.specs.declared.sink.TokenSink.{Ghosts}
 use Rattle.html_tokens.specs.Characters.{ends_word, shown}
 use Rattle.html_tokens.specs.Item.{Fault, Place, InData, InPlaintext, InRaw, Stand, character}
 use Rattle.html_tokens.specs.Items.{item}
@@ -137,41 +138,41 @@ lacking-in a b run e lacking = rw (some-same a b e) lacking
 
 -- STATES
 
-module _ {K S H : Type 0} (step : Step S) (view : K → S) (cdata : S → Bool) (ends : S → S) (sound : S → Type 0) (number : H → ℕ) (broken : K → Bool) (errors : K → ℕ) (quiet : S → Token → Bool) where
+module _ {K H : Type 0} (Sink : Ghosts K H) where
   -- A run is told next, as one text.
   abbrev RunSays : State → Tokenizer K → List ℕ → Type 0
-  RunSays st old run = (b : ℕ) (s : S × Notes ℕ) → sound s.0 → (t : List ℕ) → at step view cdata ends sound number broken errors quiet st old b s (run ++ t) ≡ (noting step quiet s (CharacterTokens run) (line_number b) >>= λ p. at step view cdata ends sound number broken errors quiet st old b p.0 t)
+  RunSays st old run = (b : ℕ) (s : Sink.State × Notes ℕ) → Sink.is_sound s.0 → (t : List ℕ) → at Sink st old b s (run ++ t) ≡ (noting Sink.step Sink.is_quiet s (CharacterTokens run) (line_number b) >>= λ p. at Sink st old b p.0 t)
 
-  run-kept : (old new : Tokenizer K) (run : List ℕ) (st : State) (result : Result (Unit {0}) ParseFault) → IsAt old st → sound (view old.sink) → Tells step view cdata ends sound number broken errors quiet nothing (CharacterTokens run) old new result → RunSays st old run
-      → KeepsRun step view cdata ends sound number broken errors quiet old new run result
+  run-kept : (old new : Tokenizer K) (run : List ℕ) (st : State) (result : Result (Unit {0}) ParseFault) → IsAt old st → Sink.is_sound (Sink.view old.sink) → Tells Sink nothing (CharacterTokens run) old new result → RunSays st old run
+      → KeepsRun Sink old new run result
   run-kept old new run st (Ok x) from ok told law = record {
-    owed = hearing (quiet (view old.sink) (CharacterTokens run)) nothing;
+    owed = hearing (Sink.is_quiet (Sink.view old.sink) (CharacterTokens run)) nothing;
     rises = told.rises;
     same = λ notes t.
-        now-at step view cdata ends sound number broken errors quiet old st old.stream.breaks (view old.sink, notes) (run ++ t) from
-        ∙ law old.stream.breaks (view old.sink, notes) ok t
-        ∙ told-next step view cdata ends sound number broken errors quiet nothing old new (CharacterTokens run) notes (λ s. at step view cdata ends sound number broken errors quiet st old old.stream.breaks s t) told
-        ∙ sym (now-target step view cdata ends sound number broken errors quiet old new.sink st old.stream.breaks (view new.sink, more (hearing (quiet (view old.sink) (CharacterTokens run)) nothing) notes) t from)
-        ∙ sym (ap (λ k. now step view cdata ends sound number broken errors quiet k old.stream.breaks (view new.sink, more (hearing (quiet (view old.sink) (CharacterTokens run)) nothing) notes) t) told.changed);
+        now-at Sink old st old.stream.breaks (Sink.view old.sink, notes) (run ++ t) from
+        ∙ law old.stream.breaks (Sink.view old.sink, notes) ok t
+        ∙ told-next Sink nothing old new (CharacterTokens run) notes (λ s. at Sink st old old.stream.breaks s t) told
+        ∙ sym (now-target Sink old new.sink st old.stream.breaks (Sink.view new.sink, more (hearing (Sink.is_quiet (Sink.view old.sink) (CharacterTokens run)) nothing) notes) t from)
+        ∙ sym (ap (λ k. now Sink k old.stream.breaks (Sink.view new.sink, more (hearing (Sink.is_quiet (Sink.view old.sink) (CharacterTokens run)) nothing) notes) t) told.changed);
     stream = ap (λ k. k.stream) told.changed;
     sound = told.sound;
     fits = ap (λ k. fits_in k.char_ref k.state) told.changed ∙ fits-at old st from;
     works = λ h. told-works told.works h;
   }
   run-kept old new run st (Err fault) from ok fails law = λ notes t.
-      token-fails step view cdata ends sound number broken errors quiet old.sink _ (view old.sink) notes (CharacterTokens run) (line_number old.stream.breaks) fault _ fails
-      (now-at step view cdata ends sound number broken errors quiet old st old.stream.breaks (view old.sink, notes) (run ++ t) from ∙ law old.stream.breaks (view old.sink, notes) ok t)
+      token-fails Sink old.sink _ (Sink.view old.sink) notes (CharacterTokens run) (line_number old.stream.breaks) fault _ fails
+      (now-at Sink old st old.stream.breaks (Sink.view old.sink, notes) (run ++ t) from ∙ law old.stream.breaks (Sink.view old.sink, notes) ok t)
 
   -- A character was taken, and then a run.
-  took-then : (old mid new : Tokenizer K) (c : ℕ) (run : List ℕ) → nat_eq c 10 ≡ false → Took step view cdata ends sound number broken errors quiet old mid c flow.Continue → TookRun step view cdata ends sound number broken errors quiet mid new run → TookRun step view cdata ends sound number broken errors quiet old new (c ∷ run)
+  took-then : (old mid new : Tokenizer K) (c : ℕ) (run : List ℕ) → nat_eq c 10 ≡ false → Took Sink old mid c flow.Continue → TookRun Sink mid new run → TookRun Sink old new (c ∷ run)
   took-then old mid new c run unbroken first rest = record {
     owed = together rest.owed first.owed;
-    rises = rises-then errors old.sink mid.sink new.sink first.rises rest.rises;
+    rises = rises-then Sink.errors old.sink mid.sink new.sink first.rises rest.rises;
     same = λ notes t.
         first.same notes (run ++ t)
-        ∙ ap (λ n. now step view cdata ends sound number broken errors quiet mid n (view mid.sink, more first.owed notes) (run ++ t)) (no-break old.stream.breaks c unbroken)
+        ∙ ap (λ n. now Sink mid n (Sink.view mid.sink, more first.owed notes) (run ++ t)) (no-break old.stream.breaks c unbroken)
         ∙ (rw (← first.stream) (rest.same (more first.owed notes) t))
-        ∙ ap (λ n. now step view cdata ends sound number broken errors quiet new old.stream.breaks (view new.sink, n) t) (more-more rest.owed first.owed notes);
+        ∙ ap (λ n. now Sink new old.stream.breaks (Sink.view new.sink, n) t) (more-more rest.owed first.owed notes);
     stream = rest.stream ∙ first.stream;
     sound = rest.sound;
     fits = rest.fits;
@@ -179,11 +180,11 @@ module _ {K S H : Type 0} (step : Step S) (view : K → S) (cdata : S → Bool) 
   }
 
   -- Errors were told, and then a run was taken that is quiet only where none were.
-  erred-run : (old mid new : Tokenizer K) (run : List ℕ) (owed : Owed) → Erred step view cdata ends sound number broken errors quiet owed old mid → (took : TookRun step view cdata ends sound number broken errors quiet mid new run) → (took.owed.is_quiet ≡ true → owed.is_quiet ≡ true) → TookRun step view cdata ends sound number broken errors quiet old new run
+  erred-run : (old mid new : Tokenizer K) (run : List ℕ) (owed : Owed) → Erred Sink owed old mid → (took : TookRun Sink mid new run) → (took.owed.is_quiet ≡ true → owed.is_quiet ≡ true) → TookRun Sink old new run
   erred-run old mid new run owed h took quiet-too = record {
     owed = took.owed;
-    rises = rises-less errors old.sink new.sink (record { faults = omega arith; quiet = λ e. and_from took.owed.is_quiet owed.is_quiet e (quiet-too e) }) (rises-then errors old.sink mid.sink new.sink h.rises took.rises);
-    same = λ notes t. erred-now step view cdata ends sound number broken errors quiet old mid old.stream.breaks notes (run ++ t) h ∙ (rw (← ap (λ k. k.stream) h.changed) (took.same notes t));
+    rises = rises-less Sink.errors old.sink new.sink (record { faults = omega arith; quiet = λ e. and_from took.owed.is_quiet owed.is_quiet e (quiet-too e) }) (rises-then Sink.errors old.sink mid.sink new.sink h.rises took.rises);
+    same = λ notes t. erred-now Sink old mid old.stream.breaks notes (run ++ t) h ∙ (rw (← ap (λ k. k.stream) h.changed) (took.same notes t));
     stream = took.stream ∙ ap (λ k. k.stream) h.changed;
     sound = took.sound;
     fits = took.fits;
@@ -192,47 +193,47 @@ module _ {K S H : Type 0} (step : Step S) (view : K → S) (cdata : S → Bool) 
 
   -- A machine by what it holds of a text, where each character that is not in a set is held behind the others, and is quiet only
   -- where it is not odd.
-  module _ (machine : List ℕ → Tokenizer K) (bits : ℕ) (odd : ℕ → Bool) (unbroken : has bits 10 ≡ true) (ok : (front : List ℕ) → sound (view (machine front).sink)) (fits : (front : List ℕ) → fits_in (machine front).char_ref (machine front).state ≡ true)
-      (each : (front : List ℕ) (c : ℕ) → has bits c ≡ false → (took : Took step view cdata ends sound number broken errors quiet (machine front) (machine (front ++ c ∷ [])) c flow.Continue) × (took.owed.is_quiet ≡ true → odd c ≡ false)) where
-    run-noted : (front run : List ℕ) → All (λ c. has bits c ≡ false) run → (took : TookRun step view cdata ends sound number broken errors quiet (machine front) (machine (front ++ run)) run) × (took.owed.is_quiet ≡ true → how_many odd run ≡ 0)
+  module _ (machine : List ℕ → Tokenizer K) (bits : ℕ) (odd : ℕ → Bool) (unbroken : has bits 10 ≡ true) (ok : (front : List ℕ) → Sink.is_sound (Sink.view (machine front).sink)) (fits : (front : List ℕ) → fits_in (machine front).char_ref (machine front).state ≡ true)
+      (each : (front : List ℕ) (c : ℕ) → has bits c ≡ false → (took : Took Sink (machine front) (machine (front ++ c ∷ [])) c flow.Continue) × (took.owed.is_quiet ≡ true → odd c ≡ false)) where
+    run-noted : (front run : List ℕ) → All (λ c. has bits c ≡ false) run → (took : TookRun Sink (machine front) (machine (front ++ run)) run) × (took.owed.is_quiet ≡ true → how_many odd run ≡ 0)
     unfolding took-then
     run-noted front [] lacking =
-        let none : (took : TookRun step view cdata ends sound number broken errors quiet (machine front) (machine front) []) × (took.owed.is_quiet ≡ true → how_many odd [] ≡ 0) =
-        (record { owed = nothing; rises = rises-same errors (machine front).sink (machine front).sink refl; same = λ notes t. refl; stream = refl; sound = ok front; fits = fits front; works = λ h. h }, λ h. refl) in
+        let none : (took : TookRun Sink (machine front) (machine front) []) × (took.owed.is_quiet ≡ true → how_many odd [] ≡ 0) =
+        (record { owed = nothing; rises = rises-same Sink.errors (machine front).sink (machine front).sink refl; same = λ notes t. refl; stream = refl; sound = ok front; fits = fits front; works = λ h. h }, λ h. refl) in
         rw (append-nil front) none
     run-noted front (c ∷ run) lacking =
         let lacks = All-head (λ c. has bits c ≡ false) c run lacking in
         let first = each front c lacks in
         let rest = run-noted (front ++ c ∷ []) run (All-tail (λ c. has bits c ≡ false) c run lacking) in
-        let both : (took : TookRun step view cdata ends sound number broken errors quiet (machine front) (machine ((front ++ c ∷ []) ++ run)) (c ∷ run)) × (took.owed.is_quiet ≡ true → how_many odd (c ∷ run) ≡ 0) = (
+        let both : (took : TookRun Sink (machine front) (machine ((front ++ c ∷ []) ++ run)) (c ∷ run)) × (took.owed.is_quiet ≡ true → how_many odd (c ∷ run) ≡ 0) = (
           took-then (machine front) (machine (front ++ c ∷ [])) (machine ((front ++ c ∷ []) ++ run)) c run (not-member bits c 10 unbroken lacks) first.0 rest.0,
           λ h. none-odd odd c run (first.1 (and_parts rest.0.owed.is_quiet first.0.owed.is_quiet h).1) (rest.1 (and_parts rest.0.owed.is_quiet first.0.owed.is_quiet h).0),
         ) in
         rw (append_assoc front (c ∷ []) run) at both
 
   -- The same, where nothing is said of what is odd.
-  run-held : (machine : List ℕ → Tokenizer K) (bits : ℕ) → has bits 10 ≡ true → ((front : List ℕ) → sound (view (machine front).sink)) → ((front : List ℕ) → fits_in (machine front).char_ref (machine front).state ≡ true)
-      → ((front : List ℕ) (c : ℕ) → has bits c ≡ false → Took step view cdata ends sound number broken errors quiet (machine front) (machine (front ++ c ∷ [])) c flow.Continue)
-      → (front run : List ℕ) → All (λ c. has bits c ≡ false) run → TookRun step view cdata ends sound number broken errors quiet (machine front) (machine (front ++ run)) run
+  run-held : (machine : List ℕ → Tokenizer K) (bits : ℕ) → has bits 10 ≡ true → ((front : List ℕ) → Sink.is_sound (Sink.view (machine front).sink)) → ((front : List ℕ) → fits_in (machine front).char_ref (machine front).state ≡ true)
+      → ((front : List ℕ) (c : ℕ) → has bits c ≡ false → Took Sink (machine front) (machine (front ++ c ∷ [])) c flow.Continue)
+      → (front run : List ℕ) → All (λ c. has bits c ≡ false) run → TookRun Sink (machine front) (machine (front ++ run)) run
   run-held machine bits unbroken ok fits each front run lacking = (run-noted machine bits (λ c. false) unbroken ok fits (λ front c lacks. (each front c lacks, λ h. refl)) front run lacking).0
 
   -- A run is held, if there is memory.
-  held-kept : (old : Tokenizer K) (machine : List ℕ → Tokenizer K) (front whole run : List ℕ) (result : Result (Unit {0}) ParseFault) → OnOk result (front ≡ whole) → IfErr result (λ fault. fault ≡ Memory) → TookRun step view cdata ends sound number broken errors quiet old (machine whole) run
-      → KeepsRun step view cdata ends sound number broken errors quiet old (machine front) run result
+  held-kept : (old : Tokenizer K) (machine : List ℕ → Tokenizer K) (front whole run : List ℕ) (result : Result (Unit {0}) ParseFault) → OnOk result (front ≡ whole) → IfErr result (λ fault. fault ≡ Memory) → TookRun Sink old (machine whole) run
+      → KeepsRun Sink old (machine front) run result
   held-kept old machine front whole run (Ok x) is fault took = rw is took
   held-kept old machine front whole run (Err e) is fault took = rw fault (λ notes t. tt)
 
-  quoted-run : (old : Tokenizer K) (kind : AttrValueKind) (quote : ℕ) (bits : ℕ) (run : List ℕ) → IsAt old (state.AttributeValue kind) → sound (view old.sink) → quote_of kind ≡ Some quote
+  quoted-run : (old : Tokenizer K) (kind : AttrValueKind) (quote : ℕ) (bits : ℕ) (run : List ℕ) → IsAt old (state.AttributeValue kind) → Sink.is_sound (Sink.view old.sink) → quote_of kind ≡ Some quote
       → has bits 0 ≡ true → has bits 10 ≡ true → has bits 38 ≡ true → has bits quote ≡ true → All (λ c. has bits c ≡ false) run
-      → TookRun step view cdata ends sound number broken errors quiet old (record old { attribute_value = old.attribute_value ++ run }) run
+      → TookRun Sink old (record old { attribute_value = old.attribute_value ++ run }) run
   quoted-run old kind quote bits run from ok quoted null unbroken amp ended lacking =
       run-held (λ front. record old { attribute_value = front }) bits unbroken (λ front. ok) (λ front. fits-at old (state.AttributeValue kind) from)
-      (λ front c lacks. quoted-more step view cdata ends sound number broken errors quiet (record old { attribute_value = front }) kind quote c (front ++ c ∷ []) (record { state = from.state; fresh = from.fresh }) ok quoted (differs bits c quote ended lacks) (differs bits c 38 amp lacks) (ap (λ d. front ++ d ∷ []) (sym (shown-same c (not-member bits c 0 null lacks)))))
+      (λ front c lacks. quoted-more Sink (record old { attribute_value = front }) kind quote c (front ++ c ∷ []) (record { state = from.state; fresh = from.fresh }) ok quoted (differs bits c quote ended lacks) (differs bits c 38 amp lacks) (ap (λ d. front ++ d ∷ []) (sym (shown-same c (not-member bits c 0 null lacks)))))
       old.attribute_value run lacking
 
   -- a run of a value in quotes
-  value-run : (old : Tokenizer K) (kind : AttrValueKind) (run : List ℕ) → kind ≢ value.Unquoted → IsAt old (state.AttributeValue kind) → sound (view old.sink) → (set : SmallCharSet) → Some (value_stops kind) ≡ Some set → All (λ c. has set.bits c ≡ false) run
-      → TookRun step view cdata ends sound number broken errors quiet old (record old { attribute_value = old.attribute_value ++ run }) run
+  value-run : (old : Tokenizer K) (kind : AttrValueKind) (run : List ℕ) → kind ≢ value.Unquoted → IsAt old (state.AttributeValue kind) → Sink.is_sound (Sink.view old.sink) → (set : SmallCharSet) → Some (value_stops kind) ≡ Some set → All (λ c. has set.bits c ≡ false) run
+      → TookRun Sink old (record old { attribute_value = old.attribute_value ++ run }) run
   value-run old value.Unquoted run quoted from ok set are lacking = absurd (quoted refl)
   value-run old value.SingleQuoted run quoted from ok set are lacking =
       quoted-run old value.SingleQuoted 39 (value_stops value.SingleQuoted).bits run from ok refl refl refl refl refl (lacking-in (value_stops value.SingleQuoted) set run are lacking)
@@ -240,69 +241,69 @@ module _ {K S H : Type 0} (step : Step S) (view : K → S) (cdata : S → Bool) 
       quoted-run old value.DoubleQuoted 34 (value_stops value.DoubleQuoted).bits run from ok refl refl refl refl refl (lacking-in (value_stops value.DoubleQuoted) set run are lacking)
 
   -- a run was taken in a value in quotes
-  pub value_run-kept : (old : Tokenizer K) (kind : AttrValueKind) (front run : List ℕ) (result : Result (Unit {0}) ParseFault) → kind ≢ value.Unquoted → IsRunAt old run → sound (view old.sink) → old.state ≡ state.AttributeValue kind
+  pub value_run-kept : (old : Tokenizer K) (kind : AttrValueKind) (front run : List ℕ) (result : Result (Unit {0}) ParseFault) → kind ≢ value.Unquoted → IsRunAt old run → Sink.is_sound (Sink.view old.sink) → old.state ≡ state.AttributeValue kind
       → OnOk result (front ≡ old.attribute_value ++ run) → IfErr result (λ fault. fault ≡ Memory)
-      → KeepsRun step view cdata ends sound number broken errors quiet old (record old { attribute_value = front }) run result
+      → KeepsRun Sink old (record old { attribute_value = front }) run result
   value_run-kept old kind front run result quoted runs ok is grown fault =
       let from = run-at old run runs in
       held-kept old (λ front. record old { attribute_value = front }) front (old.attribute_value ++ run) run result grown fault
       (value-run old kind run quoted (record { state = is; fresh = from.0.fresh }) ok runs.stops (rw is at from.1) runs.lacking)
 
   -- a run of a value without quotes is held, and what is odd in it is noted
-  unquoted-run : (old : Tokenizer K) (run : List ℕ) → IsAt old (state.AttributeValue value.Unquoted) → sound (view old.sink) → All (λ c. has (value_stops value.Unquoted).bits c ≡ false) run
-      → (took : TookRun step view cdata ends sound number broken errors quiet old (record old { attribute_value = old.attribute_value ++ run }) run) × (took.owed.is_quiet ≡ true → how_many is_odd_unquoted run ≡ 0)
+  unquoted-run : (old : Tokenizer K) (run : List ℕ) → IsAt old (state.AttributeValue value.Unquoted) → Sink.is_sound (Sink.view old.sink) → All (λ c. has (value_stops value.Unquoted).bits c ≡ false) run
+      → (took : TookRun Sink old (record old { attribute_value = old.attribute_value ++ run }) run) × (took.owed.is_quiet ≡ true → how_many is_odd_unquoted run ≡ 0)
   unquoted-run old run from ok lacking =
       let bits = (value_stops value.Unquoted).bits in
       run-noted (λ front. record old { attribute_value = front }) bits is_odd_unquoted refl (λ front. ok) (λ front. fits-at old (state.AttributeValue value.Unquoted) from)
       (λ front c lacks. rw (shown-same c (not-member bits c 0 refl lacks)) at (
-      unquoted-held step view cdata ends sound number broken errors quiet (record old { attribute_value = front }) c (record { state = from.state; fresh = from.fresh }) ok (no-end c lacks) (not-member bits c 38 refl lacks)))
+      unquoted-held Sink (record old { attribute_value = front }) c (record { state = from.state; fresh = from.fresh }) ok (no-end c lacks) (not-member bits c 38 refl lacks)))
       old.attribute_value run lacking
 
   -- errors of a run of a value without quotes were told, and then it was taken
-  pub unquoted_run-kept : (old mid : Tokenizer K) (front run : List ℕ) (result : Result (Unit {0}) ParseFault) → IsRunAt old run → sound (view old.sink) → old.state ≡ state.AttributeValue value.Unquoted
-      → Erred step view cdata ends sound number broken errors quiet (owed_for_each is_odd_unquoted run) old mid → OnOk result (front ≡ mid.attribute_value ++ run) → IfErr result (λ fault. fault ≡ Memory)
-      → KeepsRun step view cdata ends sound number broken errors quiet old (record mid { attribute_value = front }) run result
+  pub unquoted_run-kept : (old mid : Tokenizer K) (front run : List ℕ) (result : Result (Unit {0}) ParseFault) → IsRunAt old run → Sink.is_sound (Sink.view old.sink) → old.state ≡ state.AttributeValue value.Unquoted
+      → Erred Sink (owed_for_each is_odd_unquoted run) old mid → OnOk result (front ≡ mid.attribute_value ++ run) → IfErr result (λ fault. fault ≡ Memory)
+      → KeepsRun Sink old (record mid { attribute_value = front }) run result
   unquoted_run-kept old mid front run result runs ok is told grown fault =
       let from = run-at old run runs in
       let at : IsAt old (state.AttributeValue value.Unquoted) = record { state = is; fresh = from.0.fresh } in
-      let took = unquoted-run mid run (at_erred step view cdata ends sound number broken errors quiet old mid (state.AttributeValue value.Unquoted) told at) (sound_erred step view cdata ends sound number broken errors quiet old mid told ok) (lacking-in (value_stops value.Unquoted) runs.stops run (rw is at from.1) runs.lacking) in
+      let took = unquoted-run mid run (at_erred Sink old mid (state.AttributeValue value.Unquoted) told at) (sound_erred Sink old mid told ok) (lacking-in (value_stops value.Unquoted) runs.stops run (rw is at from.1) runs.lacking) in
       held-kept old (λ front. record mid { attribute_value = front }) front (mid.attribute_value ++ run) run result grown fault
       (erred-run old mid (record mid { attribute_value = mid.attribute_value ++ run }) run (owed_for_each is_odd_unquoted run) told took.0 (λ e. ap (λ n. nat_eq n 0) (took.1 e)))
 
-module _ {K S H : Type 0} (step : Step S) (view : K → S) (cdata : S → Bool) (ends : S → S) (sound : S → Type 0) (number : H → ℕ) (broken : K → Bool) (errors : K → ℕ) (quiet : S → Token → Bool) (laws : SinkLaws sound step ends quiet) where
+module _ {K H : Type 0} (Sink : Ghosts K H) (laws : SinkLaws Sink.is_sound Sink.step Sink.ended Sink.is_quiet) where
   -- a run of a comment
-  comment-run : (old : Tokenizer K) (st : State) (run : List ℕ) → IsAt old st → (st ≡ state.BogusComment) ⊎ (st ≡ state.Comment) → sound (view old.sink) → (set : SmallCharSet) → state_stops st ≡ Some set → All (λ c. has set.bits c ≡ false) run
-      → TookRun step view cdata ends sound number broken errors quiet old (record old { comment = old.comment ++ run }) run
+  comment-run : (old : Tokenizer K) (st : State) (run : List ℕ) → IsAt old st → (st ≡ state.BogusComment) ⊎ (st ≡ state.Comment) → Sink.is_sound (Sink.view old.sink) → (set : SmallCharSet) → state_stops st ≡ Some set → All (λ c. has set.bits c ≡ false) run
+      → TookRun Sink old (record old { comment = old.comment ++ run }) run
   comment-run old st run from (inl e) ok set are lacking =
       let bits = (with_breaks (62 ∷ [])).bits in
-      run-held step view cdata ends sound number broken errors quiet (λ front. record old { comment = front }) bits refl (λ front. ok) (λ front. fits-at old st from)
-      (λ front c lacks. bogus-push step view cdata ends sound number broken errors quiet laws (record old { comment = front }) c ok (front ++ c ∷ []) (record { state = from.state ∙ e; fresh = from.fresh }) (not-member bits c 62 refl lacks) (ap (λ d. front ++ d ∷ []) (sym (shown-same c (not-member bits c 0 refl lacks)))))
+      run-held Sink (λ front. record old { comment = front }) bits refl (λ front. ok) (λ front. fits-at old st from)
+      (λ front c lacks. bogus-push Sink laws (record old { comment = front }) c ok (front ++ c ∷ []) (record { state = from.state ∙ e; fresh = from.fresh }) (not-member bits c 62 refl lacks) (ap (λ d. front ++ d ∷ []) (sym (shown-same c (not-member bits c 0 refl lacks)))))
       old.comment run (lacking-in (with_breaks (62 ∷ [])) set run (rw e at are) lacking)
   comment-run old st run from (inr e) ok set are lacking =
       let bits = (with_breaks (45 ∷ [])).bits in
-      run-held step view cdata ends sound number broken errors quiet (λ front. record old { comment = front }) bits refl (λ front. ok) (λ front. fits-at old st from)
-      (λ front c lacks. comment-push step view cdata ends sound number broken errors quiet laws (record old { comment = front }) c ok (front ++ c ∷ []) (record { state = from.state ∙ e; fresh = from.fresh }) (not-member bits c 45 refl lacks) (ap (λ d. front ++ d ∷ []) (sym (shown-same c (not-member bits c 0 refl lacks)))))
+      run-held Sink (λ front. record old { comment = front }) bits refl (λ front. ok) (λ front. fits-at old st from)
+      (λ front c lacks. comment-push Sink laws (record old { comment = front }) c ok (front ++ c ∷ []) (record { state = from.state ∙ e; fresh = from.fresh }) (not-member bits c 45 refl lacks) (ap (λ d. front ++ d ∷ []) (sym (shown-same c (not-member bits c 0 refl lacks)))))
       old.comment run (lacking-in (with_breaks (45 ∷ [])) set run (rw e at are) lacking)
 
   -- a run was taken in a comment
-  pub comment_run-kept : (old : Tokenizer K) (front run : List ℕ) (result : Result (Unit {0}) ParseFault) → IsRunAt old run → sound (view old.sink) → (old.state ≡ state.BogusComment) ⊎ (old.state ≡ state.Comment)
+  pub comment_run-kept : (old : Tokenizer K) (front run : List ℕ) (result : Result (Unit {0}) ParseFault) → IsRunAt old run → Sink.is_sound (Sink.view old.sink) → (old.state ≡ state.BogusComment) ⊎ (old.state ≡ state.Comment)
       → OnOk result (front ≡ old.comment ++ run) → IfErr result (λ fault. fault ≡ Memory)
-      → KeepsRun step view cdata ends sound number broken errors quiet old (record old { comment = front }) run result
+      → KeepsRun Sink old (record old { comment = front }) run result
   comment_run-kept old front run result runs ok is grown fault =
       let from = run-at old run runs in
-      held-kept step view cdata ends sound number broken errors quiet old (λ front. record old { comment = front }) front (old.comment ++ run) run result grown fault
+      held-kept Sink old (λ front. record old { comment = front }) front (old.comment ++ run) run result grown fault
       (comment-run old old.state run from.0 is ok runs.stops from.1 runs.lacking)
 
   -- A run of text is told as one.
   place-says : (old : Tokenizer K) (place : Place) (bits : ℕ) (run : List ℕ) → has bits 10 ≡ true → 0 < length run → All (λ c. has bits c ≡ false) run
       → ((c : ℕ) → has bits c ≡ false → (x : Bool) (t : List ℕ) → item (rows_of old) x (standing old place) c t ≡ character c (standing old place))
-      → (b : ℕ) (s : S × Notes ℕ) → sound s.0 → (t : List ℕ)
-      → reading (noting step quiet) noting_error (noting_cdata cdata) (noting_end ends) (rows_of old) (standing old place) b s (run ++ t) ≡ (noting step quiet s (CharacterTokens run) (line_number b) >>= λ p. reading (noting step quiet) noting_error (noting_cdata cdata) (noting_end ends) (rows_of old) (standing old place) b p.0 t)
+      → (b : ℕ) (s : Sink.State × Notes ℕ) → Sink.is_sound s.0 → (t : List ℕ)
+      → reading (noting Sink.step Sink.is_quiet) noting_error (noting_cdata Sink.asks_cdata) (noting_end Sink.ended) (rows_of old) (standing old place) b s (run ++ t) ≡ (noting Sink.step Sink.is_quiet s (CharacterTokens run) (line_number b) >>= λ p. reading (noting Sink.step Sink.is_quiet) noting_error (noting_cdata Sink.asks_cdata) (noting_end Sink.ended) (rows_of old) (standing old place) b p.0 t)
   place-says old place bits run unbroken filled lacking plain b s h t =
-      run-told (λ p. sound p.0) (noting step quiet) noting_error (noting_cdata cdata) (noting_end ends) (rows_of old) (noting-lawful sound step ends quiet laws) bits unbroken (standing old place) plain b s h run t (line_number b) filled lacking
+      run-told (λ p. Sink.is_sound p.0) (noting Sink.step Sink.is_quiet) noting_error (noting_cdata Sink.asks_cdata) (noting_end Sink.ended) (rows_of old) (noting-lawful Sink.is_sound Sink.step Sink.ended Sink.is_quiet laws) bits unbroken (standing old place) plain b s h run t (line_number b) filled lacking
 
   text-says : (old : Tokenizer K) (st : State) (set : SmallCharSet) (run : List ℕ) → state_stops st ≡ Some set → ((kind : AttrValueKind) → st ≢ state.AttributeValue kind) → st ≢ state.BogusComment → st ≢ state.Comment
-      → 0 < length run → All (λ c. has set.bits c ≡ false) run → RunSays step view cdata ends sound number broken errors quiet st old run
+      → 0 < length run → All (λ c. has set.bits c ≡ false) run → RunSays Sink st old run
   unfolding held_at
   text-says old state.Data set run are e f g filled lacking =
       place-says old InData (with_breaks (38 ∷ 60 ∷ [])).bits run refl filled (lacking-in (with_breaks (38 ∷ 60 ∷ [])) set run are lacking) (data-plain old)
@@ -316,8 +317,8 @@ module _ {K S H : Type 0} (step : Step S) (view : K → S) (cdata : S → Bool) 
   text-says old _ set run are e f g filled lacking = absurd cc
 
   -- a run was told as text
-  pub text_run-kept : (old new : Tokenizer K) (run : List ℕ) (result : Result (Unit {0}) ParseFault) → IsRunAt old run → sound (view old.sink) → ((kind : AttrValueKind) → old.state ≢ state.AttributeValue kind) → old.state ≢ state.BogusComment → old.state ≢ state.Comment
-      → Tells step view cdata ends sound number broken errors quiet nothing (CharacterTokens run) old new result → KeepsRun step view cdata ends sound number broken errors quiet old new run result
+  pub text_run-kept : (old new : Tokenizer K) (run : List ℕ) (result : Result (Unit {0}) ParseFault) → IsRunAt old run → Sink.is_sound (Sink.view old.sink) → ((kind : AttrValueKind) → old.state ≢ state.AttributeValue kind) → old.state ≢ state.BogusComment → old.state ≢ state.Comment
+      → Tells Sink nothing (CharacterTokens run) old new result → KeepsRun Sink old new run result
   text_run-kept old new run result runs ok e f g told =
       let from = run-at old run runs in
-      run-kept step view cdata ends sound number broken errors quiet old new run old.state result from.0 ok told (text-says old old.state runs.stops run from.1 e f g runs.filled runs.lacking)
+      run-kept Sink old new run old.state result from.0 ok told (text-says old old.state runs.stops run from.1 e f g runs.filled runs.lacking)

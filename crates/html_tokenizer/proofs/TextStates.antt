@@ -7,6 +7,7 @@ use Rattle.html_tokens.specs.declared.replies.ProcessResult.TheVariants as flow
 use Rattle.html_tokens.specs.declared.states.State.TheVariants as state
 use Rattle.html_tokens.specs.declared.token.Token.{Token}
 use Rattle.html_tokens.specs.declared.token.Token.TheVariants.{CharacterTokens, NullCharacterToken}
+use Rattle.html_tokens.specs.declared.sink.TokenSink.{Ghosts}
 use Rattle.html_tokens.specs.Characters.{shown}
 use Rattle.html_tokens.specs.Notes.{noting, noting_error, noting_cdata, noting_end}
 use Rattle.html_tokens.specs.Item.{Grave, grave_if, InData, InPlaintext}
@@ -22,42 +23,42 @@ use Rattle.html_tokenizer.proofs.ShownTexts.{reading-shown}
 use Rattle.html_tokenizer.proofs.Glue.{Says, took, at}
 use Rattle.html_tokenizer.proofs.Telling.{keeps_taken, took_reference}
 
-module _ {K S H : Type 0} (step : Step S) (view : K → S) (cdata : S → Bool) (ends : S → S) (sound : S → Type 0) (number : H → ℕ) (broken : K → Bool) (errors : K → ℕ) (quiet : S → Token → Bool) (laws : SinkLaws sound step ends quiet) where
-  plaintext-says : (old : Tokenizer K) (c : ℕ) → Says step view cdata ends sound number broken errors quiet state.Plaintext old c (owed_for (grave_if (nat_eq c 0))) (CharacterTokens (shown c ∷ [])) (λ b s t. at step view cdata ends sound number broken errors quiet state.Plaintext old (b + line_break (nat_eq c 10)) s t)
+module _ {K H : Type 0} (Sink : Ghosts K H) (laws : SinkLaws Sink.is_sound Sink.step Sink.ended Sink.is_quiet) where
+  plaintext-says : (old : Tokenizer K) (c : ℕ) → Says Sink state.Plaintext old c (owed_for (grave_if (nat_eq c 0))) (CharacterTokens (shown c ∷ [])) (λ b s t. at Sink state.Plaintext old (b + line_break (nat_eq c 10)) s t)
   unfolding held_at
   plaintext-says old c b s h t =
       let plain = standing old InPlaintext in
-      reading-shown step cdata ends sound quiet laws (rows_of old) plain plain b s h c t refl
+      reading-shown Sink.step Sink.asks_cdata Sink.ended Sink.is_sound Sink.is_quiet laws (rows_of old) plain plain b s h c t refl
 
-  pub plaintext-kept : (old new : Tokenizer K) (c : ℕ) (result : Result (ProcessResult H) ParseFault) → IsAt old state.Plaintext → sound (view old.sink) → TakesAs step view cdata ends sound number broken errors quiet (owed_for (grave_if (nat_eq c 0))) (CharacterTokens (shown c ∷ [])) old new result → Keeps step view cdata ends sound number broken errors quiet old new c result
-  plaintext-kept old new c result from ok told = keeps_taken step view cdata ends sound number broken errors quiet (owed_for (grave_if (nat_eq c 0))) old old new c state.Plaintext state.Plaintext (CharacterTokens (shown c ∷ [])) result from from refl refl ok told (plaintext-says old c)
+  pub plaintext-kept : (old new : Tokenizer K) (c : ℕ) (result : Result (ProcessResult H) ParseFault) → IsAt old state.Plaintext → Sink.is_sound (Sink.view old.sink) → TakesAs Sink (owed_for (grave_if (nat_eq c 0))) (CharacterTokens (shown c ∷ [])) old new result → Keeps Sink old new c result
+  plaintext-kept old new c result from ok told = keeps_taken Sink (owed_for (grave_if (nat_eq c 0))) old old new c state.Plaintext state.Plaintext (CharacterTokens (shown c ∷ [])) result from from refl refl ok told (plaintext-says old c)
 
-  data-char : (old : Tokenizer K) (c : ℕ) → nat_eq c 60 ≡ false → nat_eq c 38 ≡ false → nat_eq c 0 ≡ false → Says step view cdata ends sound number broken errors quiet state.Data old c nothing (CharacterTokens (c ∷ [])) (λ b s t. at step view cdata ends sound number broken errors quiet state.Data old (b + line_break (nat_eq c 10)) s t)
+  data-char : (old : Tokenizer K) (c : ℕ) → nat_eq c 60 ≡ false → nat_eq c 38 ≡ false → nat_eq c 0 ≡ false → Says Sink state.Data old c nothing (CharacterTokens (c ∷ [])) (λ b s t. at Sink state.Data old (b + line_break (nat_eq c 10)) s t)
   unfolding held_at
   data-char old c f g z b s h t =
       let plain = standing old InData in
-      reading-char (λ p. sound p.0) (noting step quiet) noting_error (noting_cdata cdata) (noting_end ends) (rows_of old) (noting-lawful sound step ends quiet laws) plain plain b s h c c t (line_number b) (rw (f, g, z) refl)
+      reading-char (λ p. Sink.is_sound p.0) (noting Sink.step Sink.is_quiet) noting_error (noting_cdata Sink.asks_cdata) (noting_end Sink.ended) (rows_of old) (noting-lawful Sink.is_sound Sink.step Sink.ended Sink.is_quiet laws) plain plain b s h c c t (line_number b) (rw (f, g, z) refl)
 
-  data-null : (old : Tokenizer K) → Says step view cdata ends sound number broken errors quiet state.Data old 0 a_fault NullCharacterToken (λ b s t. at step view cdata ends sound number broken errors quiet state.Data old (b + line_break (nat_eq 0 10)) s t)
+  data-null : (old : Tokenizer K) → Says Sink state.Data old 0 a_fault NullCharacterToken (λ b s t. at Sink state.Data old (b + line_break (nat_eq 0 10)) s t)
   unfolding held_at
   data-null old b s h t =
       let plain = standing old InData in
-      reading-token (λ p. sound p.0) (noting step quiet) noting_error (noting_cdata cdata) (noting_end ends) (rows_of old) (noting-lawful sound step ends quiet laws) (Some Grave) plain plain b s h 0 t NullCharacterToken tt refl refl
+      reading-token (λ p. Sink.is_sound p.0) (noting Sink.step Sink.is_quiet) noting_error (noting_cdata Sink.asks_cdata) (noting_end Sink.ended) (rows_of old) (noting-lawful Sink.is_sound Sink.step Sink.ended Sink.is_quiet laws) (Some Grave) plain plain b s h 0 t NullCharacterToken tt refl refl
 
   -- a character of text was taken
-  pub data-kept : (old new : Tokenizer K) (c : ℕ) (result : Result (ProcessResult H) ParseFault) → IsAt old state.Data → sound (view old.sink) → (c ≡ 60 → ⊥) → (c ≡ 38 → ⊥) → (c ≡ 0 → ⊥) → TakesAs step view cdata ends sound number broken errors quiet nothing (CharacterTokens (c ∷ [])) old new result → Keeps step view cdata ends sound number broken errors quiet old new c result
-  data-kept old new c result from ok f g z told = keeps_taken step view cdata ends sound number broken errors quiet nothing old old new c state.Data state.Data (CharacterTokens (c ∷ [])) result from from refl refl ok told (data-char old c (ne_eqb c 60 f) (ne_eqb c 38 g) (ne_eqb c 0 z))
+  pub data-kept : (old new : Tokenizer K) (c : ℕ) (result : Result (ProcessResult H) ParseFault) → IsAt old state.Data → Sink.is_sound (Sink.view old.sink) → (c ≡ 60 → ⊥) → (c ≡ 38 → ⊥) → (c ≡ 0 → ⊥) → TakesAs Sink nothing (CharacterTokens (c ∷ [])) old new result → Keeps Sink old new c result
+  data-kept old new c result from ok f g z told = keeps_taken Sink nothing old old new c state.Data state.Data (CharacterTokens (c ∷ [])) result from from refl refl ok told (data-char old c (ne_eqb c 60 f) (ne_eqb c 38 g) (ne_eqb c 0 z))
 
   -- U+0000 was handed out
-  pub data-null_kept : (old new : Tokenizer K) (c : ℕ) (result : Result (ProcessResult H) ParseFault) → IsAt old state.Data → sound (view old.sink) → c ≡ 0 → TakesAs step view cdata ends sound number broken errors quiet a_fault NullCharacterToken old new result → Keeps step view cdata ends sound number broken errors quiet old new c result
-  data-null_kept old new c result from ok z told = rw z (keeps_taken step view cdata ends sound number broken errors quiet a_fault old old new 0 state.Data state.Data NullCharacterToken result from from refl refl ok told (data-null old))
+  pub data-null_kept : (old new : Tokenizer K) (c : ℕ) (result : Result (ProcessResult H) ParseFault) → IsAt old state.Data → Sink.is_sound (Sink.view old.sink) → c ≡ 0 → TakesAs Sink a_fault NullCharacterToken old new result → Keeps Sink old new c result
+  data-null_kept old new c result from ok z told = rw z (keeps_taken Sink a_fault old old new 0 state.Data state.Data NullCharacterToken result from from refl refl ok told (data-null old))
 
   -- "<" was taken, which is held
-  pub data-opened : (old : Tokenizer K) (c : ℕ) → IsAt old state.Data → sound (view old.sink) → c ≡ 60 → Took step view cdata ends sound number broken errors quiet old (record old { state = state.TagOpen }) c flow.Continue
+  pub data-opened : (old : Tokenizer K) (c : ℕ) → IsAt old state.Data → Sink.is_sound (Sink.view old.sink) → c ≡ 60 → Took Sink old (record old { state = state.TagOpen }) c flow.Continue
   unfolding held_at
-  data-opened old c from ok e = rw e (took step view cdata ends sound number broken errors quiet old (record old { state = state.TagOpen }) 60 state.Data state.TagOpen from (record { state = refl; fresh = from.fresh }) refl refl ok (λ b s t. ap (λ n. reading (noting step quiet) noting_error (noting_cdata cdata) (noting_end ends) (rows_of old) (standing old InData) n s (60 ∷ t)) (sym (sum-zero b))))
+  data-opened old c from ok e = rw e (took Sink old (record old { state = state.TagOpen }) 60 state.Data state.TagOpen from (record { state = refl; fresh = from.fresh }) refl refl ok (λ b s t. ap (λ n. reading (noting Sink.step Sink.is_quiet) noting_error (noting_cdata Sink.asks_cdata) (noting_end Sink.ended) (rows_of old) (standing old InData) n s (60 ∷ t)) (sym (sum-zero b))))
 
   -- "&" was taken, which is held
-  pub data-reference : (old : Tokenizer K) (c : ℕ) (begun : List ℕ) → IsAt old state.Data → sound (view old.sink) → c ≡ 38 → begun ≡ [] → Took step view cdata ends sound number broken errors quiet old (record old { char_ref = Some begun }) c flow.Continue
+  pub data-reference : (old : Tokenizer K) (c : ℕ) (begun : List ℕ) → IsAt old state.Data → Sink.is_sound (Sink.view old.sink) → c ≡ 38 → begun ≡ [] → Took Sink old (record old { char_ref = Some begun }) c flow.Continue
   unfolding held_at
-  data-reference old c begun from ok e is = rw (e, is) (took_reference step view cdata ends sound number broken errors quiet old (record old { char_ref = Some [] }) 38 state.Data from refl refl from.state refl refl refl ok (λ b s t. refl))
+  data-reference old c begun from ok e is = rw (e, is) (took_reference Sink old (record old { char_ref = Some [] }) 38 state.Data from refl refl from.state refl refl refl ok (λ b s t. refl))

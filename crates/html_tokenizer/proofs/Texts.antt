@@ -5,6 +5,7 @@ use Rattle.html_tokens.specs.declared.options.TokenizerOpts.{TokenizerOpts}
 use Rattle.html_tokens.specs.declared.states.State.{State}
 use Rattle.html_tokens.specs.declared.states.State.TheVariants as state
 use Rattle.html_tokens.specs.declared.token.Token.{Token}
+use Rattle.html_tokens.specs.declared.sink.TokenSink.{Ghosts}
 use Rattle.html_tokens.specs.Notes.{NotedStep, noting, noting_error, noting_cdata, noting_end}
 use Rattle.html_tokens.specs.Reading.{first_place, reading}
 use Rattle.html_tokens.specs.Sink.{Step}
@@ -26,16 +27,16 @@ none-held : (r : Option (List ℕ)) → is_none r ≡ true → pending r ≡ []
 none-held None h = refl
 none-held (Some cs) h = absurd cc
 
-module _ {K S H : Type 0} (step : Step S) (view : K → S) (cdata : S → Bool) (ends : S → S) (sound : S → Type 0) (number : H → ℕ) (broken : K → Bool) (errors : K → ℕ) (quiet : S → Token → Bool) where
-  pub reads-text : (k : Tokenizer K) → is_none k.char_ref ≡ true → is_text_state k.state ≡ true → ReadsAt step view cdata ends sound number broken errors quiet (first_place (Some k.state)) k
+module _ {K H : Type 0} (Sink : Ghosts K H) where
+  pub reads-text : (k : Tokenizer K) → is_none k.char_ref ≡ true → is_text_state k.state ≡ true → ReadsAt Sink (first_place (Some k.state)) k
   reads-text k none text = λ notes t.
-      ap (λ u. held_at (noting step quiet) noting_error (noting_cdata cdata) (noting_end ends) k.state k k.stream.breaks (view k.sink, notes) (u ++ coming k t)) (none-held k.char_ref none)
-      ∙ text-reads (noting step quiet) noting_error (noting_cdata cdata) (noting_end ends) k.state k k.stream.breaks (view k.sink, notes) (coming k t) text
+      ap (λ u. held_at (noting Sink.step Sink.is_quiet) noting_error (noting_cdata Sink.asks_cdata) (noting_end Sink.ended) k.state k k.stream.breaks (Sink.view k.sink, notes) (u ++ coming k t)) (none-held k.char_ref none)
+      ∙ text-reads (noting Sink.step Sink.is_quiet) noting_error (noting_cdata Sink.asks_cdata) (noting_end Sink.ended) k.state k k.stream.breaks (Sink.view k.sink, notes) (coming k t) text
 
   -- the same of a new tokenizer, from where its options have it
   pub is-new : (k : Tokenizer K) (sink : K) (opts : TokenizerOpts) → k.sink ≡ sink → k.stream.breaks ≡ 0 → k.stream.ignore_lf ≡ false → k.stream.discard_bom ≡ opts.discard_bom → k.stream.has_ended ≡ false → k.stream.has_failed ≡ false → k.stream.exact_errors ≡ opts.exact_errors
-      → k.char_ref ≡ None → k.last_start_tag ≡ opts.last_start_tag_name → is_text_state k.state ≡ true → first_place opts.initial_state ≡ first_place (Some k.state) → sound (view sink)
-      → IsNew step view cdata ends sound number broken errors quiet k sink opts k.stream.table
+      → k.char_ref ≡ None → k.last_start_tag ≡ opts.last_start_tag_name → is_text_state k.state ≡ true → first_place opts.initial_state ≡ first_place (Some k.state) → Sink.is_sound (Sink.view sink)
+      → IsNew Sink k sink opts k.stream.table
   is-new k sink opts over breaks unread marked begun works exact none last text place ok = record {
     over = over;
     same = λ notes t.

@@ -12,6 +12,7 @@ use Rattle.html_tokens.specs.declared.states.State.TheVariants as state
 use Rattle.html_tokens.specs.declared.token.Token.TheVariants.{EOFToken}
 use Rattle.html_tokens.specs.declared.options.TokenizerOpts.{TokenizerOpts}
 use Rattle.html_tokens.specs.declared.token.Token.{Token}
+use Rattle.html_tokens.specs.declared.sink.TokenSink.{Ghosts}
 use Rattle.html_tokens.specs.Item.{grave_if, Place}
 use Rattle.html_tokens.specs.NormalText.{normal_text}
 use Rattle.html_tokens.specs.Table.{Row}
@@ -97,45 +98,45 @@ Refuses (Some fault) result = result ≡ Err fault
 abbrev pub is_nothing_pending : {K : Type 0} → Tokenizer K → Bool
 is_nothing_pending k = not k.stream.has_ended && not k.stream.has_failed && is_none k.char_ref && is_text_state k.state
 
-module _ {K S H : Type 0} (step : Step S) (view : K → S) (cdata : S → Bool) (ends : S → S) (is_sound : S → Type 0) (number : H → ℕ) (broken : K → Bool) (errors : K → ℕ) (quiet : S → Token → Bool) where
+module _ {K H : Type 0} (Sink : Ghosts K H) where
   -- what a further text makes of the sink and of what was noted
-  abbrev pub to_come : Tokenizer K → Notes ℕ → List ℕ → Result (S × Notes ℕ) (Refusal × ℕ)
-  to_come k notes t = rest (noting step quiet) noting_error (noting_cdata cdata) (noting_end ends) k (view k.sink, notes) t
+  abbrev pub to_come : Tokenizer K → Notes ℕ → List ℕ → Result (Sink.State × Notes ℕ) (Refusal × ℕ)
+  to_come k notes t = rest (noting Sink.step Sink.is_quiet) noting_error (noting_cdata Sink.asks_cdata) (noting_end Sink.ended) k (Sink.view k.sink, notes) t
 
   -- what the end of the input makes of the sink
-  abbrev pub at_end : ℕ → S × Notes ℕ → Result (S × Notes ℕ) (Refusal × ℕ)
-  at_end b s = noting step quiet s EOFToken (line_number b) >>= λ p. Ok (noting_end ends p.0)
+  abbrev pub at_end : ℕ → Sink.State × Notes ℕ → Result (Sink.State × Notes ℕ) (Refusal × ℕ)
+  at_end b s = noting Sink.step Sink.is_quiet s EOFToken (line_number b) >>= λ p. Ok (noting_end Sink.ended p.0)
 
   -- A character was taken, its line counted: whatever follows, the tokenizer makes of it what it would have made of it behind c,
   -- which owed this.
   pub record Passed (old new : Tokenizer K) (c : ℕ) (result : ProcessResult H) : Type 0 where
     pub owed : Owed
-    pub rises : Rises errors (together owed (owed_for_char old.stream.exact_errors c)) old.sink new.sink
-    pub same : (notes : Notes ℕ) (t : List ℕ) → now step view cdata ends is_sound number broken errors quiet old old.stream.breaks (view old.sink, notes) (c ∷ t) ≡ now step view cdata ends is_sound number broken errors quiet new new.stream.breaks (view new.sink, noted_by number owed notes result) t
+    pub rises : Rises Sink.errors (together owed (owed_for_char old.stream.exact_errors c)) old.sink new.sink
+    pub same : (notes : Notes ℕ) (t : List ℕ) → now Sink old old.stream.breaks (Sink.view old.sink, notes) (c ∷ t) ≡ now Sink new new.stream.breaks (Sink.view new.sink, noted_by Sink.number owed notes result) t
     pub stream : new.stream ≡ record old.stream { breaks = new.stream.breaks }
-    pub sound : is_sound (view new.sink)
+    pub sound : Sink.is_sound (Sink.view new.sink)
     pub fits : fits_in new.char_ref new.state ≡ true
-    pub works : broken new.sink ≡ true → broken old.sink ≡ true
+    pub works : Sink.has_failed new.sink ≡ true → Sink.has_failed old.sink ≡ true
     pub paused : PausesAt result c new
 
   abbrev pub Passes : Tokenizer K → Tokenizer K → ℕ → Result (ProcessResult H) ParseFault → Type 0
   Passes old new c (Ok result) = Passed old new c result
-  Passes old new c (Err fault) = (notes : Notes ℕ) (t : List ℕ) → Fails step view cdata ends is_sound number broken errors quiet old.sink (now step view cdata ends is_sound number broken errors quiet old old.stream.breaks (view old.sink, notes) (c ∷ t)) fault
+  Passes old new c (Err fault) = (notes : Notes ℕ) (t : List ℕ) → Fails Sink old.sink (now Sink old old.stream.breaks (Sink.view old.sink, notes) (c ∷ t)) fault
 
   -- A run of text was taken, of which no character ends a line: whatever follows, the tokenizer makes of it what it would have made
   -- of it behind the run, which owed this.
   pub record TookRun (old new : Tokenizer K) (run : List ℕ) : Type 0 where
     pub owed : Owed
-    pub rises : Rises errors owed old.sink new.sink
-    pub same : (notes : Notes ℕ) (t : List ℕ) → now step view cdata ends is_sound number broken errors quiet old old.stream.breaks (view old.sink, notes) (run ++ t) ≡ now step view cdata ends is_sound number broken errors quiet new old.stream.breaks (view new.sink, more owed notes) t
+    pub rises : Rises Sink.errors owed old.sink new.sink
+    pub same : (notes : Notes ℕ) (t : List ℕ) → now Sink old old.stream.breaks (Sink.view old.sink, notes) (run ++ t) ≡ now Sink new old.stream.breaks (Sink.view new.sink, more owed notes) t
     pub stream : new.stream ≡ old.stream
-    pub sound : is_sound (view new.sink)
+    pub sound : Sink.is_sound (Sink.view new.sink)
     pub fits : fits_in new.char_ref new.state ≡ true
-    pub works : broken new.sink ≡ true → broken old.sink ≡ true
+    pub works : Sink.has_failed new.sink ≡ true → Sink.has_failed old.sink ≡ true
 
   abbrev pub KeepsRun : Tokenizer K → Tokenizer K → List ℕ → Result (Unit {0}) ParseFault → Type 0
   KeepsRun old new run (Ok x) = TookRun old new run
-  KeepsRun old new run (Err fault) = (notes : Notes ℕ) (t : List ℕ) → Fails step view cdata ends is_sound number broken errors quiet old.sink (now step view cdata ends is_sound number broken errors quiet old old.stream.breaks (view old.sink, notes) (run ++ t)) fault
+  KeepsRun old new run (Err fault) = (notes : Notes ℕ) (t : List ℕ) → Fails Sink old.sink (now Sink old old.stream.breaks (Sink.view old.sink, notes) (run ++ t)) fault
 
   -- The same of a call that then goes on.
   abbrev pub KeepsText : Tokenizer K → Tokenizer K → List ℕ → Result (ProcessResult H) ParseFault → Type 0
@@ -146,19 +147,19 @@ module _ {K S H : Type 0} (step : Step S) (view : K → S) (cdata : S → Bool) 
   -- All that was held is told, which owed this: what the end of the input makes of the sink is the end alone.
   pub record Closed (old new : Tokenizer K) : Type 0 where
     pub owed : Owed
-    pub rises : Rises errors owed old.sink new.sink
-    pub same : (notes : Notes ℕ) → now step view cdata ends is_sound number broken errors quiet old old.stream.breaks (view old.sink, notes) [] ≡ at_end old.stream.breaks (view new.sink, more owed notes)
+    pub rises : Rises Sink.errors owed old.sink new.sink
+    pub same : (notes : Notes ℕ) → now Sink old old.stream.breaks (Sink.view old.sink, notes) [] ≡ at_end old.stream.breaks (Sink.view new.sink, more owed notes)
     pub stream : new.stream ≡ old.stream
-    pub sound : is_sound (view new.sink)
-    pub works : broken new.sink ≡ true → broken old.sink ≡ true
+    pub sound : Sink.is_sound (Sink.view new.sink)
+    pub works : Sink.has_failed new.sink ≡ true → Sink.has_failed old.sink ≡ true
 
   abbrev pub Closes : Tokenizer K → Tokenizer K → Result (Unit {0}) ParseFault → Type 0
   Closes old new (Ok x) = Closed old new
-  Closes old new (Err fault) = (notes : Notes ℕ) → Fails step view cdata ends is_sound number broken errors quiet old.sink (now step view cdata ends is_sound number broken errors quiet old old.stream.breaks (view old.sink, notes) []) fault
+  Closes old new (Err fault) = (notes : Notes ℕ) → Fails Sink old.sink (now Sink old old.stream.breaks (Sink.view old.sink, notes) []) fault
 
   -- What a tokenizer needs at a call: a sink in a sound state, and a reference held only where one may stand.
   pub record IsReady (k : Tokenizer K) : Type 0 where
-    pub sound : is_sound (view k.sink)
+    pub sound : Sink.is_sound (Sink.view k.sink)
     pub fits : fits_in k.char_ref k.state ≡ true
 
   -- Where a step ends so: behind some characters; with an empty queue; or, where it hands back control, behind the ">" of a tag,
@@ -177,10 +178,10 @@ module _ {K S H : Type 0} (step : Step S) (view : K → S) (cdata : S → Bool) 
     pub came : List ℕ
     pub comes : (t : List ℕ) → coming old (taken ++ t) ≡ came ++ coming new t
     pub owed : Owed
-    pub same : (notes : Notes ℕ) (t : List ℕ) → to_come old notes (taken ++ t) ≡ to_come new (noted_by number owed notes result) t
-    pub rises : Rises errors (together owed (owed_for_text old.stream.exact_errors came)) old.sink new.sink
+    pub same : (notes : Notes ℕ) (t : List ℕ) → to_come old notes (taken ++ t) ≡ to_come new (noted_by Sink.number owed notes result) t
+    pub rises : Rises Sink.errors (together owed (owed_for_text old.stream.exact_errors came)) old.sink new.sink
     pub ready : IsReady new
-    pub works : broken new.sink ≡ true → broken old.sink ≡ true
+    pub works : Sink.has_failed new.sink ≡ true → Sink.has_failed old.sink ≡ true
     pub ended : new.stream.has_ended ≡ old.stream.has_ended
     pub failed : new.stream.has_failed ≡ old.stream.has_failed
     pub exact : new.stream.exact_errors ≡ old.stream.exact_errors
@@ -188,7 +189,7 @@ module _ {K S H : Type 0} (step : Step S) (view : K → S) (cdata : S → Bool) 
 
   abbrev pub Moves : Tokenizer K → Tokenizer K → Queue → Queue → Result (ProcessResult H) ParseFault → Type 0
   Moves old new from to (Ok result) = Moved old new from to result
-  Moves old new from to (Err fault) = (notes : Notes ℕ) (t : List ℕ) → Fails step view cdata ends is_sound number broken errors quiet old.sink (to_come old notes (from.characters ++ t)) fault
+  Moves old new from to (Err fault) = (notes : Notes ℕ) (t : List ℕ) → Fails Sink old.sink (to_come old notes (from.characters ++ t)) fault
 
   -- Where a call ends so: with an empty queue, or, at a pause, behind the ">" of a tag, with data to come and nothing held.
   abbrev pub Rests : TokenizerResult H → Tokenizer K → List ℕ → Queue → Type 0
@@ -204,11 +205,11 @@ module _ {K S H : Type 0} (step : Step S) (view : K → S) (cdata : S → Bool) 
     pub came : List ℕ
     pub comes : (t : List ℕ) → coming old (taken ++ t) ≡ came ++ coming new t
     pub owed : Owed
-    pub rises : Rises errors (together owed (owed_for_text old.stream.exact_errors came)) old.sink new.sink
+    pub rises : Rises Sink.errors (together owed (owed_for_text old.stream.exact_errors came)) old.sink new.sink
     -- for each further text, what was to come over the characters taken and that text is what is now to come over that text
-    pub same : (notes : Notes ℕ) (t : List ℕ) → to_come old notes (taken ++ t) ≡ to_come new (noted_with number owed notes result) t
+    pub same : (notes : Notes ℕ) (t : List ℕ) → to_come old notes (taken ++ t) ≡ to_come new (noted_with Sink.number owed notes result) t
     pub ready : IsReady new
-    pub works : broken new.sink ≡ true → broken old.sink ≡ true
+    pub works : Sink.has_failed new.sink ≡ true → Sink.has_failed old.sink ≡ true
     pub ended : new.stream.has_ended ≡ old.stream.has_ended
     pub failed : new.stream.has_failed ≡ old.stream.has_failed
     pub exact : new.stream.exact_errors ≡ old.stream.exact_errors
@@ -216,20 +217,34 @@ module _ {K S H : Type 0} (step : Step S) (view : K → S) (cdata : S → Bool) 
 
   abbrev pub Runs : Tokenizer K → Tokenizer K → Queue → Queue → Result (TokenizerResult H) ParseFault → Type 0
   Runs old new from to (Ok result) = Fed old new from to result
-  Runs old new from to (Err fault) = (notes : Notes ℕ) (t : List ℕ) → Fails step view cdata ends is_sound number broken errors quiet old.sink (to_come old notes (from.characters ++ t)) fault
+  Runs old new from to (Err fault) = (notes : Notes ℕ) (t : List ℕ) → Fails Sink old.sink (to_come old notes (from.characters ++ t)) fault
+
+  -- The end was told, behind what was owed: what was to come over no further text is what the sink is now.
+  pub record HasEnded (old new : Tokenizer K) : Type 0 where
+    pub owed : Owed
+    -- the sink before it was told that all tokens were, and what that made of it
+    pub told : K
+    pub rises : Rises Sink.errors owed old.sink told
+    pub ended : Sink.view new.sink ≡ Sink.ended (Sink.view told)
+    pub counts : Sink.errors new.sink ≡ Sink.errors_ended (Sink.view told) (Sink.errors told)
+    pub kept : Sink.errors told ≤ Sink.errors new.sink
+    pub same : (notes : Notes ℕ) → to_come old notes [] ≡ Ok (Sink.view new.sink, more owed notes)
+    pub sound : Sink.is_sound (Sink.view new.sink)
+    pub works : Sink.has_failed new.sink ≡ true → Sink.has_failed old.sink ≡ true
+    pub stream : new.stream ≡ record old.stream { has_ended = true }
 
   -- The end was told, and the sink was not yet told that it was.
   pub record ToldEnd (old new : Tokenizer K) : Type 0 where
     pub owed : Owed
-    pub rises : Rises errors owed old.sink new.sink
-    pub same : (notes : Notes ℕ) → to_come old notes [] ≡ Ok (ends (view new.sink), more owed notes)
+    pub rises : Rises Sink.errors owed old.sink new.sink
+    pub same : (notes : Notes ℕ) → to_come old notes [] ≡ Ok (Sink.ended (Sink.view new.sink), more owed notes)
     pub stream : new.stream ≡ old.stream
-    pub sound : is_sound (view new.sink)
-    pub works : broken new.sink ≡ true → broken old.sink ≡ true
+    pub sound : Sink.is_sound (Sink.view new.sink)
+    pub works : Sink.has_failed new.sink ≡ true → Sink.has_failed old.sink ≡ true
 
   abbrev pub TellsEnd : Tokenizer K → Tokenizer K → Result (Unit {0}) ParseFault → Type 0
   TellsEnd old new (Ok x) = ToldEnd old new
-  TellsEnd old new (Err fault) = (notes : Notes ℕ) → Fails step view cdata ends is_sound number broken errors quiet old.sink (to_come old notes []) fault
+  TellsEnd old new (Err fault) = (notes : Notes ℕ) → Fails Sink old.sink (to_come old notes []) fault
 
   -- what a call asks of a tokenizer, if nothing stands against the call
   abbrev pub IsReadyIf : Option ParseFault → Tokenizer K → Type 0
@@ -242,11 +257,16 @@ module _ {K S H : Type 0} (step : Step S) (view : K → S) (cdata : S → Bool) 
   FeedGives None old new from to (Err fault) = (new.stream.has_failed ≡ true) × Runs old new from to (Err fault)
   FeedGives (Some fault) old new from to result = (result ≡ Err fault) × (new ≡ old) × (to ≡ from)
 
+  abbrev pub EndGives : Option ParseFault → Tokenizer K → Tokenizer K → Result (Unit {0}) ParseFault → Type 0
+  EndGives None old new (Ok x) = HasEnded old new
+  EndGives None old new (Err fault) = (new.stream.has_failed ≡ true) × ((notes : Notes ℕ) → Fails Sink old.sink (to_come old notes []) fault)
+  EndGives (Some fault) old new result = (result ≡ Err fault) × (new ≡ old)
+
   -- A new tokenizer: what is to come is the reading of all the text.
   pub record IsNew (k : Tokenizer K) (sink : K) (opts : TokenizerOpts) (table : List Row) : Type 0 where
     pub over : k.sink ≡ sink
     pub same : (notes : Notes ℕ) (t : List ℕ)
-        → to_come k notes t ≡ reading (noting step quiet) noting_error (noting_cdata cdata) (noting_end ends) table (first_stand opts.initial_state opts.last_start_tag_name) 0 (view sink, notes) (normal_text opts.discard_bom t)
+        → to_come k notes t ≡ reading (noting Sink.step Sink.is_quiet) noting_error (noting_cdata Sink.asks_cdata) (noting_end Sink.ended) table (first_stand opts.initial_state opts.last_start_tag_name) 0 (Sink.view sink, notes) (normal_text opts.discard_bom t)
     pub ready : IsReady k
     pub begun : refusal_of k ≡ None
     pub exact : k.stream.exact_errors ≡ opts.exact_errors
@@ -254,25 +274,4 @@ module _ {K S H : Type 0} (step : Step S) (view : K → S) (cdata : S → Bool) 
 
   -- A tokenizer in a text state, with no part of an item held: what is to come is the reading of what comes, from that text on.
   abbrev pub ReadsAt : Place → Tokenizer K → Type 0
-  ReadsAt place k = (notes : Notes ℕ) (t : List ℕ) → to_come k notes t ≡ reading (noting step quiet) noting_error (noting_cdata cdata) (noting_end ends) (rows_of k) (standing k place) k.stream.breaks (view k.sink, notes) (coming k t)
-
-module _ {K S H : Type 0} (step : Step S) (view : K → S) (cdata : S → Bool) (ends : S → S) (is_sound : S → Type 0) (number : H → ℕ) (broken : K → Bool) (errors : K → ℕ) (quiet : S → Token → Bool) (errors_ended : S → ℕ → ℕ) where
-  -- The end was told, behind what was owed: what was to come over no further text is what the sink is now.
-  pub record HasEnded (old new : Tokenizer K) : Type 0 where
-    pub owed : Owed
-    -- the sink before it was told that all tokens were, and what that made of it
-    pub told : K
-    pub rises : Rises errors owed old.sink told
-    pub ended : view new.sink ≡ ends (view told)
-    pub counts : errors new.sink ≡ errors_ended (view told) (errors told)
-    pub kept : errors told ≤ errors new.sink
-    pub same : (notes : Notes ℕ) → to_come step view cdata ends is_sound number broken errors quiet old notes [] ≡ Ok (view new.sink, more owed notes)
-    pub sound : is_sound (view new.sink)
-    pub works : broken new.sink ≡ true → broken old.sink ≡ true
-    pub stream : new.stream ≡ record old.stream { has_ended = true }
-
-  -- A call of `end` gives this where nothing stands against it; where it fails, the tokenizer has failed.
-  abbrev pub EndGives : Option ParseFault → Tokenizer K → Tokenizer K → Result (Unit {0}) ParseFault → Type 0
-  EndGives None old new (Ok x) = HasEnded old new
-  EndGives None old new (Err fault) = (new.stream.has_failed ≡ true) × ((notes : Notes ℕ) → Fails step view cdata ends is_sound number broken errors quiet old.sink (to_come step view cdata ends is_sound number broken errors quiet old notes []) fault)
-  EndGives (Some fault) old new result = (result ≡ Err fault) × (new ≡ old)
+  ReadsAt place k = (notes : Notes ℕ) (t : List ℕ) → to_come k notes t ≡ reading (noting Sink.step Sink.is_quiet) noting_error (noting_cdata Sink.asks_cdata) (noting_end Sink.ended) (rows_of k) (standing k place) k.stream.breaks (Sink.view k.sink, notes) (coming k t)

@@ -10,6 +10,7 @@ use Rattle.html_tokens.specs.declared.states.State.{State}
 use Rattle.html_tokens.specs.declared.states.State.TheVariants as state
 use Rattle.html_tokens.specs.declared.token.Token.{Token}
 use Rattle.html_tokens.specs.declared.token.Token.TheVariants.{TagToken, ParseError}
+use Rattle.html_tokens.specs.declared.sink.TokenSink.{Ghosts}
 use Rattle.html_tokens.specs.Item.{Fault, Grave, Slight, grave_if, InData}
 use Rattle.html_tokens.specs.Notes.{Notes, one_if, noting, noting_error, noting_cdata, noting_end}
 use Rattle.html_tokens.specs.Reading.{◌>>=◌, line_break, line_number, next_stand, reading}
@@ -113,17 +114,17 @@ answer_to reply.Plaintext = flow.Continue
 answer_to (reply.RawData kind) = flow.Continue
 answer_to (reply.EncodingIndicator label) = flow.EncodingIndicator label
 
-module _ {K S H : Type 0} (step : Step S) (view : K → S) (cdata : S → Bool) (ends : S → S) (is_sound : S → Type 0) (number : H → ℕ) (broken : K → Bool) (errors : K → ℕ) (quiet : S → Token → Bool) where
+module _ {K H : Type 0} (Sink : Ghosts K H) where
   -- what the characters t make of the sink and of what was noted
-  abbrev pub now : Tokenizer K → ℕ → S × Notes ℕ → List ℕ → Result (S × Notes ℕ) (Refusal × ℕ)
-  now k b s t = held (noting step quiet) noting_error (noting_cdata cdata) (noting_end ends) k b s t
+  abbrev pub now : Tokenizer K → ℕ → Sink.State × Notes ℕ → List ℕ → Result (Sink.State × Notes ℕ) (Refusal × ℕ)
+  now k b s t = held (noting Sink.step Sink.is_quiet) noting_error (noting_cdata Sink.asks_cdata) (noting_end Sink.ended) k b s t
 
   -- some token was so refused
   pub record WasRefused (refusal : Refusal) : Type 0 where
-    pub before : S
+    pub before : Sink.State
     pub token : Token
     pub line : ℕ
-    pub is : step before token line ≡ Err refusal
+    pub is : Sink.step before token line ≡ Err refusal
 
   -- A call with this sink that was to give this has failed so: a refusal is the sink's, and what was to be given is
   -- refused too; and the sink had failed before where it so answered.
@@ -132,68 +133,68 @@ module _ {K S H : Type 0} (step : Step S) (view : K → S) (cdata : S → Bool) 
   Fails sink given TokenInText = IsErr given × WasRefused InText
   Fails sink given Ended = IsErr given × WasRefused AfterEnd
   Fails sink given Shape = IsErr given × WasRefused Unfit
-  Fails sink given Failed = broken sink ≡ true
+  Fails sink given Failed = Sink.has_failed sink ≡ true
 
   -- The token has gone to the sink, which answered only that reading goes on, behind what is owed. Nothing else changes.
   pub record Told (owed : Owed) (token : Token) (old new : Tokenizer K) : Type 0 where
-    pub gives : (line : ℕ) → line ≡ line_number old.stream.breaks → step (view old.sink) token line ≡ Ok (view new.sink, reply.Continue)
+    pub gives : (line : ℕ) → line ≡ line_number old.stream.breaks → Sink.step (Sink.view old.sink) token line ≡ Ok (Sink.view new.sink, reply.Continue)
     pub changed : new ≡ record old { sink = new.sink }
-    pub sound : is_sound (view new.sink)
-    pub works : broken new.sink ≡ false
-    pub rises : Rises errors (hearing (quiet (view old.sink) token) owed) old.sink new.sink
+    pub sound : Sink.is_sound (Sink.view new.sink)
+    pub works : Sink.has_failed new.sink ≡ false
+    pub rises : Rises Sink.errors (hearing (Sink.is_quiet (Sink.view old.sink) token) owed) old.sink new.sink
 
   abbrev pub Tells : Owed → Token → Tokenizer K → Tokenizer K → Result (Unit {0}) ParseFault → Type 0
   Tells owed token old new (Ok x) = Told owed token old new
-  Tells owed token old new (Err fault) = Fails old.sink (step (view old.sink) token (line_number old.stream.breaks)) fault
+  Tells owed token old new (Err fault) = Fails old.sink (Sink.step (Sink.view old.sink) token (line_number old.stream.breaks)) fault
 
   -- The same of a call that then goes on to the next character.
   abbrev pub TakesAs : Owed → Token → Tokenizer K → Tokenizer K → Result (ProcessResult H) ParseFault → Type 0
   TakesAs owed token old new (Ok flow.Continue) = Told owed token old new
   TakesAs owed token old new (Ok _) = ⊥
-  TakesAs owed token old new (Err fault) = Fails old.sink (step (view old.sink) token (line_number old.stream.breaks)) fault
+  TakesAs owed token old new (Err fault) = Fails old.sink (Sink.step (Sink.view old.sink) token (line_number old.stream.breaks)) fault
 
   -- What is owed has been told, which changes nothing that the sink stands for.
   pub record Erred (owed : Owed) (old new : Tokenizer K) : Type 0 where
-    pub sink : view new.sink ≡ view old.sink
+    pub sink : Sink.view new.sink ≡ Sink.view old.sink
     pub changed : new ≡ record old { sink = new.sink }
-    pub works : broken new.sink ≡ true → broken old.sink ≡ true
-    pub rises : Rises errors owed old.sink new.sink
+    pub works : Sink.has_failed new.sink ≡ true → Sink.has_failed old.sink ≡ true
+    pub rises : Rises Sink.errors owed old.sink new.sink
 
   abbrev pub Errs : Owed → Tokenizer K → Tokenizer K → Result (Unit {0}) ParseFault → Type 0
   Errs owed old new (Ok x) = Erred owed old new
-  Errs owed old new (Err fault) = (token : Token) (line : ℕ) → Fails old.sink (step (view old.sink) token line) fault
+  Errs owed old new (Err fault) = (token : Token) (line : ℕ) → Fails old.sink (Sink.step (Sink.view old.sink) token line) fault
 
   -- Whatever follows, the machine makes of it what it would have made of it behind c, which owed this.
   pub record Took (old new : Tokenizer K) (c : ℕ) (result : ProcessResult H) : Type 0 where
     pub owed : Owed
-    pub same : (notes : Notes ℕ) (t : List ℕ) → now old old.stream.breaks (view old.sink, notes) (c ∷ t) ≡ now new (old.stream.breaks + line_break (nat_eq c 10)) (view new.sink, noted_by number owed notes result) t
-    pub rises : Rises errors owed old.sink new.sink
+    pub same : (notes : Notes ℕ) (t : List ℕ) → now old old.stream.breaks (Sink.view old.sink, notes) (c ∷ t) ≡ now new (old.stream.breaks + line_break (nat_eq c 10)) (Sink.view new.sink, noted_by Sink.number owed notes result) t
+    pub rises : Rises Sink.errors owed old.sink new.sink
     pub stream : new.stream ≡ old.stream
-    pub sound : is_sound (view new.sink)
+    pub sound : Sink.is_sound (Sink.view new.sink)
     pub fits : fits_in new.char_ref new.state ≡ true
-    pub works : broken new.sink ≡ true → broken old.sink ≡ true
+    pub works : Sink.has_failed new.sink ≡ true → Sink.has_failed old.sink ≡ true
     pub paused : PausesAt result c new
 
   abbrev pub Keeps : Tokenizer K → Tokenizer K → ℕ → Result (ProcessResult H) ParseFault → Type 0
   Keeps old new c (Ok result) = Took old new c result
-  Keeps old new c (Err fault) = (notes : Notes ℕ) (t : List ℕ) → Fails old.sink (now old old.stream.breaks (view old.sink, notes) (c ∷ t)) fault
+  Keeps old new c (Err fault) = (notes : Notes ℕ) (t : List ℕ) → Fails old.sink (now old old.stream.breaks (Sink.view old.sink, notes) (c ∷ t)) fault
 
   -- what a tag owes
   abbrev pub owed_by : Tokenizer K → Owed
-  owed_by k = hearing (quiet (view k.sink) (TagToken k.tag)) (owed_for (grave_if (is_faulty_tag k.tag)))
+  owed_by k = hearing (Sink.is_quiet (Sink.view k.sink) (TagToken k.tag)) (owed_for (grave_if (is_faulty_tag k.tag)))
 
   -- The tag has gone to the sink behind its error, if it has one, and the machine is where the reply has it.
   pub record EndedTag (old new : Tokenizer K) (result : ProcessResult H) : Type 0 where
     pub same : (notes : Notes ℕ) (t : List ℕ)
-        → (noting step quiet (view old.sink, more (owed_for (grave_if (is_faulty_tag old.tag))) notes) (TagToken old.tag) (line_number old.stream.breaks) >>= λ p. reading (noting step quiet) noting_error (noting_cdata cdata) (noting_end ends) (rows_of old) (next_stand (behind_tag (standing old InData) old.tag) p.1) old.stream.breaks p.0 t)
-        ≡ now new old.stream.breaks (view new.sink, noted_by number (owed_by old) notes result) t
-    pub rises : Rises errors (owed_by old) old.sink new.sink
+        → (noting Sink.step Sink.is_quiet (Sink.view old.sink, more (owed_for (grave_if (is_faulty_tag old.tag))) notes) (TagToken old.tag) (line_number old.stream.breaks) >>= λ p. reading (noting Sink.step Sink.is_quiet) noting_error (noting_cdata Sink.asks_cdata) (noting_end Sink.ended) (rows_of old) (next_stand (behind_tag (standing old InData) old.tag) p.1) old.stream.breaks p.0 t)
+        ≡ now new old.stream.breaks (Sink.view new.sink, noted_by Sink.number (owed_by old) notes result) t
+    pub rises : Rises Sink.errors (owed_by old) old.sink new.sink
     pub stream : new.stream ≡ old.stream
-    pub sound : is_sound (view new.sink)
+    pub sound : Sink.is_sound (Sink.view new.sink)
     pub fits : fits_in new.char_ref new.state ≡ true
-    pub works : broken new.sink ≡ false
+    pub works : Sink.has_failed new.sink ≡ false
     pub paused : PausesAt result 62 new
 
   abbrev pub EndsTag : Tokenizer K → Tokenizer K → Result (ProcessResult H) ParseFault → Type 0
   EndsTag old new (Ok result) = EndedTag old new result
-  EndsTag old new (Err fault) = Fails old.sink (step (view old.sink) (TagToken old.tag) (line_number old.stream.breaks)) fault
+  EndsTag old new (Err fault) = Fails old.sink (Sink.step (Sink.view old.sink) (TagToken old.tag) (line_number old.stream.breaks)) fault

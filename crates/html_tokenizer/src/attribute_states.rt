@@ -108,7 +108,7 @@ impl<Sink: TokenSink> Tokenizer<Sink> {
     ) -> Result<ProcessResult<Sink::Handle>, ParseFault>
         requires at { IsAt self.old state.BeforeAttributeName }
         requires sound { Sink.is_sound (Sink.view self.old.sink) }
-        ensures { Keeps Sink.step Sink.view Sink.asks_cdata Sink.ended Sink.is_sound Sink.number Sink.has_failed Sink.errors Sink.is_quiet self.old self.new c result }
+        ensures { Keeps Sink.TokenSink self.old self.new c result }
     {
         self.tell_fault(first_fault(c))?;
         self.take_before_name(c)
@@ -118,7 +118,7 @@ impl<Sink: TokenSink> Tokenizer<Sink> {
     fn take_before_name(&mut self, c: char) -> Result<ProcessResult<Sink::Handle>, ParseFault>
         requires at { IsAt self.old state.BeforeAttributeName }
         requires sound { Sink.is_sound (Sink.view self.old.sink) }
-        ensures { Keeps Sink.step Sink.view Sink.asks_cdata Sink.ended Sink.is_sound Sink.number Sink.has_failed Sink.errors Sink.is_quiet self.old self.new c result }
+        ensures { Keeps Sink.TokenSink self.old self.new c result }
     {
         if is_white_space(c) {
             return Ok(ProcessResult::Continue);
@@ -144,7 +144,7 @@ impl<Sink: TokenSink> Tokenizer<Sink> {
     ) -> Result<ProcessResult<Sink::Handle>, ParseFault>
         requires at { IsAt self.old state.AttributeName }
         requires sound { Sink.is_sound (Sink.view self.old.sink) }
-        ensures { Keeps Sink.step Sink.view Sink.asks_cdata Sink.ended Sink.is_sound Sink.number Sink.has_failed Sink.errors Sink.is_quiet self.old self.new c result }
+        ensures { Keeps Sink.TokenSink self.old self.new c result }
     {
         self.tell_fault(name_fault(c))?;
         self.take_in_name(c)
@@ -154,7 +154,7 @@ impl<Sink: TokenSink> Tokenizer<Sink> {
     fn take_in_name(&mut self, c: char) -> Result<ProcessResult<Sink::Handle>, ParseFault>
         requires at { IsAt self.old state.AttributeName }
         requires sound { Sink.is_sound (Sink.view self.old.sink) }
-        ensures { Keeps Sink.step Sink.view Sink.asks_cdata Sink.ended Sink.is_sound Sink.number Sink.has_failed Sink.errors Sink.is_quiet self.old self.new c result }
+        ensures { Keeps Sink.TokenSink self.old self.new c result }
     {
         if ends_name(c) {
             self.state = State::AfterAttributeName;
@@ -171,7 +171,7 @@ impl<Sink: TokenSink> Tokenizer<Sink> {
     ) -> Result<ProcessResult<Sink::Handle>, ParseFault>
         requires at { IsAt self.old state.AfterAttributeName }
         requires sound { Sink.is_sound (Sink.view self.old.sink) }
-        ensures { Keeps Sink.step Sink.view Sink.asks_cdata Sink.ended Sink.is_sound Sink.number Sink.has_failed Sink.errors Sink.is_quiet self.old self.new c result }
+        ensures { Keeps Sink.TokenSink self.old self.new c result }
     {
         if is_white_space(c) {
             return Ok(ProcessResult::Continue);
@@ -192,7 +192,7 @@ impl<Sink: TokenSink> Tokenizer<Sink> {
     ) -> Result<ProcessResult<Sink::Handle>, ParseFault>
         requires at { IsAt self.old state.BeforeAttributeValue }
         requires sound { Sink.is_sound (Sink.view self.old.sink) }
-        ensures { Keeps Sink.step Sink.view Sink.asks_cdata Sink.ended Sink.is_sound Sink.number Sink.has_failed Sink.errors Sink.is_quiet self.old self.new c result }
+        ensures { Keeps Sink.TokenSink self.old self.new c result }
     {
         self.tell_if(c == '>', "missing attribute value")?;
         self.take_before_value(c)
@@ -202,7 +202,7 @@ impl<Sink: TokenSink> Tokenizer<Sink> {
     fn take_before_value(&mut self, c: char) -> Result<ProcessResult<Sink::Handle>, ParseFault>
         requires at { IsAt self.old state.BeforeAttributeValue }
         requires sound { Sink.is_sound (Sink.view self.old.sink) }
-        ensures { Keeps Sink.step Sink.view Sink.asks_cdata Sink.ended Sink.is_sound Sink.number Sink.has_failed Sink.errors Sink.is_quiet self.old self.new c result }
+        ensures { Keeps Sink.TokenSink self.old self.new c result }
     {
         if is_white_space(c) {
             return Ok(ProcessResult::Continue);
@@ -233,7 +233,7 @@ impl<Sink: TokenSink> Tokenizer<Sink> {
     ) -> Result<ProcessResult<Sink::Handle>, ParseFault>
         requires at { IsAt self.old (state.AttributeValue kind) }
         requires sound { Sink.is_sound (Sink.view self.old.sink) }
-        ensures { Keeps Sink.step Sink.view Sink.asks_cdata Sink.ended Sink.is_sound Sink.number Sink.has_failed Sink.errors Sink.is_quiet self.old self.new c result }
+        ensures { Keeps Sink.TokenSink self.old self.new c result }
     {
         match kind {
             AttrValueKind::Unquoted => self.unquoted_value_state(c),
@@ -246,7 +246,7 @@ impl<Sink: TokenSink> Tokenizer<Sink> {
     fn unquoted_value_state(&mut self, c: char) -> Result<ProcessResult<Sink::Handle>, ParseFault>
         requires at { IsAt self.old (state.AttributeValue value.Unquoted) }
         requires sound { Sink.is_sound (Sink.view self.old.sink) }
-        ensures { Keeps Sink.step Sink.view Sink.asks_cdata Sink.ended Sink.is_sound Sink.number Sink.has_failed Sink.errors Sink.is_quiet self.old self.new c result }
+        ensures { Keeps Sink.TokenSink self.old self.new c result }
     {
         self.tell_fault(unquoted_fault(c))?;
         self.take_in_unquoted_value(c)
@@ -256,7 +256,7 @@ impl<Sink: TokenSink> Tokenizer<Sink> {
     fn take_in_unquoted_value(&mut self, c: char) -> Result<ProcessResult<Sink::Handle>, ParseFault>
         requires at { IsAt self.old (state.AttributeValue value.Unquoted) }
         requires sound { Sink.is_sound (Sink.view self.old.sink) }
-        ensures { Keeps Sink.step Sink.view Sink.asks_cdata Sink.ended Sink.is_sound Sink.number Sink.has_failed Sink.errors Sink.is_quiet self.old self.new c result }
+        ensures { Keeps Sink.TokenSink self.old self.new c result }
     {
         if ends_word(c) {
             self.finish_attribute()?;
@@ -274,7 +274,7 @@ impl<Sink: TokenSink> Tokenizer<Sink> {
     /// Tells of each error in a run of a value without quotes.
     fn tell_unquoted_faults(&mut self, run: &str) -> Result<(), ParseFault>
         requires sound { Sink.is_sound (Sink.view self.old.sink) }
-        ensures { Errs Sink.step Sink.view Sink.asks_cdata Sink.ended Sink.is_sound Sink.number Sink.has_failed Sink.errors Sink.is_quiet (owed_for_each is_odd_unquoted (chars run.now)) self.old self.new result }
+        ensures { Errs Sink.TokenSink (owed_for_each is_odd_unquoted (chars run.now)) self.old self.new result }
     {
         for c in run.chars() {
             self.tell_fault(unquoted_fault(c))?;
@@ -287,7 +287,7 @@ impl<Sink: TokenSink> Tokenizer<Sink> {
         requires run { IsRunAt self.old run.now }
         requires at { self.old.state ≡ state.AttributeValue value.Unquoted }
         requires sound { Sink.is_sound (Sink.view self.old.sink) }
-        ensures { KeepsRun Sink.step Sink.view Sink.asks_cdata Sink.ended Sink.is_sound Sink.number Sink.has_failed Sink.errors Sink.is_quiet self.old self.new run.now result }
+        ensures { KeepsRun Sink.TokenSink self.old self.new run.now result }
     {
         self.tell_unquoted_faults(run.as_str())?;
         self.attribute_value.append(run)
@@ -302,7 +302,7 @@ impl<Sink: TokenSink> Tokenizer<Sink> {
         requires run { IsRunAt self.old run.now }
         requires at { self.old.state ≡ state.AttributeValue kind }
         requires sound { Sink.is_sound (Sink.view self.old.sink) }
-        ensures { KeepsRun Sink.step Sink.view Sink.asks_cdata Sink.ended Sink.is_sound Sink.number Sink.has_failed Sink.errors Sink.is_quiet self.old self.new run.now result }
+        ensures { KeepsRun Sink.TokenSink self.old self.new run.now result }
     {
         match kind {
             AttrValueKind::Unquoted => self.take_unquoted_run(run),
@@ -320,7 +320,7 @@ impl<Sink: TokenSink> Tokenizer<Sink> {
         requires at { IsAt self.old (state.AttributeValue kind) }
         requires quote { quote_of kind ≡ Some quote }
         requires sound { Sink.is_sound (Sink.view self.old.sink) }
-        ensures { Keeps Sink.step Sink.view Sink.asks_cdata Sink.ended Sink.is_sound Sink.number Sink.has_failed Sink.errors Sink.is_quiet self.old self.new c result }
+        ensures { Keeps Sink.TokenSink self.old self.new c result }
     {
         self.tell_null(c)?;
         self.take_in_quoted_value(kind, quote, c)
@@ -336,7 +336,7 @@ impl<Sink: TokenSink> Tokenizer<Sink> {
         requires at { IsAt self.old (state.AttributeValue kind) }
         requires quote { quote_of kind ≡ Some quote }
         requires sound { Sink.is_sound (Sink.view self.old.sink) }
-        ensures { Keeps Sink.step Sink.view Sink.asks_cdata Sink.ended Sink.is_sound Sink.number Sink.has_failed Sink.errors Sink.is_quiet self.old self.new c result }
+        ensures { Keeps Sink.TokenSink self.old self.new c result }
     {
         if c == quote {
             self.finish_attribute()?;
@@ -358,7 +358,7 @@ impl<Sink: TokenSink> Tokenizer<Sink> {
     ) -> Result<ProcessResult<Sink::Handle>, ParseFault>
         requires at { IsAt self.old state.AfterAttributeValueQuoted }
         requires sound { Sink.is_sound (Sink.view self.old.sink) }
-        ensures { Keeps Sink.step Sink.view Sink.asks_cdata Sink.ended Sink.is_sound Sink.number Sink.has_failed Sink.errors Sink.is_quiet self.old self.new c result }
+        ensures { Keeps Sink.TokenSink self.old self.new c result }
     {
         self.tell_if(!ends_tag_name(c), "missing whitespace between attributes")?;
         self.take_behind_value(c)
@@ -368,7 +368,7 @@ impl<Sink: TokenSink> Tokenizer<Sink> {
     fn take_behind_value(&mut self, c: char) -> Result<ProcessResult<Sink::Handle>, ParseFault>
         requires at { IsAt self.old state.AfterAttributeValueQuoted }
         requires sound { Sink.is_sound (Sink.view self.old.sink) }
-        ensures { Keeps Sink.step Sink.view Sink.asks_cdata Sink.ended Sink.is_sound Sink.number Sink.has_failed Sink.errors Sink.is_quiet self.old self.new c result }
+        ensures { Keeps Sink.TokenSink self.old self.new c result }
     {
         self.state = State::BeforeAttributeName;
         self.before_attribute_name_state(c)

@@ -57,8 +57,8 @@ impl<Sink: TokenSink> Tokenizer<Sink> {
     pub fn new(alloc: Global, sink: Sink, opts: TokenizerOpts, table: References) -> Tokenizer<Sink>
         requires text { IfSome opts.initial_state (λ st. is_text_state st ≡ true) }
         requires sound { Sink.is_sound (Sink.view sink) }
-        ensures reads { IsNew Sink.step Sink.view Sink.asks_cdata Sink.ended Sink.is_sound Sink.number Sink.has_failed Sink.errors Sink.is_quiet result sink opts table }
-        ensures ready { IsReadyIf Sink.step Sink.view Sink.asks_cdata Sink.ended Sink.is_sound Sink.number Sink.has_failed Sink.errors Sink.is_quiet (refusal_of result) result }
+        ensures reads { IsNew Sink.TokenSink result sink opts table }
+        ensures ready { IsReadyIf Sink.TokenSink (refusal_of result) result }
     {
         Tokenizer {
             sink,
@@ -97,9 +97,9 @@ impl<Sink: TokenSink> Tokenizer<Sink> {
         &mut self,
         input: &mut BufferQueue,
     ) -> Result<TokenizerResult<Sink::Handle>, ParseFault>
-        requires ready { IsReadyIf Sink.step Sink.view Sink.asks_cdata Sink.ended Sink.is_sound Sink.number Sink.has_failed Sink.errors Sink.is_quiet (refusal_of self.old) self.old }
-        ensures gives { FeedGives Sink.step Sink.view Sink.asks_cdata Sink.ended Sink.is_sound Sink.number Sink.has_failed Sink.errors Sink.is_quiet (refusal_of self.old) self.old self.new input.old input.new result }
-        ensures ready { IsReadyIf Sink.step Sink.view Sink.asks_cdata Sink.ended Sink.is_sound Sink.number Sink.has_failed Sink.errors Sink.is_quiet (refusal_of self.new) self.new }
+        requires ready { IsReadyIf Sink.TokenSink (refusal_of self.old) self.old }
+        ensures gives { FeedGives Sink.TokenSink (refusal_of self.old) self.old self.new input.old input.new result }
+        ensures ready { IsReadyIf Sink.TokenSink (refusal_of self.new) self.new }
     {
         self.stream.refuses()?;
         match self.run(input) {
@@ -113,8 +113,8 @@ impl<Sink: TokenSink> Tokenizer<Sink> {
 
     /// Hands out what is held, and then the end of the input.
     fn tell_end(&mut self) -> Result<(), ParseFault>
-        requires ready { IsReadyIf Sink.step Sink.view Sink.asks_cdata Sink.ended Sink.is_sound Sink.number Sink.has_failed Sink.errors Sink.is_quiet None self.old }
-        ensures { TellsEnd Sink.step Sink.view Sink.asks_cdata Sink.ended Sink.is_sound Sink.number Sink.has_failed Sink.errors Sink.is_quiet self.old self.new result }
+        requires ready { IsReadyIf Sink.TokenSink None self.old }
+        ensures { TellsEnd Sink.TokenSink self.old self.new result }
     {
         self.tell_held()?;
         self.tell(Token::EOFToken)
@@ -125,9 +125,9 @@ impl<Sink: TokenSink> Tokenizer<Sink> {
     /// Errors: what the sink refuses is passed on, and `Memory`; from then on every call answers `Failed`. `Ended` once
     /// the end was told, which changes nothing.
     pub fn end(&mut self) -> Result<(), ParseFault>
-        requires ready { IsReadyIf Sink.step Sink.view Sink.asks_cdata Sink.ended Sink.is_sound Sink.number Sink.has_failed Sink.errors Sink.is_quiet (refusal_of self.old) self.old }
-        ensures gives { EndGives Sink.step Sink.view Sink.asks_cdata Sink.ended Sink.is_sound Sink.number Sink.has_failed Sink.errors Sink.is_quiet Sink.errors_ended (refusal_of self.old) self.old self.new result }
-        ensures ready { IsReadyIf Sink.step Sink.view Sink.asks_cdata Sink.ended Sink.is_sound Sink.number Sink.has_failed Sink.errors Sink.is_quiet (refusal_of self.new) self.new }
+        requires ready { IsReadyIf Sink.TokenSink (refusal_of self.old) self.old }
+        ensures gives { EndGives Sink.TokenSink (refusal_of self.old) self.old self.new result }
+        ensures ready { IsReadyIf Sink.TokenSink (refusal_of self.new) self.new }
     {
         self.stream.refuses()?;
         match self.tell_end() {
@@ -154,7 +154,7 @@ impl<Sink: TokenSink> Tokenizer<Sink> {
     /// nor failed. Then what comes is read from its front.
     pub fn nothing_pending(&self) -> bool
         ensures is { result ≡ is_nothing_pending self.now }
-        ensures reads { result ≡ true → ReadsAt Sink.step Sink.view Sink.asks_cdata Sink.ended Sink.is_sound Sink.number Sink.has_failed Sink.errors Sink.is_quiet (text_place self.now) self.now }
+        ensures reads { result ≡ true → ReadsAt Sink.TokenSink (text_place self.now) self.now }
     {
         if self.stream.has_ended || self.stream.has_failed {
             return false;
@@ -169,7 +169,7 @@ impl<Sink: TokenSink> Tokenizer<Sink> {
     pub fn set_plaintext_state(&mut self)
         requires nothing_pending { is_nothing_pending self.old ≡ true }
         ensures changed { self.new ≡ record self.old { state = state.Plaintext } }
-        ensures reads { ReadsAt Sink.step Sink.view Sink.asks_cdata Sink.ended Sink.is_sound Sink.number Sink.has_failed Sink.errors Sink.is_quiet InPlaintext self.new }
+        ensures reads { ReadsAt Sink.TokenSink InPlaintext self.new }
     {
         self.state = State::Plaintext;
     }

@@ -19,7 +19,7 @@ impl<Sink: TokenSink> Tokenizer<Sink> {
     ) -> Result<ProcessResult<Sink::Handle>, ParseFault>
         requires at { IsAt self.old state.MarkupDeclarationOpen }
         requires sound { Sink.is_sound (Sink.view self.old.sink) }
-        ensures { Keeps Sink.step Sink.view Sink.asks_cdata Sink.ended Sink.is_sound Sink.number Sink.has_failed Sink.errors Sink.is_quiet self.old self.new c result }
+        ensures { Keeps Sink.TokenSink self.old self.new c result }
     {
         if self.keyword.becomes(c, Word::Dashes) {
             self.state = State::CommentStart;
@@ -41,7 +41,7 @@ impl<Sink: TokenSink> Tokenizer<Sink> {
         requires sound { Sink.is_sound (Sink.view self.old.sink) }
         requires whole { becomes word.Cdata (self.old.keyword ++ c ∷ []) ≡ true }
         requires part { IsPart self.old.keyword }
-        ensures { Keeps Sink.step Sink.view Sink.asks_cdata Sink.ended Sink.is_sound Sink.number Sink.has_failed Sink.errors Sink.is_quiet self.old self.new c result }
+        ensures { Keeps Sink.TokenSink self.old self.new c result }
     {
         if self
             .sink
@@ -59,7 +59,7 @@ impl<Sink: TokenSink> Tokenizer<Sink> {
         requires sound { Sink.is_sound (Sink.view self.old.sink) }
         requires open { MakesNoWord self.old.keyword c }
         requires part { IsPart self.old.keyword }
-        ensures { Keeps Sink.step Sink.view Sink.asks_cdata Sink.ended Sink.is_sound Sink.number Sink.has_failed Sink.errors Sink.is_quiet self.old self.new c result }
+        ensures { Keeps Sink.TokenSink self.old self.new c result }
     {
         if self.keyword.may_declare(c) {
             self.keyword.push(c)?;
@@ -73,7 +73,7 @@ impl<Sink: TokenSink> Tokenizer<Sink> {
         requires at { IsAt self.old state.MarkupDeclarationOpen }
         requires sound { Sink.is_sound (Sink.view self.old.sink) }
         requires nothing { OpensNothing (Sink.asks_cdata (Sink.view self.old.sink)) self.old.keyword c }
-        ensures { Keeps Sink.step Sink.view Sink.asks_cdata Sink.ended Sink.is_sound Sink.number Sink.has_failed Sink.errors Sink.is_quiet self.old self.new c result }
+        ensures { Keeps Sink.TokenSink self.old self.new c result }
     {
         self.comment = self.keyword.text(self.stream.alloc)?;
         self.state = State::BogusComment;

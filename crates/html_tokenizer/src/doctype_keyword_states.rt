@@ -19,7 +19,7 @@ impl<Sink: TokenSink> Tokenizer<Sink> {
     ) -> Result<ProcessResult<Sink::Handle>, ParseFault>
         requires at { IsAt self.old state.AfterDoctypeName }
         requires sound { Sink.is_sound (Sink.view self.old.sink) }
-        ensures { Keeps Sink.step Sink.view Sink.asks_cdata Sink.ended Sink.is_sound Sink.number Sink.has_failed Sink.errors Sink.is_quiet self.old self.new c result }
+        ensures { Keeps Sink.TokenSink self.old self.new c result }
     {
         if self.keyword.is_ended(c) {
             return self.end_keyword(c);
@@ -33,7 +33,7 @@ impl<Sink: TokenSink> Tokenizer<Sink> {
         requires sound { Sink.is_sound (Sink.view self.old.sink) }
         requires ended { ends_word (front_of self.old.keyword c) ≡ true }
         requires part { IsPart self.old.keyword }
-        ensures { Keeps Sink.step Sink.view Sink.asks_cdata Sink.ended Sink.is_sound Sink.number Sink.has_failed Sink.errors Sink.is_quiet self.old self.new c result }
+        ensures { Keeps Sink.TokenSink self.old self.new c result }
     {
         if c == '>' {
             self.emit_doctype()?;
@@ -48,7 +48,7 @@ impl<Sink: TokenSink> Tokenizer<Sink> {
         requires sound { Sink.is_sound (Sink.view self.old.sink) }
         requires begun { ends_word (front_of self.old.keyword c) ≡ false }
         requires part { IsPart self.old.keyword }
-        ensures { Keeps Sink.step Sink.view Sink.asks_cdata Sink.ended Sink.is_sound Sink.number Sink.has_failed Sink.errors Sink.is_quiet self.old self.new c result }
+        ensures { Keeps Sink.TokenSink self.old self.new c result }
     {
         if self.keyword.becomes(c, Word::Public) {
             self.state = State::AfterDoctypeKeyword(DoctypeIdKind::Public);
@@ -68,7 +68,7 @@ impl<Sink: TokenSink> Tokenizer<Sink> {
         requires begun { ends_word (front_of self.old.keyword c) ≡ false }
         requires open { MakesNoIdentifier self.old.keyword c }
         requires part { IsPart self.old.keyword }
-        ensures { Keeps Sink.step Sink.view Sink.asks_cdata Sink.ended Sink.is_sound Sink.number Sink.has_failed Sink.errors Sink.is_quiet self.old self.new c result }
+        ensures { Keeps Sink.TokenSink self.old self.new c result }
     {
         if self.keyword.may_identify(c) {
             self.keyword.push(c)?;

@@ -18,7 +18,7 @@ impl<Sink: TokenSink> Tokenizer<Sink> {
     /// The input ends in a comment.
     fn end_comment(&mut self) -> Result<(), ParseFault>
         requires sound { Sink.is_sound (Sink.view self.old.sink) }
-        ensures { Tells Sink.step Sink.view Sink.asks_cdata Sink.ended Sink.is_sound Sink.number Sink.has_failed Sink.errors Sink.is_quiet a_fault (CommentToken self.old.comment) (record self.old { comment = []; state = state.Data }) self.new result }
+        ensures { Tells Sink.TokenSink a_fault (CommentToken self.old.comment) (record self.old { comment = []; state = state.Data }) self.new result }
     {
         self.emit_faulty_comment("end of input in a comment")
     }
@@ -26,7 +26,7 @@ impl<Sink: TokenSink> Tokenizer<Sink> {
     /// The input ends before a comment has a character.
     fn end_comment_start(&mut self) -> Result<(), ParseFault>
         requires sound { Sink.is_sound (Sink.view self.old.sink) }
-        ensures { Tells Sink.step Sink.view Sink.asks_cdata Sink.ended Sink.is_sound Sink.number Sink.has_failed Sink.errors Sink.is_quiet a_fault (CommentToken []) (record self.old { comment = []; state = state.Data }) self.new result }
+        ensures { Tells Sink.TokenSink a_fault (CommentToken []) (record self.old { comment = []; state = state.Data }) self.new result }
     {
         self.comment = empty(self.stream.alloc);
         self.end_comment()
@@ -36,7 +36,7 @@ impl<Sink: TokenSink> Tokenizer<Sink> {
     fn end_declaration(&mut self) -> Result<(), ParseFault>
         requires at { IsAt self.old state.MarkupDeclarationOpen }
         requires sound { Sink.is_sound (Sink.view self.old.sink) }
-        ensures { Closes Sink.step Sink.view Sink.asks_cdata Sink.ended Sink.is_sound Sink.number Sink.has_failed Sink.errors Sink.is_quiet self.old self.new result }
+        ensures { Closes Sink.TokenSink self.old self.new result }
     {
         self.comment = self.keyword.text(self.stream.alloc)?;
         self.end_comment()
@@ -45,7 +45,7 @@ impl<Sink: TokenSink> Tokenizer<Sink> {
     /// The input ends in a doctype.
     fn end_doctype(&mut self) -> Result<(), ParseFault>
         requires sound { Sink.is_sound (Sink.view self.old.sink) }
-        ensures { Tells Sink.step Sink.view Sink.asks_cdata Sink.ended Sink.is_sound Sink.number Sink.has_failed Sink.errors Sink.is_quiet a_fault (DoctypeToken (forced self.old.doctype)) (record self.old { doctype = no_doctype; state = state.Data }) self.new result }
+        ensures { Tells Sink.TokenSink a_fault (DoctypeToken (forced self.old.doctype)) (record self.old { doctype = no_doctype; state = state.Data }) self.new result }
     {
         self.doctype.force_quirks = true;
         self.emit_doctype()
@@ -54,7 +54,7 @@ impl<Sink: TokenSink> Tokenizer<Sink> {
     /// The input ends before a doctype's name.
     fn end_doctype_start(&mut self) -> Result<(), ParseFault>
         requires sound { Sink.is_sound (Sink.view self.old.sink) }
-        ensures { Tells Sink.step Sink.view Sink.asks_cdata Sink.ended Sink.is_sound Sink.number Sink.has_failed Sink.errors Sink.is_quiet a_fault (DoctypeToken (forced no_doctype)) (record self.old { doctype = no_doctype; state = state.Data }) self.new result }
+        ensures { Tells Sink.TokenSink a_fault (DoctypeToken (forced no_doctype)) (record self.old { doctype = no_doctype; state = state.Data }) self.new result }
     {
         self.doctype = crate::doctype_states::no_doctype();
         self.end_doctype()
@@ -63,7 +63,7 @@ impl<Sink: TokenSink> Tokenizer<Sink> {
     /// The input ends in a doctype's name.
     fn end_doctype_name(&mut self) -> Result<(), ParseFault>
         requires sound { Sink.is_sound (Sink.view self.old.sink) }
-        ensures { Tells Sink.step Sink.view Sink.asks_cdata Sink.ended Sink.is_sound Sink.number Sink.has_failed Sink.errors Sink.is_quiet a_fault (DoctypeToken (forced (record no_doctype { name = Some self.old.temporary }))) (record self.old { doctype = no_doctype; temporary = []; state = state.Data }) self.new result }
+        ensures { Tells Sink.TokenSink a_fault (DoctypeToken (forced (record no_doctype { name = Some self.old.temporary }))) (record self.old { doctype = no_doctype; temporary = []; state = state.Data }) self.new result }
     {
         self.finish_name();
         self.end_doctype()
@@ -72,7 +72,7 @@ impl<Sink: TokenSink> Tokenizer<Sink> {
     /// The input ends in a doctype's identifier.
     fn end_doctype_identifier(&mut self, kind: DoctypeIdKind) -> Result<(), ParseFault>
         requires sound { Sink.is_sound (Sink.view self.old.sink) }
-        ensures { Tells Sink.step Sink.view Sink.asks_cdata Sink.ended Sink.is_sound Sink.number Sink.has_failed Sink.errors Sink.is_quiet a_fault (DoctypeToken (forced (with_identifier kind self.old.doctype self.old.temporary))) (record self.old { doctype = no_doctype; temporary = []; state = state.Data }) self.new result }
+        ensures { Tells Sink.TokenSink a_fault (DoctypeToken (forced (with_identifier kind self.old.doctype self.old.temporary))) (record self.old { doctype = no_doctype; temporary = []; state = state.Data }) self.new result }
     {
         self.finish_identifier(kind);
         self.end_doctype()
@@ -82,7 +82,7 @@ impl<Sink: TokenSink> Tokenizer<Sink> {
     fn end_keyword_part(&mut self) -> Result<(), ParseFault>
         requires at { IsAt self.old state.AfterDoctypeName }
         requires sound { Sink.is_sound (Sink.view self.old.sink) }
-        ensures { Closes Sink.step Sink.view Sink.asks_cdata Sink.ended Sink.is_sound Sink.number Sink.has_failed Sink.errors Sink.is_quiet self.old self.new result }
+        ensures { Closes Sink.TokenSink self.old self.new result }
     {
         // What is asked of a keyword also says that it is no whole word.
         let _is_empty = self.keyword.is_empty();
@@ -94,7 +94,7 @@ impl<Sink: TokenSink> Tokenizer<Sink> {
         requires at { is_comment_part self.old.state ≡ true }
         requires fresh { self.old.char_ref ≡ None }
         requires sound { Sink.is_sound (Sink.view self.old.sink) }
-        ensures { Closes Sink.step Sink.view Sink.asks_cdata Sink.ended Sink.is_sound Sink.number Sink.has_failed Sink.errors Sink.is_quiet self.old self.new result }
+        ensures { Closes Sink.TokenSink self.old self.new result }
     {
         match self.state {
             State::MarkupDeclarationOpen => self.end_declaration(),
@@ -108,7 +108,7 @@ impl<Sink: TokenSink> Tokenizer<Sink> {
         requires at { is_doctype_part self.old.state ≡ true }
         requires fresh { self.old.char_ref ≡ None }
         requires sound { Sink.is_sound (Sink.view self.old.sink) }
-        ensures { Closes Sink.step Sink.view Sink.asks_cdata Sink.ended Sink.is_sound Sink.number Sink.has_failed Sink.errors Sink.is_quiet self.old self.new result }
+        ensures { Closes Sink.TokenSink self.old self.new result }
     {
         match self.state {
             State::Doctype | State::BeforeDoctypeName => self.end_doctype_start(),
@@ -126,7 +126,7 @@ impl<Sink: TokenSink> Tokenizer<Sink> {
         requires at { is_markup_part self.old.state ≡ true }
         requires fresh { self.old.char_ref ≡ None }
         requires sound { Sink.is_sound (Sink.view self.old.sink) }
-        ensures { Closes Sink.step Sink.view Sink.asks_cdata Sink.ended Sink.is_sound Sink.number Sink.has_failed Sink.errors Sink.is_quiet self.old self.new result }
+        ensures { Closes Sink.TokenSink self.old self.new result }
     {
         match self.state {
             State::MarkupDeclarationOpen

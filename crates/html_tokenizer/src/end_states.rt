@@ -37,7 +37,7 @@ impl<Sink: TokenSink> Tokenizer<Sink> {
     /// Tells of the end of the input, if it stands in a script's escaped text.
     fn tell_escaped_end(&mut self) -> Result<(), ParseFault>
         requires sound { Sink.is_sound (Sink.view self.old.sink) }
-        ensures { Errs Sink.step Sink.view Sink.asks_cdata Sink.ended Sink.is_sound Sink.number Sink.has_failed Sink.errors Sink.is_quiet (owed_for (grave_if (is_escaped self.old.state))) self.old self.new result }
+        ensures { Errs Sink.TokenSink (owed_for (grave_if (is_escaped self.old.state))) self.old self.new result }
     {
         self.tell_if(
             is_escaped(self.state),
@@ -50,7 +50,7 @@ impl<Sink: TokenSink> Tokenizer<Sink> {
         requires at { is_told_text self.old.state ≡ true }
         requires fresh { self.old.char_ref ≡ None }
         requires sound { Sink.is_sound (Sink.view self.old.sink) }
-        ensures { Closes Sink.step Sink.view Sink.asks_cdata Sink.ended Sink.is_sound Sink.number Sink.has_failed Sink.errors Sink.is_quiet self.old self.new result }
+        ensures { Closes Sink.TokenSink self.old self.new result }
     {
         let _letters = self.word.as_str();
         self.tell_escaped_end()
@@ -60,7 +60,7 @@ impl<Sink: TokenSink> Tokenizer<Sink> {
     fn end_tag_open(&mut self) -> Result<(), ParseFault>
         requires at { IsAt self.old state.TagOpen }
         requires sound { Sink.is_sound (Sink.view self.old.sink) }
-        ensures { Closes Sink.step Sink.view Sink.asks_cdata Sink.ended Sink.is_sound Sink.number Sink.has_failed Sink.errors Sink.is_quiet self.old self.new result }
+        ensures { Closes Sink.TokenSink self.old self.new result }
     {
         self.tell_unopened("end of input before tag name")
     }
@@ -69,7 +69,7 @@ impl<Sink: TokenSink> Tokenizer<Sink> {
     fn end_end_tag_open(&mut self) -> Result<(), ParseFault>
         requires at { IsAt self.old state.EndTagOpen }
         requires sound { Sink.is_sound (Sink.view self.old.sink) }
-        ensures { Closes Sink.step Sink.view Sink.asks_cdata Sink.ended Sink.is_sound Sink.number Sink.has_failed Sink.errors Sink.is_quiet self.old self.new result }
+        ensures { Closes Sink.TokenSink self.old self.new result }
     {
         self.tell_unopened_end("end of input before tag name")
     }
@@ -78,7 +78,7 @@ impl<Sink: TokenSink> Tokenizer<Sink> {
     fn end_raw_less_than_sign(&mut self, kind: RawKind) -> Result<(), ParseFault>
         requires at { IsAt self.old (state.RawLessThanSign kind) }
         requires sound { Sink.is_sound (Sink.view self.old.sink) }
-        ensures { Closes Sink.step Sink.view Sink.asks_cdata Sink.ended Sink.is_sound Sink.number Sink.has_failed Sink.errors Sink.is_quiet self.old self.new result }
+        ensures { Closes Sink.TokenSink self.old self.new result }
     {
         if !ends_at_tag(kind) {
             return self.tell_escaped_end();
@@ -91,7 +91,7 @@ impl<Sink: TokenSink> Tokenizer<Sink> {
     fn end_raw_end_tag_open(&mut self, kind: RawKind) -> Result<(), ParseFault>
         requires at { IsAt self.old (state.RawEndTagOpen kind) }
         requires sound { Sink.is_sound (Sink.view self.old.sink) }
-        ensures { Closes Sink.step Sink.view Sink.asks_cdata Sink.ended Sink.is_sound Sink.number Sink.has_failed Sink.errors Sink.is_quiet self.old self.new result }
+        ensures { Closes Sink.TokenSink self.old self.new result }
     {
         self.tell_two('<', '/')?;
         self.tell_escaped_end()
@@ -101,7 +101,7 @@ impl<Sink: TokenSink> Tokenizer<Sink> {
     fn end_raw_end_tag_name(&mut self, kind: RawKind) -> Result<(), ParseFault>
         requires at { IsAt self.old (state.RawEndTagName kind) }
         requires sound { Sink.is_sound (Sink.view self.old.sink) }
-        ensures { Closes Sink.step Sink.view Sink.asks_cdata Sink.ended Sink.is_sound Sink.number Sink.has_failed Sink.errors Sink.is_quiet self.old self.new result }
+        ensures { Closes Sink.TokenSink self.old self.new result }
     {
         self.tell_end_tag()?;
         self.tell_escaped_end()
@@ -111,7 +111,7 @@ impl<Sink: TokenSink> Tokenizer<Sink> {
     fn end_cdata_section(&mut self) -> Result<(), ParseFault>
         requires at { IsAt self.old state.CdataSection }
         requires sound { Sink.is_sound (Sink.view self.old.sink) }
-        ensures { Closes Sink.step Sink.view Sink.asks_cdata Sink.ended Sink.is_sound Sink.number Sink.has_failed Sink.errors Sink.is_quiet self.old self.new result }
+        ensures { Closes Sink.TokenSink self.old self.new result }
     {
         self.tell_error("end of input in a CDATA section")
     }
@@ -120,7 +120,7 @@ impl<Sink: TokenSink> Tokenizer<Sink> {
     fn end_cdata_section_bracket(&mut self) -> Result<(), ParseFault>
         requires at { IsAt self.old state.CdataSectionBracket }
         requires sound { Sink.is_sound (Sink.view self.old.sink) }
-        ensures { Closes Sink.step Sink.view Sink.asks_cdata Sink.ended Sink.is_sound Sink.number Sink.has_failed Sink.errors Sink.is_quiet self.old self.new result }
+        ensures { Closes Sink.TokenSink self.old self.new result }
     {
         self.tell_char(']')?;
         self.tell_error("end of input in a CDATA section")
@@ -130,7 +130,7 @@ impl<Sink: TokenSink> Tokenizer<Sink> {
     fn end_cdata_section_end(&mut self) -> Result<(), ParseFault>
         requires at { IsAt self.old state.CdataSectionEnd }
         requires sound { Sink.is_sound (Sink.view self.old.sink) }
-        ensures { Closes Sink.step Sink.view Sink.asks_cdata Sink.ended Sink.is_sound Sink.number Sink.has_failed Sink.errors Sink.is_quiet self.old self.new result }
+        ensures { Closes Sink.TokenSink self.old self.new result }
     {
         self.tell_two(']', ']')?;
         self.tell_error("end of input in a CDATA section")
@@ -141,7 +141,7 @@ impl<Sink: TokenSink> Tokenizer<Sink> {
         requires at { is_tag_part self.old.state ≡ true }
         requires fresh { self.old.char_ref ≡ None }
         requires sound { Sink.is_sound (Sink.view self.old.sink) }
-        ensures { Closes Sink.step Sink.view Sink.asks_cdata Sink.ended Sink.is_sound Sink.number Sink.has_failed Sink.errors Sink.is_quiet self.old self.new result }
+        ensures { Closes Sink.TokenSink self.old self.new result }
     {
         self.tell_error("end of input in a tag")
     }
@@ -150,7 +150,7 @@ impl<Sink: TokenSink> Tokenizer<Sink> {
     fn end_state(&mut self) -> Result<(), ParseFault>
         requires fresh { self.old.char_ref ≡ None }
         requires sound { Sink.is_sound (Sink.view self.old.sink) }
-        ensures { Closes Sink.step Sink.view Sink.asks_cdata Sink.ended Sink.is_sound Sink.number Sink.has_failed Sink.errors Sink.is_quiet self.old self.new result }
+        ensures { Closes Sink.TokenSink self.old self.new result }
     {
         match self.state {
             State::Data
@@ -208,7 +208,7 @@ impl<Sink: TokenSink> Tokenizer<Sink> {
         requires at { IsAt self.old state.Data }
         requires held { list_all is_held held.now ≡ true }
         requires sound { Sink.is_sound (Sink.view self.old.sink) }
-        ensures { Closes Sink.step Sink.view Sink.asks_cdata Sink.ended Sink.is_sound Sink.number Sink.has_failed Sink.errors Sink.is_quiet (record self.old { char_ref = Some held.now }) self.new result }
+        ensures { Closes Sink.TokenSink (record self.old { char_ref = Some held.now }) self.new result }
     {
         self.tell_reference(held)
     }
@@ -218,7 +218,7 @@ impl<Sink: TokenSink> Tokenizer<Sink> {
         requires at { IsAt self.old (state.RawData raw.Rcdata) }
         requires held { list_all is_held held.now ≡ true }
         requires sound { Sink.is_sound (Sink.view self.old.sink) }
-        ensures { Closes Sink.step Sink.view Sink.asks_cdata Sink.ended Sink.is_sound Sink.number Sink.has_failed Sink.errors Sink.is_quiet (record self.old { char_ref = Some held.now }) self.new result }
+        ensures { Closes Sink.TokenSink (record self.old { char_ref = Some held.now }) self.new result }
     {
         self.tell_reference(held)
     }
@@ -232,7 +232,7 @@ impl<Sink: TokenSink> Tokenizer<Sink> {
         requires at { IsAt self.old (state.AttributeValue kind) }
         requires held { list_all is_held held.now ≡ true }
         requires sound { Sink.is_sound (Sink.view self.old.sink) }
-        ensures { Closes Sink.step Sink.view Sink.asks_cdata Sink.ended Sink.is_sound Sink.number Sink.has_failed Sink.errors Sink.is_quiet (record self.old { char_ref = Some held.now }) self.new result }
+        ensures { Closes Sink.TokenSink (record self.old { char_ref = Some held.now }) self.new result }
     {
         self.tell_error("end of input in a tag")
     }
@@ -243,7 +243,7 @@ impl<Sink: TokenSink> Tokenizer<Sink> {
         requires fits { may_hold self.old.state ≡ true }
         requires held { list_all is_held held.now ≡ true }
         requires sound { Sink.is_sound (Sink.view self.old.sink) }
-        ensures { Closes Sink.step Sink.view Sink.asks_cdata Sink.ended Sink.is_sound Sink.number Sink.has_failed Sink.errors Sink.is_quiet (record self.old { char_ref = Some held.now }) self.new result }
+        ensures { Closes Sink.TokenSink (record self.old { char_ref = Some held.now }) self.new result }
     {
         match self.state {
             State::Data => self.end_data_reference(held),
@@ -257,7 +257,7 @@ impl<Sink: TokenSink> Tokenizer<Sink> {
     pub(crate) fn tell_held(&mut self) -> Result<(), ParseFault>
         requires fits { fits_in self.old.char_ref self.old.state ≡ true }
         requires sound { Sink.is_sound (Sink.view self.old.sink) }
-        ensures { Closes Sink.step Sink.view Sink.asks_cdata Sink.ended Sink.is_sound Sink.number Sink.has_failed Sink.errors Sink.is_quiet self.old self.new result }
+        ensures { Closes Sink.TokenSink self.old self.new result }
     {
         match self.char_ref.take() {
             Some(held) => self.end_reference(&held),

@@ -28,7 +28,7 @@ impl<Sink: TokenSink> Tokenizer<Sink> {
     fn take_text(&mut self, run: Text) -> Result<ProcessResult<Sink::Handle>, ParseFault>
         requires run { IsRunAt self.old run }
         requires sound { Sink.is_sound (Sink.view self.old.sink) }
-        ensures { KeepsText Sink.step Sink.view Sink.asks_cdata Sink.ended Sink.is_sound Sink.number Sink.has_failed Sink.errors Sink.is_quiet self.old self.new run result }
+        ensures { KeepsText Sink.TokenSink self.old self.new run result }
     {
         self.take_run(run)?;
         Ok(ProcessResult::Continue)
@@ -39,8 +39,8 @@ impl<Sink: TokenSink> Tokenizer<Sink> {
         &mut self,
         input: &mut BufferQueue,
     ) -> Result<ProcessResult<Sink::Handle>, ParseFault>
-        requires ready { IsReady Sink.step Sink.view Sink.asks_cdata Sink.ended Sink.is_sound Sink.number Sink.has_failed Sink.errors Sink.is_quiet self.old }
-        ensures { Moves Sink.step Sink.view Sink.asks_cdata Sink.ended Sink.is_sound Sink.number Sink.has_failed Sink.errors Sink.is_quiet self.old self.new input.old input.new result }
+        requires ready { IsReady Sink.TokenSink self.old }
+        ensures { Moves Sink.TokenSink self.old self.new input.old input.new result }
     {
         match self.next(input)? {
             Piece::Nothing => Ok(ProcessResult::Suspend),
@@ -54,8 +54,8 @@ impl<Sink: TokenSink> Tokenizer<Sink> {
         &mut self,
         input: &mut BufferQueue,
     ) -> Result<TokenizerResult<Sink::Handle>, ParseFault>
-        requires ready { IsReady Sink.step Sink.view Sink.asks_cdata Sink.ended Sink.is_sound Sink.number Sink.has_failed Sink.errors Sink.is_quiet self.old }
-        ensures { Runs Sink.step Sink.view Sink.asks_cdata Sink.ended Sink.is_sound Sink.number Sink.has_failed Sink.errors Sink.is_quiet self.old self.new input.old input.new result }
+        requires ready { IsReady Sink.TokenSink self.old }
+        ensures { Runs Sink.TokenSink self.old self.new input.old input.new result }
     {
         loop {
             match self.move_on(input)? {

@@ -7,28 +7,28 @@ use html_tokens::sink::TokenSink;
 /// In whatever pieces a text is fed to a tokenizer, put in at pauses too, and with control characters told or not: the
 /// sink is left in one state, and the pauses are the same.
 pub fn any_pieces<Sink: TokenSink>()
-    ensures { IsAnyPieces Sink.step Sink.view Sink.asks_cdata Sink.ended Sink.is_sound Sink.number Sink.has_failed Sink.errors Sink.is_quiet Sink.errors_ended }
+    ensures { IsAnyPieces Sink.TokenSink }
 {}
 
 /// Telling control characters or not changes nothing of what is to come.
 pub fn same_road<Sink: TokenSink>()
-    ensures { IsSameRoad Sink.step Sink.view Sink.asks_cdata Sink.ended Sink.is_sound Sink.number Sink.has_failed Sink.errors Sink.is_quiet }
+    ensures { IsSameRoad Sink.TokenSink }
 {}
 
 /// From a new tokenizer to its end, in whatever pieces the text came, the number of errors rises by as many as the text has
 /// faulty items, and control characters and noncharacters where these are told, at least, or is at `u64::MAX`.
 pub fn each_fault_is_told<Sink: TokenSink>()
-    ensures { IsEachFaultTold Sink.step Sink.view Sink.asks_cdata Sink.ended Sink.is_sound Sink.number Sink.has_failed Sink.errors Sink.is_quiet Sink.errors_ended }
+    ensures { IsEachFaultTold Sink.TokenSink }
 {}
 
 /// What a tokenizer owes of errors is told, call by call, or still owed; at the end it is told.
 pub fn owed_errors_are_told<Sink: TokenSink>()
-    ensures { IsOwing Sink.step Sink.view Sink.asks_cdata Sink.ended Sink.is_sound Sink.number Sink.has_failed Sink.errors Sink.is_quiet Sink.errors_ended }
+    ensures { IsOwing Sink.TokenSink }
 {}
 
 /// A text that is read without anything that is not clean, in whatever pieces it came, tells no error; unless the sink itself
 /// finds an error in a token, or the text has control characters or noncharacters and these are told. The number of errors is
 /// then what the sink's own end makes of the number before the text.
 pub fn clean_texts_tell_no_error<Sink: TokenSink>()
-    ensures { IsCleanTextQuiet Sink.step Sink.view Sink.asks_cdata Sink.ended Sink.is_sound Sink.number Sink.has_failed Sink.errors Sink.is_quiet Sink.errors_ended }
+    ensures { IsCleanTextQuiet Sink.TokenSink }
 {}

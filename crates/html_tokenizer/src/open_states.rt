@@ -19,7 +19,7 @@ impl<Sink: TokenSink> Tokenizer<Sink> {
     /// Hands out `<` as text, since it opened nothing, which is a parse error.
     pub(crate) fn tell_unopened(&mut self, message: &'static str) -> Result<(), ParseFault>
         requires sound { Sink.is_sound (Sink.view self.old.sink) }
-        ensures { Tells Sink.step Sink.view Sink.asks_cdata Sink.ended Sink.is_sound Sink.number Sink.has_failed Sink.errors Sink.is_quiet (owed_for (Some Slight)) (CharacterTokens (60 ∷ [])) self.old self.new result }
+        ensures { Tells Sink.TokenSink (owed_for (Some Slight)) (CharacterTokens (60 ∷ [])) self.old self.new result }
     {
         self.tell_error(message)?;
         self.tell_char('<')
@@ -28,7 +28,7 @@ impl<Sink: TokenSink> Tokenizer<Sink> {
     /// Hands out `</` as text, since it opened nothing, which is a parse error.
     pub(crate) fn tell_unopened_end(&mut self, message: &'static str) -> Result<(), ParseFault>
         requires sound { Sink.is_sound (Sink.view self.old.sink) }
-        ensures { Tells Sink.step Sink.view Sink.asks_cdata Sink.ended Sink.is_sound Sink.number Sink.has_failed Sink.errors Sink.is_quiet (owed_for (Some Slight)) (CharacterTokens (60 ∷ 47 ∷ [])) self.old self.new result }
+        ensures { Tells Sink.TokenSink (owed_for (Some Slight)) (CharacterTokens (60 ∷ 47 ∷ [])) self.old self.new result }
     {
         self.tell_error(message)?;
         self.tell_two('<', '/')
@@ -41,7 +41,7 @@ impl<Sink: TokenSink> Tokenizer<Sink> {
     ) -> Result<ProcessResult<Sink::Handle>, ParseFault>
         requires at { IsAt self.old state.TagOpen }
         requires sound { Sink.is_sound (Sink.view self.old.sink) }
-        ensures { Keeps Sink.step Sink.view Sink.asks_cdata Sink.ended Sink.is_sound Sink.number Sink.has_failed Sink.errors Sink.is_quiet self.old self.new c result }
+        ensures { Keeps Sink.TokenSink self.old self.new c result }
     {
         if c == '/' {
             self.state = State::EndTagOpen;
@@ -74,7 +74,7 @@ impl<Sink: TokenSink> Tokenizer<Sink> {
     ) -> Result<ProcessResult<Sink::Handle>, ParseFault>
         requires at { IsAt self.old state.EndTagOpen }
         requires sound { Sink.is_sound (Sink.view self.old.sink) }
-        ensures { Keeps Sink.step Sink.view Sink.asks_cdata Sink.ended Sink.is_sound Sink.number Sink.has_failed Sink.errors Sink.is_quiet self.old self.new c result }
+        ensures { Keeps Sink.TokenSink self.old self.new c result }
     {
         if c.is_ascii_alphabetic() {
             self.tag = nameless(self.stream.alloc);

@@ -46,7 +46,7 @@ impl<Sink: TokenSink> Tokenizer<Sink> {
     ) -> Result<ProcessResult<Sink::Handle>, ParseFault>
         requires at { IsAt self.old (state.RawData kind) }
         requires sound { Sink.is_sound (Sink.view self.old.sink) }
-        ensures { Keeps Sink.step Sink.view Sink.asks_cdata Sink.ended Sink.is_sound Sink.number Sink.has_failed Sink.errors Sink.is_quiet self.old self.new c result }
+        ensures { Keeps Sink.TokenSink self.old self.new c result }
     {
         if c == '<' {
             return self.raw_less_than_sign(kind);
@@ -67,7 +67,7 @@ impl<Sink: TokenSink> Tokenizer<Sink> {
     ) -> Result<ProcessResult<Sink::Handle>, ParseFault>
         requires at { IsAt self.old (state.RawData kind) }
         requires sound { Sink.is_sound (Sink.view self.old.sink) }
-        ensures { Keeps Sink.step Sink.view Sink.asks_cdata Sink.ended Sink.is_sound Sink.number Sink.has_failed Sink.errors Sink.is_quiet self.old self.new 60 result }
+        ensures { Keeps Sink.TokenSink self.old self.new 60 result }
     {
         self.state = State::RawLessThanSign(kind);
         if ends_at_tag(kind) {
@@ -81,7 +81,7 @@ impl<Sink: TokenSink> Tokenizer<Sink> {
     fn raw_ampersand(&mut self, kind: RawKind) -> Result<ProcessResult<Sink::Handle>, ParseFault>
         requires at { IsAt self.old (state.RawData kind) }
         requires sound { Sink.is_sound (Sink.view self.old.sink) }
-        ensures { Keeps Sink.step Sink.view Sink.asks_cdata Sink.ended Sink.is_sound Sink.number Sink.has_failed Sink.errors Sink.is_quiet self.old self.new 38 result }
+        ensures { Keeps Sink.TokenSink self.old self.new 38 result }
     {
         if has_references(kind) {
             self.char_ref = Some(HeldReference::new(self.stream.alloc));
@@ -95,7 +95,7 @@ impl<Sink: TokenSink> Tokenizer<Sink> {
     fn raw_dash(&mut self, kind: RawKind) -> Result<ProcessResult<Sink::Handle>, ParseFault>
         requires at { IsAt self.old (state.RawData kind) }
         requires sound { Sink.is_sound (Sink.view self.old.sink) }
-        ensures { Keeps Sink.step Sink.view Sink.asks_cdata Sink.ended Sink.is_sound Sink.number Sink.has_failed Sink.errors Sink.is_quiet self.old self.new 45 result }
+        ensures { Keeps Sink.TokenSink self.old self.new 45 result }
     {
         match kind {
             RawKind::ScriptDataEscaped(escape) => {
@@ -114,7 +114,7 @@ impl<Sink: TokenSink> Tokenizer<Sink> {
     ) -> Result<ProcessResult<Sink::Handle>, ParseFault>
         requires at { IsAt self.old (state.RawLessThanSign kind) }
         requires sound { Sink.is_sound (Sink.view self.old.sink) }
-        ensures { Keeps Sink.step Sink.view Sink.asks_cdata Sink.ended Sink.is_sound Sink.number Sink.has_failed Sink.errors Sink.is_quiet self.old self.new c result }
+        ensures { Keeps Sink.TokenSink self.old self.new c result }
     {
         match kind {
             RawKind::Rcdata | RawKind::Rawtext => self.held_less_than_sign(kind, c),
@@ -136,7 +136,7 @@ impl<Sink: TokenSink> Tokenizer<Sink> {
         requires held { ends_at_tag kind ≡ true }
         requires plain { may_escape kind c ≡ false }
         requires sound { Sink.is_sound (Sink.view self.old.sink) }
-        ensures { Keeps Sink.step Sink.view Sink.asks_cdata Sink.ended Sink.is_sound Sink.number Sink.has_failed Sink.errors Sink.is_quiet self.old self.new c result }
+        ensures { Keeps Sink.TokenSink self.old self.new c result }
     {
         if c == '/' {
             self.state = State::RawEndTagOpen(kind);
@@ -151,7 +151,7 @@ impl<Sink: TokenSink> Tokenizer<Sink> {
     fn script_less_than_sign(&mut self, c: char) -> Result<ProcessResult<Sink::Handle>, ParseFault>
         requires at { IsAt self.old (state.RawLessThanSign raw.ScriptData) }
         requires sound { Sink.is_sound (Sink.view self.old.sink) }
-        ensures { Keeps Sink.step Sink.view Sink.asks_cdata Sink.ended Sink.is_sound Sink.number Sink.has_failed Sink.errors Sink.is_quiet self.old self.new c result }
+        ensures { Keeps Sink.TokenSink self.old self.new c result }
     {
         if c == '!' {
             self.state = State::ScriptDataEscapeStart(ScriptEscapeKind::Escaped);
@@ -164,7 +164,7 @@ impl<Sink: TokenSink> Tokenizer<Sink> {
     fn escaped_less_than_sign(&mut self, c: char) -> Result<ProcessResult<Sink::Handle>, ParseFault>
         requires at { IsAt self.old (state.RawLessThanSign (raw.ScriptDataEscaped script.Escaped)) }
         requires sound { Sink.is_sound (Sink.view self.old.sink) }
-        ensures { Keeps Sink.step Sink.view Sink.asks_cdata Sink.ended Sink.is_sound Sink.number Sink.has_failed Sink.errors Sink.is_quiet self.old self.new c result }
+        ensures { Keeps Sink.TokenSink self.old self.new c result }
     {
         if c.is_ascii_alphabetic() {
             self.word = Letters::first(self.stream.alloc, c)?;
@@ -181,7 +181,7 @@ impl<Sink: TokenSink> Tokenizer<Sink> {
     ) -> Result<ProcessResult<Sink::Handle>, ParseFault>
         requires at { IsAt self.old (state.RawLessThanSign (raw.ScriptDataEscaped script.DoubleEscaped)) }
         requires sound { Sink.is_sound (Sink.view self.old.sink) }
-        ensures { Keeps Sink.step Sink.view Sink.asks_cdata Sink.ended Sink.is_sound Sink.number Sink.has_failed Sink.errors Sink.is_quiet self.old self.new c result }
+        ensures { Keeps Sink.TokenSink self.old self.new c result }
     {
         if c == '/' {
             self.word = Letters::new(self.stream.alloc);
@@ -201,7 +201,7 @@ impl<Sink: TokenSink> Tokenizer<Sink> {
     ) -> Result<ProcessResult<Sink::Handle>, ParseFault>
         requires at { IsAt self.old (state.RawEndTagOpen kind) }
         requires sound { Sink.is_sound (Sink.view self.old.sink) }
-        ensures { Keeps Sink.step Sink.view Sink.asks_cdata Sink.ended Sink.is_sound Sink.number Sink.has_failed Sink.errors Sink.is_quiet self.old self.new c result }
+        ensures { Keeps Sink.TokenSink self.old self.new c result }
     {
         if c.is_ascii_alphabetic() {
             self.word = Letters::first(self.stream.alloc, c)?;
@@ -221,7 +221,7 @@ impl<Sink: TokenSink> Tokenizer<Sink> {
     ) -> Result<ProcessResult<Sink::Handle>, ParseFault>
         requires at { IsAt self.old (state.RawEndTagName kind) }
         requires sound { Sink.is_sound (Sink.view self.old.sink) }
-        ensures { Keeps Sink.step Sink.view Sink.asks_cdata Sink.ended Sink.is_sound Sink.number Sink.has_failed Sink.errors Sink.is_quiet self.old self.new c result }
+        ensures { Keeps Sink.TokenSink self.old self.new c result }
     {
         if c.is_ascii_alphabetic() {
             self.word.push(c)?;
@@ -248,7 +248,7 @@ impl<Sink: TokenSink> Tokenizer<Sink> {
         requires held { ends_at_tag kind ≡ true }
         requires ends { ends_raw_text self.old.last_start_tag self.old.word c ≡ true }
         requires sound { Sink.is_sound (Sink.view self.old.sink) }
-        ensures { Keeps Sink.step Sink.view Sink.asks_cdata Sink.ended Sink.is_sound Sink.number Sink.has_failed Sink.errors Sink.is_quiet self.old self.new c result }
+        ensures { Keeps Sink.TokenSink self.old self.new c result }
     {
         let name = self.word.lowered(self.stream.alloc)?;
         self.tag = Tag {
@@ -271,7 +271,7 @@ impl<Sink: TokenSink> Tokenizer<Sink> {
         requires at { IsAt self.old (state.RawEndTagName kind) }
         requires told { ends_at_tag kind ≡ false }
         requires sound { Sink.is_sound (Sink.view self.old.sink) }
-        ensures { Keeps Sink.step Sink.view Sink.asks_cdata Sink.ended Sink.is_sound Sink.number Sink.has_failed Sink.errors Sink.is_quiet self.old self.new c result }
+        ensures { Keeps Sink.TokenSink self.old self.new c result }
     {
         self.state = State::ScriptDataDoubleEscapeEnd;
         self.tell_end_tag()?;
@@ -293,7 +293,7 @@ impl<Sink: TokenSink> Tokenizer<Sink> {
     /// Hands out the end tag that is held, which was text.
     pub(crate) fn tell_end_tag(&mut self) -> Result<(), ParseFault>
         requires sound { Sink.is_sound (Sink.view self.old.sink) }
-        ensures is { Tells Sink.step Sink.view Sink.asks_cdata Sink.ended Sink.is_sound Sink.number Sink.has_failed Sink.errors Sink.is_quiet nothing (CharacterTokens (60 ∷ 47 ∷ self.old.word)) self.old self.new result }
+        ensures is { Tells Sink.TokenSink nothing (CharacterTokens (60 ∷ 47 ∷ self.old.word)) self.old self.new result }
         ensures letters { list_all is_ascii_alphabetic self.old.word ≡ true }
     {
         let mut text = empty(self.stream.alloc);

@@ -21,7 +21,7 @@ impl<Sink: TokenSink> Tokenizer<Sink> {
     /// Hands out what a reference in text stands for.
     pub(crate) fn tell_reference(&mut self, held: &HeldReference) -> Result<(), ParseFault>
         requires sound { Sink.is_sound (Sink.view self.old.sink) }
-        ensures { Tells Sink.step Sink.view Sink.asks_cdata Sink.ended Sink.is_sound Sink.number Sink.has_failed Sink.errors Sink.is_quiet (owed_for (fault_of_reference (rows_of self.old) held.now)) (CharacterTokens (resolved false (rows_of self.old) held.now false)) self.old self.new result }
+        ensures { Tells Sink.TokenSink (owed_for (fault_of_reference (rows_of self.old) held.now)) (CharacterTokens (resolved false (rows_of self.old) held.now false)) self.old self.new result }
     {
         let decision = decided(&self.stream.table, false, held, false);
         let mut text = empty(self.stream.alloc);
@@ -42,7 +42,7 @@ impl<Sink: TokenSink> Tokenizer<Sink> {
         requires at { IsAt self.old state.Data }
         requires decided { IsDecided (rows_of self.old) held.now c }
         requires sound { Sink.is_sound (Sink.view self.old.sink) }
-        ensures { Keeps Sink.step Sink.view Sink.asks_cdata Sink.ended Sink.is_sound Sink.number Sink.has_failed Sink.errors Sink.is_quiet (record self.old { char_ref = Some held.now }) self.new c result }
+        ensures { Keeps Sink.TokenSink (record self.old { char_ref = Some held.now }) self.new c result }
     {
         self.tell_reference(held)?;
         self.data_state(c)
@@ -57,7 +57,7 @@ impl<Sink: TokenSink> Tokenizer<Sink> {
         requires at { IsAt self.old (state.RawData raw.Rcdata) }
         requires decided { IsDecided (rows_of self.old) held.now c }
         requires sound { Sink.is_sound (Sink.view self.old.sink) }
-        ensures { Keeps Sink.step Sink.view Sink.asks_cdata Sink.ended Sink.is_sound Sink.number Sink.has_failed Sink.errors Sink.is_quiet (record self.old { char_ref = Some held.now }) self.new c result }
+        ensures { Keeps Sink.TokenSink (record self.old { char_ref = Some held.now }) self.new c result }
     {
         self.tell_reference(held)?;
         self.raw_data_state(RawKind::Rcdata, c)
@@ -73,7 +73,7 @@ impl<Sink: TokenSink> Tokenizer<Sink> {
         requires at { IsAt self.old (state.AttributeValue kind) }
         requires decided { IsDecided (rows_of self.old) held.now c }
         requires sound { Sink.is_sound (Sink.view self.old.sink) }
-        ensures { Keeps Sink.step Sink.view Sink.asks_cdata Sink.ended Sink.is_sound Sink.number Sink.has_failed Sink.errors Sink.is_quiet (record self.old { char_ref = Some held.now }) self.new c result }
+        ensures { Keeps Sink.TokenSink (record self.old { char_ref = Some held.now }) self.new c result }
     {
         let decision = decided(&self.stream.table, true, held, goes_on_at(c));
         self.tell_fault(decision.fault)?;
@@ -90,7 +90,7 @@ impl<Sink: TokenSink> Tokenizer<Sink> {
         requires fresh { self.old.char_ref ≡ None }
         requires fits { may_hold self.old.state ≡ true }
         requires sound { Sink.is_sound (Sink.view self.old.sink) }
-        ensures { Keeps Sink.step Sink.view Sink.asks_cdata Sink.ended Sink.is_sound Sink.number Sink.has_failed Sink.errors Sink.is_quiet (record self.old { char_ref = Some held }) self.new c result }
+        ensures { Keeps Sink.TokenSink (record self.old { char_ref = Some held }) self.new c result }
     {
         if may_go_on(&self.stream.table, &held, c) {
             held.push(c)?;

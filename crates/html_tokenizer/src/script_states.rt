@@ -24,7 +24,7 @@ impl<Sink: TokenSink> Tokenizer<Sink> {
     ) -> Result<ProcessResult<Sink::Handle>, ParseFault>
         requires at { IsAt self.old (state.ScriptDataEscapeStart kind) }
         requires sound { Sink.is_sound (Sink.view self.old.sink) }
-        ensures { Keeps Sink.step Sink.view Sink.asks_cdata Sink.ended Sink.is_sound Sink.number Sink.has_failed Sink.errors Sink.is_quiet self.old self.new c result }
+        ensures { Keeps Sink.TokenSink self.old self.new c result }
     {
         match kind {
             ScriptEscapeKind::Escaped => self.escape_start(c),
@@ -36,7 +36,7 @@ impl<Sink: TokenSink> Tokenizer<Sink> {
     fn escape_start(&mut self, c: char) -> Result<ProcessResult<Sink::Handle>, ParseFault>
         requires at { IsAt self.old (state.ScriptDataEscapeStart script.Escaped) }
         requires sound { Sink.is_sound (Sink.view self.old.sink) }
-        ensures { Keeps Sink.step Sink.view Sink.asks_cdata Sink.ended Sink.is_sound Sink.number Sink.has_failed Sink.errors Sink.is_quiet self.old self.new c result }
+        ensures { Keeps Sink.TokenSink self.old self.new c result }
     {
         if c == '-' {
             self.state = State::ScriptDataEscapeStartDash;
@@ -50,7 +50,7 @@ impl<Sink: TokenSink> Tokenizer<Sink> {
     fn double_escape_start(&mut self, c: char) -> Result<ProcessResult<Sink::Handle>, ParseFault>
         requires at { IsAt self.old (state.ScriptDataEscapeStart script.DoubleEscaped) }
         requires sound { Sink.is_sound (Sink.view self.old.sink) }
-        ensures { Keeps Sink.step Sink.view Sink.asks_cdata Sink.ended Sink.is_sound Sink.number Sink.has_failed Sink.errors Sink.is_quiet self.old self.new c result }
+        ensures { Keeps Sink.TokenSink self.old self.new c result }
     {
         if c.is_ascii_alphabetic() {
             self.word.push(c)?;
@@ -72,7 +72,7 @@ impl<Sink: TokenSink> Tokenizer<Sink> {
     ) -> Result<ProcessResult<Sink::Handle>, ParseFault>
         requires at { IsAt self.old state.ScriptDataEscapeStartDash }
         requires sound { Sink.is_sound (Sink.view self.old.sink) }
-        ensures { Keeps Sink.step Sink.view Sink.asks_cdata Sink.ended Sink.is_sound Sink.number Sink.has_failed Sink.errors Sink.is_quiet self.old self.new c result }
+        ensures { Keeps Sink.TokenSink self.old self.new c result }
     {
         if c == '-' {
             self.state = State::ScriptDataEscapedDashDash(ScriptEscapeKind::Escaped);
@@ -90,7 +90,7 @@ impl<Sink: TokenSink> Tokenizer<Sink> {
     ) -> Result<ProcessResult<Sink::Handle>, ParseFault>
         requires at { IsAt self.old (state.ScriptDataEscapedDash kind) }
         requires sound { Sink.is_sound (Sink.view self.old.sink) }
-        ensures { Keeps Sink.step Sink.view Sink.asks_cdata Sink.ended Sink.is_sound Sink.number Sink.has_failed Sink.errors Sink.is_quiet self.old self.new c result }
+        ensures { Keeps Sink.TokenSink self.old self.new c result }
     {
         if c == '-' {
             self.state = State::ScriptDataEscapedDashDash(kind);
@@ -108,7 +108,7 @@ impl<Sink: TokenSink> Tokenizer<Sink> {
     ) -> Result<ProcessResult<Sink::Handle>, ParseFault>
         requires at { IsAt self.old (state.ScriptDataEscapedDashDash kind) }
         requires sound { Sink.is_sound (Sink.view self.old.sink) }
-        ensures { Keeps Sink.step Sink.view Sink.asks_cdata Sink.ended Sink.is_sound Sink.number Sink.has_failed Sink.errors Sink.is_quiet self.old self.new c result }
+        ensures { Keeps Sink.TokenSink self.old self.new c result }
     {
         if c == '-' {
             return self.take_char('-');
@@ -128,7 +128,7 @@ impl<Sink: TokenSink> Tokenizer<Sink> {
     ) -> Result<ProcessResult<Sink::Handle>, ParseFault>
         requires at { IsAt self.old state.ScriptDataDoubleEscapeEnd }
         requires sound { Sink.is_sound (Sink.view self.old.sink) }
-        ensures { Keeps Sink.step Sink.view Sink.asks_cdata Sink.ended Sink.is_sound Sink.number Sink.has_failed Sink.errors Sink.is_quiet self.old self.new c result }
+        ensures { Keeps Sink.TokenSink self.old self.new c result }
     {
         if c.is_ascii_alphabetic() {
             self.word.push(c)?;

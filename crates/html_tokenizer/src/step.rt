@@ -17,7 +17,7 @@ impl<Sink: TokenSink> Tokenizer<Sink> {
     ) -> Result<ProcessResult<Sink::Handle>, ParseFault>
         requires at { IsAt self.old state.CommentLessThanSign }
         requires sound { Sink.is_sound (Sink.view self.old.sink) }
-        ensures { Keeps Sink.step Sink.view Sink.asks_cdata Sink.ended Sink.is_sound Sink.number Sink.has_failed Sink.errors Sink.is_quiet self.old self.new c result }
+        ensures { Keeps Sink.TokenSink self.old self.new c result }
     {
         self.state = State::Comment;
         self.comment_state(c)
@@ -30,7 +30,7 @@ impl<Sink: TokenSink> Tokenizer<Sink> {
     ) -> Result<ProcessResult<Sink::Handle>, ParseFault>
         requires at { IsAt self.old state.CommentLessThanSignBang }
         requires sound { Sink.is_sound (Sink.view self.old.sink) }
-        ensures { Keeps Sink.step Sink.view Sink.asks_cdata Sink.ended Sink.is_sound Sink.number Sink.has_failed Sink.errors Sink.is_quiet self.old self.new c result }
+        ensures { Keeps Sink.TokenSink self.old self.new c result }
     {
         self.state = State::Comment;
         self.comment_state(c)
@@ -43,7 +43,7 @@ impl<Sink: TokenSink> Tokenizer<Sink> {
     ) -> Result<ProcessResult<Sink::Handle>, ParseFault>
         requires at { IsAt self.old state.CommentLessThanSignBangDash }
         requires sound { Sink.is_sound (Sink.view self.old.sink) }
-        ensures { Keeps Sink.step Sink.view Sink.asks_cdata Sink.ended Sink.is_sound Sink.number Sink.has_failed Sink.errors Sink.is_quiet self.old self.new c result }
+        ensures { Keeps Sink.TokenSink self.old self.new c result }
     {
         self.state = State::CommentEndDash;
         self.comment_end_dash_state(c)
@@ -56,7 +56,7 @@ impl<Sink: TokenSink> Tokenizer<Sink> {
     ) -> Result<ProcessResult<Sink::Handle>, ParseFault>
         requires at { IsAt self.old state.CommentLessThanSignBangDashDash }
         requires sound { Sink.is_sound (Sink.view self.old.sink) }
-        ensures { Keeps Sink.step Sink.view Sink.asks_cdata Sink.ended Sink.is_sound Sink.number Sink.has_failed Sink.errors Sink.is_quiet self.old self.new c result }
+        ensures { Keeps Sink.TokenSink self.old self.new c result }
     {
         self.state = State::CommentEnd;
         self.comment_end_state(c)
@@ -66,7 +66,7 @@ impl<Sink: TokenSink> Tokenizer<Sink> {
     pub(crate) fn step(&mut self, c: char) -> Result<ProcessResult<Sink::Handle>, ParseFault>
         requires fresh { self.old.char_ref ≡ None }
         requires sound { Sink.is_sound (Sink.view self.old.sink) }
-        ensures { Keeps Sink.step Sink.view Sink.asks_cdata Sink.ended Sink.is_sound Sink.number Sink.has_failed Sink.errors Sink.is_quiet self.old self.new c result }
+        ensures { Keeps Sink.TokenSink self.old self.new c result }
     {
         match self.state {
             State::Data => self.data_state(c),

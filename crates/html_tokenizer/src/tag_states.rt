@@ -61,7 +61,7 @@ impl<Sink: TokenSink> Tokenizer<Sink> {
     /// Tells an error, if the tag that is read is faulty.
     fn tell_faulty_tag(&mut self) -> Result<(), ParseFault>
         requires sound { Sink.is_sound (Sink.view self.old.sink) }
-        ensures { Errs Sink.step Sink.view Sink.asks_cdata Sink.ended Sink.is_sound Sink.number Sink.has_failed Sink.errors Sink.is_quiet (owed_for (grave_if (is_faulty_tag self.old.tag))) self.old self.new result }
+        ensures { Errs Sink.TokenSink (owed_for (grave_if (is_faulty_tag self.old.tag))) self.old self.new result }
     {
         if is_faulty(&self.tag) {
             return self.tell_error("repeated attribute, or more than a name in an end tag");
@@ -94,7 +94,7 @@ impl<Sink: TokenSink> Tokenizer<Sink> {
     pub(crate) fn emit_tag(&mut self) -> Result<ProcessResult<Sink::Handle>, ParseFault>
         requires fresh { self.old.char_ref ≡ None }
         requires sound { Sink.is_sound (Sink.view self.old.sink) }
-        ensures { EndsTag Sink.step Sink.view Sink.asks_cdata Sink.ended Sink.is_sound Sink.number Sink.has_failed Sink.errors Sink.is_quiet self.old self.new result }
+        ensures { EndsTag Sink.TokenSink self.old self.new result }
     {
         let last_start_tag = self.next_last_start_tag()?;
         self.tell_faulty_tag()?;
@@ -112,7 +112,7 @@ impl<Sink: TokenSink> Tokenizer<Sink> {
     ) -> Result<ProcessResult<Sink::Handle>, ParseFault>
         requires at { IsAt self.old state.TagName }
         requires sound { Sink.is_sound (Sink.view self.old.sink) }
-        ensures { Keeps Sink.step Sink.view Sink.asks_cdata Sink.ended Sink.is_sound Sink.number Sink.has_failed Sink.errors Sink.is_quiet self.old self.new c result }
+        ensures { Keeps Sink.TokenSink self.old self.new c result }
     {
         self.tell_null(c)?;
         self.take_in_tag_name(c)
@@ -122,7 +122,7 @@ impl<Sink: TokenSink> Tokenizer<Sink> {
     fn take_in_tag_name(&mut self, c: char) -> Result<ProcessResult<Sink::Handle>, ParseFault>
         requires at { IsAt self.old state.TagName }
         requires sound { Sink.is_sound (Sink.view self.old.sink) }
-        ensures { Keeps Sink.step Sink.view Sink.asks_cdata Sink.ended Sink.is_sound Sink.number Sink.has_failed Sink.errors Sink.is_quiet self.old self.new c result }
+        ensures { Keeps Sink.TokenSink self.old self.new c result }
     {
         if is_white_space(c) {
             self.state = State::BeforeAttributeName;
@@ -146,7 +146,7 @@ impl<Sink: TokenSink> Tokenizer<Sink> {
     ) -> Result<ProcessResult<Sink::Handle>, ParseFault>
         requires at { IsAt self.old state.SelfClosingStartTag }
         requires sound { Sink.is_sound (Sink.view self.old.sink) }
-        ensures { Keeps Sink.step Sink.view Sink.asks_cdata Sink.ended Sink.is_sound Sink.number Sink.has_failed Sink.errors Sink.is_quiet self.old self.new c result }
+        ensures { Keeps Sink.TokenSink self.old self.new c result }
     {
         self.tell_if(c != '>', "unexpected solidus in tag")?;
         self.take_behind_solidus(c)
@@ -156,7 +156,7 @@ impl<Sink: TokenSink> Tokenizer<Sink> {
     fn take_behind_solidus(&mut self, c: char) -> Result<ProcessResult<Sink::Handle>, ParseFault>
         requires at { IsAt self.old state.SelfClosingStartTag }
         requires sound { Sink.is_sound (Sink.view self.old.sink) }
-        ensures { Keeps Sink.step Sink.view Sink.asks_cdata Sink.ended Sink.is_sound Sink.number Sink.has_failed Sink.errors Sink.is_quiet self.old self.new c result }
+        ensures { Keeps Sink.TokenSink self.old self.new c result }
     {
         if c == '>' {
             self.tag.self_closing = true;

@@ -26,7 +26,7 @@ impl<Sink: TokenSink> Tokenizer<Sink> {
     /// Tells of a control character or a noncharacter, where such are told.
     fn tell_forbidden(&mut self, c: char) -> Result<(), ParseFault>
         requires sound { Sink.is_sound (Sink.view self.old.sink) }
-        ensures { Errs Sink.step Sink.view Sink.asks_cdata Sink.ended Sink.is_sound Sink.number Sink.has_failed Sink.errors Sink.is_quiet (owed_for_char self.old.stream.exact_errors c) self.old self.new result }
+        ensures { Errs Sink.TokenSink (owed_for_char self.old.stream.exact_errors c) self.old self.new result }
     {
         self.tell_if(
             self.stream.exact_errors && is_forbidden(c),
@@ -38,7 +38,7 @@ impl<Sink: TokenSink> Tokenizer<Sink> {
     fn advance(&mut self, c: char) -> Result<ProcessResult<Sink::Handle>, ParseFault>
         requires sound { Sink.is_sound (Sink.view self.old.sink) }
         requires fits { fits_in self.old.char_ref self.old.state ≡ true }
-        ensures { Keeps Sink.step Sink.view Sink.asks_cdata Sink.ended Sink.is_sound Sink.number Sink.has_failed Sink.errors Sink.is_quiet self.old self.new c result }
+        ensures { Keeps Sink.TokenSink self.old self.new c result }
     {
         match self.char_ref.take() {
             Some(held) => self.reference_state(held, c),
@@ -50,7 +50,7 @@ impl<Sink: TokenSink> Tokenizer<Sink> {
     pub(crate) fn take(&mut self, c: char) -> Result<ProcessResult<Sink::Handle>, ParseFault>
         requires sound { Sink.is_sound (Sink.view self.old.sink) }
         requires fits { fits_in self.old.char_ref self.old.state ≡ true }
-        ensures { Passes Sink.step Sink.view Sink.asks_cdata Sink.ended Sink.is_sound Sink.number Sink.has_failed Sink.errors Sink.is_quiet self.old self.new c result }
+        ensures { Passes Sink.TokenSink self.old self.new c result }
     {
         self.tell_forbidden(c)?;
         let result = self.advance(c)?;

@@ -34,7 +34,7 @@ impl<Sink: TokenSink> Tokenizer<Sink> {
     pub(crate) fn tell(&mut self, token: Token) -> Result<(), ParseFault>
         requires no_tag { IsNoTag token }
         requires sound { Sink.is_sound (Sink.view self.old.sink) }
-        ensures { Tells Sink.step Sink.view Sink.asks_cdata Sink.ended Sink.is_sound Sink.number Sink.has_failed Sink.errors Sink.is_quiet nothing token self.old self.new result }
+        ensures { Tells Sink.TokenSink nothing token self.old self.new result }
     {
         let line = self.line();
         let _reply = self.sink.process_token(token, line)?;
@@ -44,7 +44,7 @@ impl<Sink: TokenSink> Tokenizer<Sink> {
     /// Tells of a parse error.
     pub(crate) fn tell_error(&mut self, message: &'static str) -> Result<(), ParseFault>
         requires sound { Sink.is_sound (Sink.view self.old.sink) }
-        ensures { Errs Sink.step Sink.view Sink.asks_cdata Sink.ended Sink.is_sound Sink.number Sink.has_failed Sink.errors Sink.is_quiet a_fault self.old self.new result }
+        ensures { Errs Sink.TokenSink a_fault self.old self.new result }
     {
         let line = self.line();
         let _reply = self
@@ -56,7 +56,7 @@ impl<Sink: TokenSink> Tokenizer<Sink> {
     /// Tells of an error, if there is one.
     pub(crate) fn tell_fault(&mut self, fault: Option<&'static str>) -> Result<(), ParseFault>
         requires sound { Sink.is_sound (Sink.view self.old.sink) }
-        ensures { Errs Sink.step Sink.view Sink.asks_cdata Sink.ended Sink.is_sound Sink.number Sink.has_failed Sink.errors Sink.is_quiet (owed_for (grave_if (is_some fault.entry))) self.old self.new result }
+        ensures { Errs Sink.TokenSink (owed_for (grave_if (is_some fault.entry))) self.old self.new result }
     {
         match fault {
             Some(message) => self.tell_error(message),
@@ -71,7 +71,7 @@ impl<Sink: TokenSink> Tokenizer<Sink> {
         message: &'static str,
     ) -> Result<(), ParseFault>
         requires sound { Sink.is_sound (Sink.view self.old.sink) }
-        ensures { Errs Sink.step Sink.view Sink.asks_cdata Sink.ended Sink.is_sound Sink.number Sink.has_failed Sink.errors Sink.is_quiet (owed_for (grave_if is_fault)) self.old self.new result }
+        ensures { Errs Sink.TokenSink (owed_for (grave_if is_fault)) self.old self.new result }
     {
         if is_fault {
             return self.tell_error(message);
@@ -82,7 +82,7 @@ impl<Sink: TokenSink> Tokenizer<Sink> {
     /// Tells of U+0000.
     pub(crate) fn tell_null(&mut self, c: char) -> Result<(), ParseFault>
         requires sound { Sink.is_sound (Sink.view self.old.sink) }
-        ensures { Errs Sink.step Sink.view Sink.asks_cdata Sink.ended Sink.is_sound Sink.number Sink.has_failed Sink.errors Sink.is_quiet (owed_for (grave_if (nat_eq c 0))) self.old self.new result }
+        ensures { Errs Sink.TokenSink (owed_for (grave_if (nat_eq c 0))) self.old self.new result }
     {
         self.tell_if(c == '\0', "unexpected null character")
     }
@@ -90,7 +90,7 @@ impl<Sink: TokenSink> Tokenizer<Sink> {
     /// Hands out a character as text.
     pub(crate) fn tell_char(&mut self, c: char) -> Result<(), ParseFault>
         requires sound { Sink.is_sound (Sink.view self.old.sink) }
-        ensures { Tells Sink.step Sink.view Sink.asks_cdata Sink.ended Sink.is_sound Sink.number Sink.has_failed Sink.errors Sink.is_quiet nothing (CharacterTokens (c ∷ [])) self.old self.new result }
+        ensures { Tells Sink.TokenSink nothing (CharacterTokens (c ∷ [])) self.old self.new result }
     {
         let mut text = empty(self.stream.alloc);
         text.push(c)?;
@@ -105,7 +105,7 @@ impl<Sink: TokenSink> Tokenizer<Sink> {
     ) -> Result<(), ParseFault>
         requires no_tag { IsNoTag token }
         requires sound { Sink.is_sound (Sink.view self.old.sink) }
-        ensures { Tells Sink.step Sink.view Sink.asks_cdata Sink.ended Sink.is_sound Sink.number Sink.has_failed Sink.errors Sink.is_quiet a_fault token self.old self.new result }
+        ensures { Tells Sink.TokenSink a_fault token self.old self.new result }
     {
         self.tell_error(message)?;
         self.tell(token)
@@ -114,7 +114,7 @@ impl<Sink: TokenSink> Tokenizer<Sink> {
     /// Hands out U+FFFD in place of U+0000, which is a parse error.
     fn tell_replacement(&mut self) -> Result<(), ParseFault>
         requires sound { Sink.is_sound (Sink.view self.old.sink) }
-        ensures { Tells Sink.step Sink.view Sink.asks_cdata Sink.ended Sink.is_sound Sink.number Sink.has_failed Sink.errors Sink.is_quiet a_fault (CharacterTokens (0xFFFD ∷ [])) self.old self.new result }
+        ensures { Tells Sink.TokenSink a_fault (CharacterTokens (0xFFFD ∷ [])) self.old self.new result }
     {
         self.tell_error("unexpected null character")?;
         self.tell_char('\u{FFFD}')
@@ -123,7 +123,7 @@ impl<Sink: TokenSink> Tokenizer<Sink> {
     /// Hands out a character of text in which U+FFFD stands for U+0000.
     pub(crate) fn tell_shown(&mut self, c: char) -> Result<(), ParseFault>
         requires sound { Sink.is_sound (Sink.view self.old.sink) }
-        ensures { Tells Sink.step Sink.view Sink.asks_cdata Sink.ended Sink.is_sound Sink.number Sink.has_failed Sink.errors Sink.is_quiet (owed_for (grave_if (nat_eq c 0))) (CharacterTokens (shown c ∷ [])) self.old self.new result }
+        ensures { Tells Sink.TokenSink (owed_for (grave_if (nat_eq c 0))) (CharacterTokens (shown c ∷ [])) self.old self.new result }
     {
         if c == '\0' {
             self.tell_replacement()

@@ -78,7 +78,7 @@ impl<Sink: TokenSink> Tokenizer<Sink> {
     pub(crate) fn take_run(&mut self, run: Text) -> Result<(), ParseFault>
         requires run { IsRunAt self.old run }
         requires sound { Sink.is_sound (Sink.view self.old.sink) }
-        ensures { KeepsRun Sink.step Sink.view Sink.asks_cdata Sink.ended Sink.is_sound Sink.number Sink.has_failed Sink.errors Sink.is_quiet self.old self.new run result }
+        ensures { KeepsRun Sink.TokenSink self.old self.new run result }
     {
         match self.state {
             State::AttributeValue(kind) => self.take_value_run(kind, &run),

@@ -19,7 +19,7 @@ impl<Sink: TokenSink> Tokenizer<Sink> {
     pub(crate) fn data_state(&mut self, c: char) -> Result<ProcessResult<Sink::Handle>, ParseFault>
         requires at { IsAt self.old state.Data }
         requires sound { Sink.is_sound (Sink.view self.old.sink) }
-        ensures { Keeps Sink.step Sink.view Sink.asks_cdata Sink.ended Sink.is_sound Sink.number Sink.has_failed Sink.errors Sink.is_quiet self.old self.new c result }
+        ensures { Keeps Sink.TokenSink self.old self.new c result }
     {
         if c == '<' {
             self.state = State::TagOpen;
@@ -42,7 +42,7 @@ impl<Sink: TokenSink> Tokenizer<Sink> {
     ) -> Result<ProcessResult<Sink::Handle>, ParseFault>
         requires at { IsAt self.old state.Plaintext }
         requires sound { Sink.is_sound (Sink.view self.old.sink) }
-        ensures { Keeps Sink.step Sink.view Sink.asks_cdata Sink.ended Sink.is_sound Sink.number Sink.has_failed Sink.errors Sink.is_quiet self.old self.new c result }
+        ensures { Keeps Sink.TokenSink self.old self.new c result }
     {
         self.take_shown(c)
     }
@@ -50,7 +50,7 @@ impl<Sink: TokenSink> Tokenizer<Sink> {
     /// Hands out a character of text, and goes on.
     pub(crate) fn take_char(&mut self, c: char) -> Result<ProcessResult<Sink::Handle>, ParseFault>
         requires sound { Sink.is_sound (Sink.view self.old.sink) }
-        ensures { TakesAs Sink.step Sink.view Sink.asks_cdata Sink.ended Sink.is_sound Sink.number Sink.has_failed Sink.errors Sink.is_quiet nothing (CharacterTokens (c ∷ [])) self.old self.new result }
+        ensures { TakesAs Sink.TokenSink nothing (CharacterTokens (c ∷ [])) self.old self.new result }
     {
         self.tell_char(c)?;
         Ok(ProcessResult::Continue)
@@ -59,7 +59,7 @@ impl<Sink: TokenSink> Tokenizer<Sink> {
     /// Hands out a character of text in which U+FFFD stands for U+0000, and goes on.
     pub(crate) fn take_shown(&mut self, c: char) -> Result<ProcessResult<Sink::Handle>, ParseFault>
         requires sound { Sink.is_sound (Sink.view self.old.sink) }
-        ensures { TakesAs Sink.step Sink.view Sink.asks_cdata Sink.ended Sink.is_sound Sink.number Sink.has_failed Sink.errors Sink.is_quiet (owed_for (grave_if (nat_eq c 0))) (CharacterTokens (shown c ∷ [])) self.old self.new result }
+        ensures { TakesAs Sink.TokenSink (owed_for (grave_if (nat_eq c 0))) (CharacterTokens (shown c ∷ [])) self.old self.new result }
     {
         self.tell_shown(c)?;
         Ok(ProcessResult::Continue)
@@ -68,7 +68,7 @@ impl<Sink: TokenSink> Tokenizer<Sink> {
     /// Hands out U+0000 for its reader to decide on, and goes on.
     pub(crate) fn take_null(&mut self) -> Result<ProcessResult<Sink::Handle>, ParseFault>
         requires sound { Sink.is_sound (Sink.view self.old.sink) }
-        ensures { TakesAs Sink.step Sink.view Sink.asks_cdata Sink.ended Sink.is_sound Sink.number Sink.has_failed Sink.errors Sink.is_quiet a_fault NullCharacterToken self.old self.new result }
+        ensures { TakesAs Sink.TokenSink a_fault NullCharacterToken self.old self.new result }
     {
         self.tell_faulty("unexpected null character", Token::NullCharacterToken)?;
         Ok(ProcessResult::Continue)
@@ -77,7 +77,7 @@ impl<Sink: TokenSink> Tokenizer<Sink> {
     /// Hands out two characters as text.
     pub(crate) fn tell_two(&mut self, first: char, second: char) -> Result<(), ParseFault>
         requires sound { Sink.is_sound (Sink.view self.old.sink) }
-        ensures { Tells Sink.step Sink.view Sink.asks_cdata Sink.ended Sink.is_sound Sink.number Sink.has_failed Sink.errors Sink.is_quiet nothing (CharacterTokens (first ∷ second ∷ [])) self.old self.new result }
+        ensures { Tells Sink.TokenSink nothing (CharacterTokens (first ∷ second ∷ [])) self.old self.new result }
     {
         let mut text = empty(self.stream.alloc);
         text.push(first)?;
@@ -92,7 +92,7 @@ impl<Sink: TokenSink> Tokenizer<Sink> {
         second: char,
     ) -> Result<ProcessResult<Sink::Handle>, ParseFault>
         requires sound { Sink.is_sound (Sink.view self.old.sink) }
-        ensures { TakesAs Sink.step Sink.view Sink.asks_cdata Sink.ended Sink.is_sound Sink.number Sink.has_failed Sink.errors Sink.is_quiet nothing (CharacterTokens (first ∷ second ∷ [])) self.old self.new result }
+        ensures { TakesAs Sink.TokenSink nothing (CharacterTokens (first ∷ second ∷ [])) self.old self.new result }
     {
         self.tell_two(first, second)?;
         Ok(ProcessResult::Continue)

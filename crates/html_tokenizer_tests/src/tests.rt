@@ -128,7 +128,7 @@ fn tokenizer_over<S: TokenSink + Drop>(
     setting: Setting,
 ) -> Result<Tokenizer<S>, ParseFault>
     requires { S.is_sound (S.view sink) }
-    ensures { IfOk result (λ k. IsReadyIf S.step S.view S.asks_cdata S.ended S.is_sound S.number S.has_failed S.errors S.is_quiet (refusal k.stream) k) }
+    ensures { IfOk result (λ k. IsReadyIf S.TokenSink (refusal k.stream) k) }
 {
     let table = table_of(alloc, setting.table)?;
     let options = options_of(alloc, setting)?;
@@ -145,8 +145,8 @@ fn feed_all<S: TokenSink>(
     tokenizer: &mut Tokenizer<S>,
     input: &mut BufferQueue,
 ) -> Result<(), ParseFault>
-    requires { IsReadyIf S.step S.view S.asks_cdata S.ended S.is_sound S.number S.has_failed S.errors S.is_quiet (refusal tokenizer.old.stream) tokenizer.old }
-    ensures { IsReadyIf S.step S.view S.asks_cdata S.ended S.is_sound S.number S.has_failed S.errors S.is_quiet (refusal tokenizer.new.stream) tokenizer.new }
+    requires { IsReadyIf S.TokenSink (refusal tokenizer.old.stream) tokenizer.old }
+    ensures { IsReadyIf S.TokenSink (refusal tokenizer.new.stream) tokenizer.new }
 {
     'pauses: for _pause in 0..PAUSES {
         if matches!(tokenizer.feed(input)?, TokenizerResult::Done) {
@@ -162,8 +162,8 @@ fn feed_piece<S: TokenSink>(
     input: &mut BufferQueue,
     piece: String,
 ) -> Result<(), ParseFault>
-    requires { IsReadyIf S.step S.view S.asks_cdata S.ended S.is_sound S.number S.has_failed S.errors S.is_quiet (refusal tokenizer.old.stream) tokenizer.old }
-    ensures { IsReadyIf S.step S.view S.asks_cdata S.ended S.is_sound S.number S.has_failed S.errors S.is_quiet (refusal tokenizer.new.stream) tokenizer.new }
+    requires { IsReadyIf S.TokenSink (refusal tokenizer.old.stream) tokenizer.old }
+    ensures { IsReadyIf S.TokenSink (refusal tokenizer.new.stream) tokenizer.new }
 {
     input.push_back(piece)?;
     feed_all(tokenizer, input)

@@ -19,7 +19,7 @@ fn behind<S: TokenSink + Drop>(
     text: &str,
 ) -> Result<Tokenizer<S>, ParseFault>
     requires { S.is_sound (S.view sink) }
-    ensures { IfOk result (λ k. IsReadyIf S.step S.view S.asks_cdata S.ended S.is_sound S.number S.has_failed S.errors S.is_quiet (refusal k.stream) k) }
+    ensures { IfOk result (λ k. IsReadyIf S.TokenSink (refusal k.stream) k) }
 {
     let mut tokenizer = tokenizer_over(alloc, sink, PAGE)?;
     let mut input = BufferQueue::new();
@@ -114,8 +114,8 @@ fn assert_ended<S: TokenSink>(
     tokenizer: &mut Tokenizer<S>,
     input: &mut BufferQueue,
 )
-    requires { IsReadyIf S.step S.view S.asks_cdata S.ended S.is_sound S.number S.has_failed S.errors S.is_quiet (refusal tokenizer.old.stream) tokenizer.old }
-    ensures { IsReadyIf S.step S.view S.asks_cdata S.ended S.is_sound S.number S.has_failed S.errors S.is_quiet (refusal tokenizer.new.stream) tokenizer.new }
+    requires { IsReadyIf S.TokenSink (refusal tokenizer.old.stream) tokenizer.old }
+    ensures { IsReadyIf S.TokenSink (refusal tokenizer.new.stream) tokenizer.new }
 {
     assert!(rt; tokenizer.has_ended() && !tokenizer.nothing_pending());
     assert!(rt; matches!(tokenizer.feed(input), Err(ParseFault::Ended)));
@@ -167,8 +167,8 @@ const PLAIN: [(&str, &str, &str); 4] = [
 
 /// Has all that follows read as text, where nothing is pending.
 fn turn_plain<S: TokenSink>(tokenizer: &mut Tokenizer<S>) -> Result<(), ParseFault>
-    requires { IsReadyIf S.step S.view S.asks_cdata S.ended S.is_sound S.number S.has_failed S.errors S.is_quiet (refusal tokenizer.old.stream) tokenizer.old }
-    ensures { IsReadyIf S.step S.view S.asks_cdata S.ended S.is_sound S.number S.has_failed S.errors S.is_quiet (refusal tokenizer.new.stream) tokenizer.new }
+    requires { IsReadyIf S.TokenSink (refusal tokenizer.old.stream) tokenizer.old }
+    ensures { IsReadyIf S.TokenSink (refusal tokenizer.new.stream) tokenizer.new }
 {
     if !tokenizer.nothing_pending() {
         return Err(ParseFault::Shape);

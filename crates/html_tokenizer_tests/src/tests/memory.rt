@@ -13,8 +13,8 @@ use std::test::Fail;
 
 /// Sees that a tokenizer refuses both calls, since an earlier one failed.
 fn assert_failing<S: TokenSink>(rt: &impl Abort, tokenizer: &mut Tokenizer<S>)
-    requires { IsReadyIf S.step S.view S.asks_cdata S.ended S.is_sound S.number S.has_failed S.errors S.is_quiet (refusal tokenizer.old.stream) tokenizer.old }
-    ensures { IsReadyIf S.step S.view S.asks_cdata S.ended S.is_sound S.number S.has_failed S.errors S.is_quiet (refusal tokenizer.new.stream) tokenizer.new }
+    requires { IsReadyIf S.TokenSink (refusal tokenizer.old.stream) tokenizer.old }
+    ensures { IsReadyIf S.TokenSink (refusal tokenizer.new.stream) tokenizer.new }
 {
     let mut input = BufferQueue::new();
     assert!(rt; matches!(tokenizer.feed(&mut input), Err(ParseFault::Failed)));
@@ -24,7 +24,7 @@ fn assert_failing<S: TokenSink>(rt: &impl Abort, tokenizer: &mut Tokenizer<S>)
 
 /// The same of every call.
 fn assert_failed<S: TokenSink>(rt: &impl Abort, tokenizer: &mut Tokenizer<S>)
-    requires { IsReadyIf S.step S.view S.asks_cdata S.ended S.is_sound S.number S.has_failed S.errors S.is_quiet (refusal tokenizer.old.stream) tokenizer.old }
+    requires { IsReadyIf S.TokenSink (refusal tokenizer.old.stream) tokenizer.old }
 {
     assert_failing(rt, tokenizer);
     assert_failing(rt, tokenizer);
@@ -35,8 +35,8 @@ fn feed_to_end<S: TokenSink>(
     tokenizer: &mut Tokenizer<S>,
     input: &mut BufferQueue,
 ) -> Result<(), ParseFault>
-    requires { IsReadyIf S.step S.view S.asks_cdata S.ended S.is_sound S.number S.has_failed S.errors S.is_quiet (refusal tokenizer.old.stream) tokenizer.old }
-    ensures { IsReadyIf S.step S.view S.asks_cdata S.ended S.is_sound S.number S.has_failed S.errors S.is_quiet (refusal tokenizer.new.stream) tokenizer.new }
+    requires { IsReadyIf S.TokenSink (refusal tokenizer.old.stream) tokenizer.old }
+    ensures { IsReadyIf S.TokenSink (refusal tokenizer.new.stream) tokenizer.new }
 {
     feed_all(tokenizer, input)?;
     tokenizer.end()

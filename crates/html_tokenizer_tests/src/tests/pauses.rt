@@ -101,8 +101,8 @@ fn feed_to_script<S: TokenSink<Handle = u64>>(
     input: &mut BufferQueue,
     place: u64,
 ) -> Result<(), ParseFault>
-    requires { IsReadyIf S.step S.view S.asks_cdata S.ended S.is_sound S.number S.has_failed S.errors S.is_quiet (refusal tokenizer.old.stream) tokenizer.old }
-    ensures { IsReadyIf S.step S.view S.asks_cdata S.ended S.is_sound S.number S.has_failed S.errors S.is_quiet (refusal tokenizer.new.stream) tokenizer.new }
+    requires { IsReadyIf S.TokenSink (refusal tokenizer.old.stream) tokenizer.old }
+    ensures { IsReadyIf S.TokenSink (refusal tokenizer.new.stream) tokenizer.new }
 {
     let paused = tokenizer.feed(input)?;
     assert!(rt; matches!(paused, TokenizerResult::Script(found) if found == place));
@@ -116,8 +116,8 @@ fn feed_to_end<S: TokenSink>(
     tokenizer: &mut Tokenizer<S>,
     input: &mut BufferQueue,
 ) -> Result<(), ParseFault>
-    requires { IsReadyIf S.step S.view S.asks_cdata S.ended S.is_sound S.number S.has_failed S.errors S.is_quiet (refusal tokenizer.old.stream) tokenizer.old }
-    ensures { IsReadyIf S.step S.view S.asks_cdata S.ended S.is_sound S.number S.has_failed S.errors S.is_quiet (refusal tokenizer.new.stream) tokenizer.new }
+    requires { IsReadyIf S.TokenSink (refusal tokenizer.old.stream) tokenizer.old }
+    ensures { IsReadyIf S.TokenSink (refusal tokenizer.new.stream) tokenizer.new }
 {
     let answer = tokenizer.feed(input)?;
     assert!(rt; matches!(answer, TokenizerResult::Done) && input.is_empty());
@@ -142,7 +142,7 @@ fn assert_script<S: TokenSink<Handle = u64> + Spoken>(
     tokenizer: &mut Tokenizer<S>,
     row: &Row,
 ) -> Result<(), ParseFault>
-    requires { IsReadyIf S.step S.view S.asks_cdata S.ended S.is_sound S.number S.has_failed S.errors S.is_quiet (refusal tokenizer.old.stream) tokenizer.old }
+    requires { IsReadyIf S.TokenSink (refusal tokenizer.old.stream) tokenizer.old }
 {
     let mut input = queue_of(alloc, row.text)?;
     feed_to_script(rt, tokenizer, &mut input, row.place)?;
@@ -169,8 +169,8 @@ fn feed_to_name<S: TokenSink>(
     input: &mut BufferQueue,
     name: &str,
 ) -> Result<(), ParseFault>
-    requires { IsReadyIf S.step S.view S.asks_cdata S.ended S.is_sound S.number S.has_failed S.errors S.is_quiet (refusal tokenizer.old.stream) tokenizer.old }
-    ensures { IsReadyIf S.step S.view S.asks_cdata S.ended S.is_sound S.number S.has_failed S.errors S.is_quiet (refusal tokenizer.new.stream) tokenizer.new }
+    requires { IsReadyIf S.TokenSink (refusal tokenizer.old.stream) tokenizer.old }
+    ensures { IsReadyIf S.TokenSink (refusal tokenizer.new.stream) tokenizer.new }
 {
     let TokenizerResult::EncodingIndicator(named) = tokenizer.feed(input)? else {
         panic!(rt; "no pause for {name}");
@@ -185,7 +185,7 @@ fn assert_names<S: TokenSink + Spoken>(
     alloc: Global,
     tokenizer: &mut Tokenizer<S>,
 ) -> Result<(), ParseFault>
-    requires { IsReadyIf S.step S.view S.asks_cdata S.ended S.is_sound S.number S.has_failed S.errors S.is_quiet (refusal tokenizer.old.stream) tokenizer.old }
+    requires { IsReadyIf S.TokenSink (refusal tokenizer.old.stream) tokenizer.old }
 {
     let mut input = queue_of(alloc, "x<a>b</A >\n")?;
     feed_to_name(rt, tokenizer, &mut input, "a")?;

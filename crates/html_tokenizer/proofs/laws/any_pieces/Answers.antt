@@ -4,4 +4,4 @@ use Rattle.html_tokenizer.proofs.laws.any_pieces.Goals as goal
 pub returns : goal.returns
 returns g c =
     let m = g.Sink.TokenSink in
-    any-pieces m.step m.view m.asks_cdata m.ended m.is_sound m.number m.has_failed m.errors m.is_quiet m.errors_ended
+    any-pieces m

@@ -4,4 +4,4 @@ use Rattle.html_tokenizer.proofs.laws.owed_errors_are_told.Goals as goal
 pub returns : goal.returns
 returns g c =
     let m = g.Sink.TokenSink in
-    is-owing m.step m.view m.asks_cdata m.ended m.is_sound m.number m.has_failed m.errors m.is_quiet m.errors_ended
+    is-owing m

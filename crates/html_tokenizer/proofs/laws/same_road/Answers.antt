@@ -4,4 +4,4 @@ use Rattle.html_tokenizer.proofs.laws.same_road.Goals as goal
 pub returns : goal.returns
 returns g c =
     let m = g.Sink.TokenSink in
-    same-road m.step m.view m.asks_cdata m.ended m.is_sound m.number m.has_failed m.errors m.is_quiet m.errors_ended
+    same-road m

@@ -4,4 +4,4 @@ use Rattle.html_tokenizer_tests.proofs.tests.read_over.Given as goal
 abbrev pub invariant-loop-piece : goal.invariant-loop-piece
 invariant-loop-piece g l =
     let m = g.S.TokenSink in
-    IsReadyIf m.step m.view m.asks_cdata m.ended m.is_sound m.number m.has_failed m.errors m.is_quiet (refusal l.tokenizer.stream) l.tokenizer
+    IsReadyIf m (refusal l.tokenizer.stream) l.tokenizer

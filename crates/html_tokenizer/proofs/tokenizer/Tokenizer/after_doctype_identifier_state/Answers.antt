@@ -6,9 +6,9 @@ use Rattle.html_tokenizer.proofs.tokenizer.Tokenizer.after_doctype_identifier_st
 pub returns-in_err-tell_fault : goal.returns-in_err-tell_fault
 returns-in_err-tell_fault g c =
     let m = g.Sink.TokenSink in
-    keeps_refused m.step m.view m.asks_cdata m.ended m.is_sound m.number m.has_failed m.errors m.is_quiet c.args.self.now _ c.args.self.now.char_ref c.args.c _ _ c.in_err-tell_fault.ensures c.from_residual.ensures.1
+    keeps_refused m c.args.self.now _ c.args.self.now.char_ref c.args.c _ _ c.in_err-tell_fault.ensures c.from_residual.ensures.1
 
 pub returns : goal.returns
 returns g c =
     let m = g.Sink.TokenSink in
-    keeps_erred m.step m.view m.asks_cdata m.ended m.is_sound m.number m.has_failed m.errors m.is_quiet _ c.args.self.now c.tell_fault.new.self _ c.args.c _ c.in_ok-tell_fault.ensures (λ e. identifier-absorbs m.step m.view m.asks_cdata m.ended m.is_sound m.number m.has_failed m.errors m.is_quiet g.met.Sink.TokenSink.laws c.args.self.now c.args.c c.args.kind c.requires.at) c.take_behind_identifier.ensures
+    keeps_erred m _ c.args.self.now c.tell_fault.new.self _ c.args.c _ c.in_ok-tell_fault.ensures (λ e. identifier-absorbs m g.met.Sink.TokenSink.laws c.args.self.now c.args.c c.args.kind c.requires.at) c.take_behind_identifier.ensures

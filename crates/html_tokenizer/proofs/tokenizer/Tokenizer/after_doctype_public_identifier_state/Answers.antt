@@ -7,31 +7,31 @@ use Rattle.html_tokenizer.proofs.tokenizer.Tokenizer.after_doctype_public_identi
 pub returns-then-is_white_space : goal.returns-then-is_white_space
 returns-then-is_white_space g c =
     let m = g.Sink.TokenSink in
-    between-white m.step m.view m.asks_cdata m.ended m.is_sound m.number m.has_failed m.errors m.is_quiet g.met.Sink.TokenSink.laws c.args.self.now c.args.c c.requires.sound c.requires.at (sym c.is_white_space.ensures ∙ c.if-is_white_space.true)
+    between-white m g.met.Sink.TokenSink.laws c.args.self.now c.args.c c.requires.sound c.requires.at (sym c.is_white_space.ensures ∙ c.if-is_white_space.true)
 
 pub returns-then-c-eq34 : goal.returns-then-c-eq34
 returns-then-c-eq34 g c =
     let m = g.Sink.TokenSink in
-    rw c.if-c-eq34.true (second-double m.step m.view m.asks_cdata m.ended m.is_sound m.number m.has_failed m.errors m.is_quiet g.met.Sink.TokenSink.laws c.args.self.now c.requires.sound c.empty.result c.requires.at c.empty.ensures)
+    rw c.if-c-eq34.true (second-double m g.met.Sink.TokenSink.laws c.args.self.now c.requires.sound c.empty.result c.requires.at c.empty.ensures)
 
 pub returns-then-c-eq39 : goal.returns-then-c-eq39
 returns-then-c-eq39 g c =
     let m = g.Sink.TokenSink in
-    rw c.if-c-eq39.true (second-single m.step m.view m.asks_cdata m.ended m.is_sound m.number m.has_failed m.errors m.is_quiet g.met.Sink.TokenSink.laws c.args.self.now c.requires.sound c.empty-then-c-eq39.result c.requires.at c.empty-then-c-eq39.ensures)
+    rw c.if-c-eq39.true (second-single m g.met.Sink.TokenSink.laws c.args.self.now c.requires.sound c.empty-then-c-eq39.result c.requires.at c.empty-then-c-eq39.ensures)
 
 pub returns-in_err-emit_doctype : goal.returns-in_err-emit_doctype
 returns-in_err-emit_doctype g c =
     let m = g.Sink.TokenSink in
-    doctype-failed m.step m.view m.asks_cdata m.ended m.is_sound m.number m.has_failed m.errors m.is_quiet g.met.Sink.TokenSink.laws
-    c.args.self.now _ _ state.BetweenDoctypePublicAndSystemIdentifiers c.args.self.now.temporary true c.args.self.now.doctype _ _ c.if-c-eq62.true c.requires.at c.requires.sound c.from_residual.ensures.1 c.in_err-emit_doctype.ensures (between-says m.step m.view m.asks_cdata m.ended m.is_sound m.number m.has_failed m.errors m.is_quiet g.met.Sink.TokenSink.laws c.args.self.now c.args.self.now.temporary)
+    doctype-failed m g.met.Sink.TokenSink.laws
+    c.args.self.now _ _ state.BetweenDoctypePublicAndSystemIdentifiers c.args.self.now.temporary true c.args.self.now.doctype _ _ c.if-c-eq62.true c.requires.at c.requires.sound c.from_residual.ensures.1 c.in_err-emit_doctype.ensures (between-says m g.met.Sink.TokenSink.laws c.args.self.now c.args.self.now.temporary)
 
 pub returns-then-c-eq62 : goal.returns-then-c-eq62
 returns-then-c-eq62 g c =
     let m = g.Sink.TokenSink in
-    doctype-took m.step m.view m.asks_cdata m.ended m.is_sound m.number m.has_failed m.errors m.is_quiet g.met.Sink.TokenSink.laws
-    c.args.self.now _ _ state.BetweenDoctypePublicAndSystemIdentifiers c.args.self.now.temporary true c.args.self.now.doctype c.if-c-eq62.true c.requires.at c.requires.sound c.in_ok-emit_doctype.ensures (between-says m.step m.view m.asks_cdata m.ended m.is_sound m.number m.has_failed m.errors m.is_quiet g.met.Sink.TokenSink.laws c.args.self.now c.args.self.now.temporary)
+    doctype-took m g.met.Sink.TokenSink.laws
+    c.args.self.now _ _ state.BetweenDoctypePublicAndSystemIdentifiers c.args.self.now.temporary true c.args.self.now.doctype c.if-c-eq62.true c.requires.at c.requires.sound c.in_ok-emit_doctype.ensures (between-says m g.met.Sink.TokenSink.laws c.args.self.now c.args.self.now.temporary)
 
 pub returns : goal.returns
 returns g c =
     let m = g.Sink.TokenSink in
-    between-other m.step m.view m.asks_cdata m.ended m.is_sound m.number m.has_failed m.errors m.is_quiet g.met.Sink.TokenSink.laws c.args.self.now _ c.args.c _ c.requires.at (sym c.is_white_space.ensures ∙ c.if-is_white_space.false) (ne_eqb c.args.c 62 c.if-c-eq62.false) (ne_eqb c.args.c 34 c.if-c-eq34.false) (ne_eqb c.args.c 39 c.if-c-eq39.false) c.bogus_doctype_state.ensures
+    between-other m g.met.Sink.TokenSink.laws c.args.self.now _ c.args.c _ c.requires.at (sym c.is_white_space.ensures ∙ c.if-is_white_space.false) (ne_eqb c.args.c 62 c.if-c-eq62.false) (ne_eqb c.args.c 34 c.if-c-eq34.false) (ne_eqb c.args.c 39 c.if-c-eq39.false) c.bogus_doctype_state.ensures

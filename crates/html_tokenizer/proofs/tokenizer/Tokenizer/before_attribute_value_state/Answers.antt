@@ -6,9 +6,9 @@ use Rattle.html_tokenizer.proofs.tokenizer.Tokenizer.before_attribute_value_stat
 pub returns-in_err-tell_if : goal.returns-in_err-tell_if
 returns-in_err-tell_if g c =
     let m = g.Sink.TokenSink in
-    keeps_refused m.step m.view m.asks_cdata m.ended m.is_sound m.number m.has_failed m.errors m.is_quiet c.args.self.now _ c.args.self.now.char_ref c.args.c _ _ c.in_err-tell_if.ensures c.from_residual.ensures.1
+    keeps_refused m c.args.self.now _ c.args.self.now.char_ref c.args.c _ _ c.in_err-tell_if.ensures c.from_residual.ensures.1
 
 pub returns : goal.returns
 returns g c =
     let m = g.Sink.TokenSink in
-    keeps_erred m.step m.view m.asks_cdata m.ended m.is_sound m.number m.has_failed m.errors m.is_quiet (_) c.args.self.now c.tell_if.new.self _ c.args.c _ c.in_ok-tell_if.ensures (λ e. value_before-absorbs m.step m.view m.asks_cdata m.ended m.is_sound m.number m.has_failed m.errors m.is_quiet c.args.self.now c.args.c c.requires.at e) c.take_before_value.ensures
+    keeps_erred m (_) c.args.self.now c.tell_if.new.self _ c.args.c _ c.in_ok-tell_if.ensures (λ e. value_before-absorbs m c.args.self.now c.args.c c.requires.at e) c.take_before_value.ensures

@@ -6,19 +6,19 @@ use Rattle.html_tokenizer.proofs.tokenizer.Tokenizer.before_doctype_identifier_s
 pub returns-then-is_white_space : goal.returns-then-is_white_space
 returns-then-is_white_space g c =
     let m = g.Sink.TokenSink in
-    before_identifier-white m.step m.view m.asks_cdata m.ended m.is_sound m.number m.has_failed m.errors m.is_quiet g.met.Sink.TokenSink.laws c.args.self.now c.args.c c.requires.sound c.args.kind c.requires.at (sym c.is_white_space.ensures ∙ c.if-is_white_space.true)
+    before_identifier-white m g.met.Sink.TokenSink.laws c.args.self.now c.args.c c.requires.sound c.args.kind c.requires.at (sym c.is_white_space.ensures ∙ c.if-is_white_space.true)
 
 pub returns-then-c-eq34 : goal.returns-then-c-eq34
 returns-then-c-eq34 g c =
     let m = g.Sink.TokenSink in
-    rw c.if-c-eq34.true (double-opened m.step m.view m.asks_cdata m.ended m.is_sound m.number m.has_failed m.errors m.is_quiet g.met.Sink.TokenSink.laws c.args.self.now c.requires.sound c.args.kind c.empty.result c.requires.at c.empty.ensures)
+    rw c.if-c-eq34.true (double-opened m g.met.Sink.TokenSink.laws c.args.self.now c.requires.sound c.args.kind c.empty.result c.requires.at c.empty.ensures)
 
 pub returns-then-c-eq39 : goal.returns-then-c-eq39
 returns-then-c-eq39 g c =
     let m = g.Sink.TokenSink in
-    rw c.if-c-eq39.true (single-opened m.step m.view m.asks_cdata m.ended m.is_sound m.number m.has_failed m.errors m.is_quiet g.met.Sink.TokenSink.laws c.args.self.now c.requires.sound c.args.kind c.empty-then-c-eq39.result c.requires.at c.empty-then-c-eq39.ensures)
+    rw c.if-c-eq39.true (single-opened m g.met.Sink.TokenSink.laws c.args.self.now c.requires.sound c.args.kind c.empty-then-c-eq39.result c.requires.at c.empty-then-c-eq39.ensures)
 
 pub returns : goal.returns
 returns g c =
     let m = g.Sink.TokenSink in
-    before_identifier-other m.step m.view m.asks_cdata m.ended m.is_sound m.number m.has_failed m.errors m.is_quiet g.met.Sink.TokenSink.laws c.args.self.now _ c.args.c _ c.args.kind c.requires.at (sym c.is_white_space.ensures ∙ c.if-is_white_space.false) (ne_eqb c.args.c 34 c.if-c-eq34.false) (ne_eqb c.args.c 39 c.if-c-eq39.false) c.bogus_doctype_state.ensures
+    before_identifier-other m g.met.Sink.TokenSink.laws c.args.self.now _ c.args.c _ c.args.kind c.requires.at (sym c.is_white_space.ensures ∙ c.if-is_white_space.false) (ne_eqb c.args.c 34 c.if-c-eq34.false) (ne_eqb c.args.c 39 c.if-c-eq39.false) c.bogus_doctype_state.ensures

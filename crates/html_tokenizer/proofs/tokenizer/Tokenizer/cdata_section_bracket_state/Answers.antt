@@ -4,14 +4,14 @@ use Rattle.html_tokenizer.proofs.tokenizer.Tokenizer.cdata_section_bracket_state
 pub returns-then-c-eq93 : goal.returns-then-c-eq93
 returns-then-c-eq93 g c =
     let m = g.Sink.TokenSink in
-    cdata-brackets m.step m.view m.asks_cdata m.ended m.is_sound m.number m.has_failed m.errors m.is_quiet g.met.Sink.TokenSink.laws _ _ c.requires.at c.requires.sound c.if-c-eq93.true
+    cdata-brackets m g.met.Sink.TokenSink.laws _ _ c.requires.at c.requires.sound c.if-c-eq93.true
 
 pub returns-in_err-tell_char : goal.returns-in_err-tell_char
 returns-in_err-tell_char g c =
     let m = g.Sink.TokenSink in
-    bracket-failed m.step m.view m.asks_cdata m.ended m.is_sound m.number m.has_failed m.errors m.is_quiet g.met.Sink.TokenSink.laws _ _ _ _ _ c.requires.at c.requires.sound c.if-c-eq93.false c.from_residual.ensures.1 c.in_err-tell_char.ensures
+    bracket-failed m g.met.Sink.TokenSink.laws _ _ _ _ _ c.requires.at c.requires.sound c.if-c-eq93.false c.from_residual.ensures.1 c.in_err-tell_char.ensures
 
 pub returns : goal.returns
 returns g c =
     let m = g.Sink.TokenSink in
-    bracket-kept m.step m.view m.asks_cdata m.ended m.is_sound m.number m.has_failed m.errors m.is_quiet g.met.Sink.TokenSink.laws _ c.tell_char.new.self _ _ _ c.requires.at c.requires.sound c.if-c-eq93.false c.in_ok-tell_char.ensures c.cdata_section_state.ensures
+    bracket-kept m g.met.Sink.TokenSink.laws _ c.tell_char.new.self _ _ _ c.requires.at c.requires.sound c.if-c-eq93.false c.in_ok-tell_char.ensures c.cdata_section_state.ensures

@@ -4,14 +4,14 @@ use Rattle.html_tokenizer.proofs.tokenizer.Tokenizer.cdata_section_state.Goals a
 pub returns-then-c-eq93 : goal.returns-then-c-eq93
 returns-then-c-eq93 g c =
     let m = g.Sink.TokenSink in
-    cdata-bracket m.step m.view m.asks_cdata m.ended m.is_sound m.number m.has_failed m.errors m.is_quiet g.met.Sink.TokenSink.laws _ _ c.requires.at c.requires.sound c.if-c-eq93.true
+    cdata-bracket m g.met.Sink.TokenSink.laws _ _ c.requires.at c.requires.sound c.if-c-eq93.true
 
 pub returns-then-c-eq0 : goal.returns-then-c-eq0
 returns-then-c-eq0 g c =
     let m = g.Sink.TokenSink in
-    cdata-null_kept m.step m.view m.asks_cdata m.ended m.is_sound m.number m.has_failed m.errors m.is_quiet g.met.Sink.TokenSink.laws _ _ _ _ c.requires.at c.requires.sound c.if-c-eq0.true c.take_null.ensures
+    cdata-null_kept m g.met.Sink.TokenSink.laws _ _ _ _ c.requires.at c.requires.sound c.if-c-eq0.true c.take_null.ensures
 
 pub returns : goal.returns
 returns g c =
     let m = g.Sink.TokenSink in
-    cdata-kept m.step m.view m.asks_cdata m.ended m.is_sound m.number m.has_failed m.errors m.is_quiet g.met.Sink.TokenSink.laws _ _ _ _ c.requires.at c.requires.sound c.if-c-eq93.false c.if-c-eq0.false c.take_char.ensures
+    cdata-kept m g.met.Sink.TokenSink.laws _ _ _ _ c.requires.at c.requires.sound c.if-c-eq93.false c.if-c-eq0.false c.take_char.ensures

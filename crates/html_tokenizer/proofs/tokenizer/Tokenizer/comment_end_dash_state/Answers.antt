@@ -5,9 +5,9 @@ use Rattle.html_tokenizer.proofs.tokenizer.Tokenizer.comment_end_dash_state.Goal
 pub returns-then-c-eq45 : goal.returns-then-c-eq45
 returns-then-c-eq45 g c =
     let m = g.Sink.TokenSink in
-    rw c.if-c-eq45.true (end_dash-dash m.step m.view m.asks_cdata m.ended m.is_sound m.number m.has_failed m.errors m.is_quiet g.met.Sink.TokenSink.laws c.args.self.now c.requires.sound c.requires.at)
+    rw c.if-c-eq45.true (end_dash-dash m g.met.Sink.TokenSink.laws c.args.self.now c.requires.sound c.requires.at)
 
 pub returns : goal.returns
 returns g c =
     let m = g.Sink.TokenSink in
-    end_dash-other m.step m.view m.asks_cdata m.ended m.is_sound m.number m.has_failed m.errors m.is_quiet g.met.Sink.TokenSink.laws c.args.self.now _ c.args.c _ c.push.new.self c.comment_state.ensures c.requires.at c.in_ok-push.ensures.ok (ne_eqb c.args.c 45 c.if-c-eq45.false)
+    end_dash-other m g.met.Sink.TokenSink.laws c.args.self.now _ c.args.c _ c.push.new.self c.comment_state.ensures c.requires.at c.in_ok-push.ensures.ok (ne_eqb c.args.c 45 c.if-c-eq45.false)

@@ -4,4 +4,4 @@ use Rattle.html_tokenizer.proofs.tokenizer.Tokenizer.comment_less_than_sign_bang
 pub returns : goal.returns
 returns g c =
     let m = g.Sink.TokenSink in
-    less-than-dashes_kept m.step m.view m.asks_cdata m.ended m.is_sound m.number m.has_failed m.errors m.is_quiet g.met.Sink.TokenSink.laws c.args.self.now _ c.args.c _ c.requires.at c.comment_end_state.ensures
+    less-than-dashes_kept m g.met.Sink.TokenSink.laws c.args.self.now _ c.args.c _ c.requires.at c.comment_end_state.ensures

@@ -7,9 +7,9 @@ use Rattle.html_tokenizer.proofs.tokenizer.Tokenizer.comment_state.Goals as goal
 pub returns-in_err-tell_null : goal.returns-in_err-tell_null
 returns-in_err-tell_null g c =
     let m = g.Sink.TokenSink in
-    keeps_refused m.step m.view m.asks_cdata m.ended m.is_sound m.number m.has_failed m.errors m.is_quiet c.args.self.now _ c.args.self.now.char_ref c.args.c _ _ c.in_err-tell_null.ensures c.from_residual.ensures.1
+    keeps_refused m c.args.self.now _ c.args.self.now.char_ref c.args.c _ _ c.in_err-tell_null.ensures c.from_residual.ensures.1
 
 pub returns : goal.returns
 returns g c =
     let m = g.Sink.TokenSink in
-    keeps_erred m.step m.view m.asks_cdata m.ended m.is_sound m.number m.has_failed m.errors m.is_quiet (nat_eq c.args.c 0) c.args.self.now c.tell_null.new.self _ c.args.c _ c.in_ok-tell_null.ensures (λ e. comment-absorbs m.step m.view m.asks_cdata m.ended m.is_sound m.number m.has_failed m.errors m.is_quiet g.met.Sink.TokenSink.laws c.args.self.now c.args.c c.requires.at) c.take_in_comment.ensures
+    keeps_erred m (nat_eq c.args.c 0) c.args.self.now c.tell_null.new.self _ c.args.c _ c.in_ok-tell_null.ensures (λ e. comment-absorbs m g.met.Sink.TokenSink.laws c.args.self.now c.args.c c.requires.at) c.take_in_comment.ensures

@@ -4,19 +4,19 @@ use Rattle.html_tokenizer.proofs.tokenizer.Tokenizer.data_state.Goals as goal
 pub returns-then-c-eq60 : goal.returns-then-c-eq60
 returns-then-c-eq60 g c =
     let m = g.Sink.TokenSink in
-    data-opened m.step m.view m.asks_cdata m.ended m.is_sound m.number m.has_failed m.errors m.is_quiet g.met.Sink.TokenSink.laws _ _ c.requires.at c.requires.sound c.if-c-eq60.true
+    data-opened m g.met.Sink.TokenSink.laws _ _ c.requires.at c.requires.sound c.if-c-eq60.true
 
 pub returns-then-c-eq38 : goal.returns-then-c-eq38
 returns-then-c-eq38 g c =
     let m = g.Sink.TokenSink in
-    data-reference m.step m.view m.asks_cdata m.ended m.is_sound m.number m.has_failed m.errors m.is_quiet g.met.Sink.TokenSink.laws _ _ _ c.requires.at c.requires.sound c.if-c-eq38.true c.new.ensures
+    data-reference m g.met.Sink.TokenSink.laws _ _ _ c.requires.at c.requires.sound c.if-c-eq38.true c.new.ensures
 
 pub returns-then-c-eq0 : goal.returns-then-c-eq0
 returns-then-c-eq0 g c =
     let m = g.Sink.TokenSink in
-    data-null_kept m.step m.view m.asks_cdata m.ended m.is_sound m.number m.has_failed m.errors m.is_quiet g.met.Sink.TokenSink.laws _ _ _ _ c.requires.at c.requires.sound c.if-c-eq0.true c.take_null.ensures
+    data-null_kept m g.met.Sink.TokenSink.laws _ _ _ _ c.requires.at c.requires.sound c.if-c-eq0.true c.take_null.ensures
 
 pub returns : goal.returns
 returns g c =
     let m = g.Sink.TokenSink in
-    data-kept m.step m.view m.asks_cdata m.ended m.is_sound m.number m.has_failed m.errors m.is_quiet g.met.Sink.TokenSink.laws _ _ _ _ c.requires.at c.requires.sound c.if-c-eq60.false c.if-c-eq38.false c.if-c-eq0.false c.take_char.ensures
+    data-kept m g.met.Sink.TokenSink.laws _ _ _ _ c.requires.at c.requires.sound c.if-c-eq60.false c.if-c-eq38.false c.if-c-eq0.false c.take_char.ensures

@@ -4,9 +4,9 @@ use Rattle.html_tokenizer.proofs.tokenizer.Tokenizer.double_escaped_less_than_si
 pub returns-then-c-eq47 : goal.returns-then-c-eq47
 returns-then-c-eq47 g c =
     let m = g.Sink.TokenSink in
-    deep_slash-told m.step m.view m.asks_cdata m.ended m.is_sound m.number m.has_failed m.errors m.is_quiet g.met.Sink.TokenSink.laws _ _ _ _ _ c.requires.at c.requires.sound c.if-c-eq47.true c.new.ensures c.take_char.ensures
+    deep_slash-told m g.met.Sink.TokenSink.laws _ _ _ _ _ c.requires.at c.requires.sound c.if-c-eq47.true c.new.ensures c.take_char.ensures
 
 pub returns : goal.returns
 returns g c =
     let m = g.Sink.TokenSink in
-    deep-kept m.step m.view m.asks_cdata m.ended m.is_sound m.number m.has_failed m.errors m.is_quiet g.met.Sink.TokenSink.laws _ _ _ _ c.requires.at c.if-c-eq47.false c.raw_data_state.ensures
+    deep-kept m g.met.Sink.TokenSink.laws _ _ _ _ c.requires.at c.if-c-eq47.false c.raw_data_state.ensures

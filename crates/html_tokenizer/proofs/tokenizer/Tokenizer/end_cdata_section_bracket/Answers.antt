@@ -4,9 +4,9 @@ use Rattle.html_tokenizer.proofs.tokenizer.Tokenizer.end_cdata_section_bracket.G
 pub returns-in_err-tell_char : goal.returns-in_err-tell_char
 returns-in_err-tell_char g c =
     let m = g.Sink.TokenSink in
-    bracket-untold m.step m.view m.asks_cdata m.ended m.is_sound m.number m.has_failed m.errors m.is_quiet g.met.Sink.TokenSink.laws _ _ _ _ c.requires.at c.requires.sound c.in_err-tell_char.ensures c.from_residual.ensures.1
+    bracket-untold m g.met.Sink.TokenSink.laws _ _ _ _ c.requires.at c.requires.sound c.in_err-tell_char.ensures c.from_residual.ensures.1
 
 pub returns : goal.returns
 returns g c =
     let m = g.Sink.TokenSink in
-    bracket-closes m.step m.view m.asks_cdata m.ended m.is_sound m.number m.has_failed m.errors m.is_quiet g.met.Sink.TokenSink.laws _ c.tell_char.new.self _ _ c.requires.at c.requires.sound c.in_ok-tell_char.ensures c.tell_error.ensures
+    bracket-closes m g.met.Sink.TokenSink.laws _ c.tell_char.new.self _ _ c.requires.at c.requires.sound c.in_ok-tell_char.ensures c.tell_error.ensures

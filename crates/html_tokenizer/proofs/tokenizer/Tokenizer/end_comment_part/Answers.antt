@@ -4,9 +4,9 @@ use Rattle.html_tokenizer.proofs.tokenizer.Tokenizer.end_comment_part.Goals as g
 pub returns-in-CommentStart : goal.returns-in-CommentStart
 returns-in-CommentStart g c =
     let m = g.Sink.TokenSink in
-    start-closes m.step m.view m.asks_cdata m.ended m.is_sound m.number m.has_failed m.errors m.is_quiet g.met.Sink.TokenSink.laws c.args.self.now _ _ c.requires.sound c.requires.fresh c.in-CommentStart.is c.end_comment_start.ensures
+    start-closes m g.met.Sink.TokenSink.laws c.args.self.now _ _ c.requires.sound c.requires.fresh c.in-CommentStart.is c.end_comment_start.ensures
 
 pub returns-in_default : goal.returns-in_default
 returns-in_default g c =
     let m = g.Sink.TokenSink in
-    comment-closes m.step m.view m.asks_cdata m.ended m.is_sound m.number m.has_failed m.errors m.is_quiet g.met.Sink.TokenSink.laws c.args.self.now _ _ c.requires.sound c.requires.fresh c.requires.at c.in_default.not-MarkupDeclarationOpen c.in_default.not-CommentStart c.in_default.not-CommentStartDash c.end_comment.ensures
+    comment-closes m g.met.Sink.TokenSink.laws c.args.self.now _ _ c.requires.sound c.requires.fresh c.requires.at c.in_default.not-MarkupDeclarationOpen c.in_default.not-CommentStart c.in_default.not-CommentStartDash c.end_comment.ensures

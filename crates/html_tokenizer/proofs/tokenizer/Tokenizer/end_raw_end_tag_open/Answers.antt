@@ -4,9 +4,9 @@ use Rattle.html_tokenizer.proofs.tokenizer.Tokenizer.end_raw_end_tag_open.Goals 
 pub returns-in_err-tell_two : goal.returns-in_err-tell_two
 returns-in_err-tell_two g c =
     let m = g.Sink.TokenSink in
-    raw_end_open-untold m.step m.view m.asks_cdata m.ended m.is_sound m.number m.has_failed m.errors m.is_quiet g.met.Sink.TokenSink.laws _ _ _ _ _ c.requires.at c.requires.sound c.in_err-tell_two.ensures c.from_residual.ensures.1
+    raw_end_open-untold m g.met.Sink.TokenSink.laws _ _ _ _ _ c.requires.at c.requires.sound c.in_err-tell_two.ensures c.from_residual.ensures.1
 
 pub returns : goal.returns
 returns g c =
     let m = g.Sink.TokenSink in
-    raw_end_open-closes m.step m.view m.asks_cdata m.ended m.is_sound m.number m.has_failed m.errors m.is_quiet g.met.Sink.TokenSink.laws _ c.tell_two.new.self _ _ _ c.requires.at c.requires.sound c.in_ok-tell_two.ensures c.tell_escaped_end.ensures
+    raw_end_open-closes m g.met.Sink.TokenSink.laws _ c.tell_two.new.self _ _ _ c.requires.at c.requires.sound c.in_ok-tell_two.ensures c.tell_escaped_end.ensures

@@ -4,9 +4,9 @@ use Rattle.html_tokenizer.proofs.tokenizer.Tokenizer.end_reference_in_rcdata.Goa
 pub returns-in_err-tell_reference : goal.returns-in_err-tell_reference
 returns-in_err-tell_reference g c =
     let m = g.Sink.TokenSink in
-    rcdata-failed m.step m.view m.asks_cdata m.ended m.is_sound m.number m.has_failed m.errors m.is_quiet g.met.Sink.TokenSink.laws _ _ _ _ _ _ c.requires.at c.requires.sound c.requires.decided c.from_residual.ensures.1 c.in_err-tell_reference.ensures
+    rcdata-failed m g.met.Sink.TokenSink.laws _ _ _ _ _ _ c.requires.at c.requires.sound c.requires.decided c.from_residual.ensures.1 c.in_err-tell_reference.ensures
 
 pub returns : goal.returns
 returns g c =
     let m = g.Sink.TokenSink in
-    rcdata-ended m.step m.view m.asks_cdata m.ended m.is_sound m.number m.has_failed m.errors m.is_quiet g.met.Sink.TokenSink.laws _ _ _ _ _ _ c.requires.at c.requires.sound c.requires.decided c.in_ok-tell_reference.ensures c.raw_data_state.ensures
+    rcdata-ended m g.met.Sink.TokenSink.laws _ _ _ _ _ _ c.requires.at c.requires.sound c.requires.decided c.in_ok-tell_reference.ensures c.raw_data_state.ensures

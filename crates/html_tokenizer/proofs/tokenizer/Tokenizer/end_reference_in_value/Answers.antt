@@ -7,10 +7,10 @@ use Rattle.html_tokenizer.proofs.tokenizer.Tokenizer.end_reference_in_value.Goal
 pub returns-in_err-tell_fault : goal.returns-in_err-tell_fault
 returns-in_err-tell_fault g c =
     let m = g.Sink.TokenSink in
-    keeps_refused m.step m.view m.asks_cdata m.ended m.is_sound m.number m.has_failed m.errors m.is_quiet c.args.self.now _ (Some c.args.held.now) c.args.c _ _ c.in_err-tell_fault.ensures c.from_residual.ensures.1
+    keeps_refused m c.args.self.now _ (Some c.args.held.now) c.args.c _ _ c.in_err-tell_fault.ensures c.from_residual.ensures.1
 
 pub returns : goal.returns
 returns g c =
     let m = g.Sink.TokenSink in
-    value-erred m.step m.view m.asks_cdata m.ended m.is_sound m.number m.has_failed m.errors m.is_quiet _ c.goes_on_at.result c.args.self.now c.tell_fault.new.self _ c.args.kind c.args.held.now c.push_resolved.new.text c.args.c _ c.requires.at c.requires.decided c.decided-decision.ensures.fault c.in_ok-tell_fault.ensures
+    value-erred m _ c.goes_on_at.result c.args.self.now c.tell_fault.new.self _ c.args.kind c.args.held.now c.push_resolved.new.text c.args.c _ c.requires.at c.requires.decided c.decided-decision.ensures.fault c.in_ok-tell_fault.ensures
     (value-pushed (rows_of c.args.self.now) c.push_resolved.new.text c.tell_fault.new.self.attribute_value c.args.held.now _ c.goes_on_at.result c.args.c c.in_ok-push_resolved.ensures.ok c.decided-decision.ensures.is c.goes_on_at.ensures) c.attribute_value_state.ensures

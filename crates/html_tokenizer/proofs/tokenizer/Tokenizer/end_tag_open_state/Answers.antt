@@ -7,19 +7,19 @@ use Rattle.html_tokenizer.proofs.tokenizer.Tokenizer.end_tag_open_state.Goals as
 pub returns-then-is_ascii_alphabetic : goal.returns-then-is_ascii_alphabetic
 returns-then-is_ascii_alphabetic g c =
     let m = g.Sink.TokenSink in
-    end-letter m.step m.view m.asks_cdata m.ended m.is_sound m.number m.has_failed m.errors m.is_quiet g.met.Sink.TokenSink.laws c.args.self.now _ c.args.c (record c.nameless.result { kind = EndTag }) _ c.requires.at (sym c.is_ascii_alphabetic.ensures.value ∙ c.if-is_ascii_alphabetic.true) (rw c.nameless.ensures refl) c.tag_name_state.ensures
+    end-letter m g.met.Sink.TokenSink.laws c.args.self.now _ c.args.c (record c.nameless.result { kind = EndTag }) _ c.requires.at (sym c.is_ascii_alphabetic.ensures.value ∙ c.if-is_ascii_alphabetic.true) (rw c.nameless.ensures refl) c.tag_name_state.ensures
 
 pub returns-in_err-tell_error : goal.returns-in_err-tell_error
 returns-in_err-tell_error g c =
     let m = g.Sink.TokenSink in
-    end-failed m.step m.view m.asks_cdata m.ended m.is_sound m.number m.has_failed m.errors m.is_quiet g.met.Sink.TokenSink.laws c.args.self.now _ c.args.c _ _ c.requires.at c.from_residual.ensures.1 c.in_err-tell_error.ensures
+    end-failed m g.met.Sink.TokenSink.laws c.args.self.now _ c.args.c _ _ c.requires.at c.from_residual.ensures.1 c.in_err-tell_error.ensures
 
 pub returns-then-c-eq62 : goal.returns-then-c-eq62
 returns-then-c-eq62 g c =
     let m = g.Sink.TokenSink in
-    rw c.if-c-eq62.true (end-nothing m.step m.view m.asks_cdata m.ended m.is_sound m.number m.has_failed m.errors m.is_quiet g.met.Sink.TokenSink.laws c.args.self.now c.tell_error.new.self c.requires.at c.requires.sound c.in_ok-tell_error.ensures)
+    rw c.if-c-eq62.true (end-nothing m g.met.Sink.TokenSink.laws c.args.self.now c.tell_error.new.self c.requires.at c.requires.sound c.in_ok-tell_error.ensures)
 
 pub returns : goal.returns
 returns g c =
     let m = g.Sink.TokenSink in
-    end-bogus_kept m.step m.view m.asks_cdata m.ended m.is_sound m.number m.has_failed m.errors m.is_quiet g.met.Sink.TokenSink.laws c.args.self.now _ c.args.c c.empty.result _ c.requires.at (sym c.is_ascii_alphabetic.ensures.value ∙ c.if-is_ascii_alphabetic.false) (ne_eqb c.args.c 62 c.if-c-eq62.false) c.empty.ensures c.bogus_comment_state.ensures
+    end-bogus_kept m g.met.Sink.TokenSink.laws c.args.self.now _ c.args.c c.empty.result _ c.requires.at (sym c.is_ascii_alphabetic.ensures.value ∙ c.if-is_ascii_alphabetic.false) (ne_eqb c.args.c 62 c.if-c-eq62.false) c.empty.ensures c.bogus_comment_state.ensures

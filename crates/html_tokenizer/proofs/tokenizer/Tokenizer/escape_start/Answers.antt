@@ -4,9 +4,9 @@ use Rattle.html_tokenizer.proofs.tokenizer.Tokenizer.escape_start.Goals as goal
 pub returns-then-c-eq45 : goal.returns-then-c-eq45
 returns-then-c-eq45 g c =
     let m = g.Sink.TokenSink in
-    start-dash_told m.step m.view m.asks_cdata m.ended m.is_sound m.number m.has_failed m.errors m.is_quiet g.met.Sink.TokenSink.laws _ _ _ _ c.requires.at c.requires.sound c.if-c-eq45.true c.take_char.ensures
+    start-dash_told m g.met.Sink.TokenSink.laws _ _ _ _ c.requires.at c.requires.sound c.if-c-eq45.true c.take_char.ensures
 
 pub returns : goal.returns
 returns g c =
     let m = g.Sink.TokenSink in
-    start-kept m.step m.view m.asks_cdata m.ended m.is_sound m.number m.has_failed m.errors m.is_quiet g.met.Sink.TokenSink.laws _ _ _ _ c.requires.at c.if-c-eq45.false c.raw_data_state.ensures
+    start-kept m g.met.Sink.TokenSink.laws _ _ _ _ c.requires.at c.if-c-eq45.false c.raw_data_state.ensures

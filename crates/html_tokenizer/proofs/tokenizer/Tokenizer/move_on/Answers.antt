@@ -4,14 +4,14 @@ use Rattle.html_tokenizer.proofs.tokenizer.Tokenizer.move_on.Goals as goal
 pub returns-in-Nothing : goal.returns-in-Nothing
 returns-in-Nothing g c =
     let m = g.Sink.TokenSink in
-    moved-nowhere m.step m.view m.asks_cdata m.ended m.is_sound m.number m.has_failed m.errors m.is_quiet c.args.self.now c.next.new.self c.args.input.now c.next.new.input c.next.ensures.kept (rw c.in-Nothing.is at c.in_ok-next.ensures.ok) c.requires.ready
+    moved-nowhere m c.args.self.now c.next.new.self c.args.input.now c.next.new.input c.next.ensures.kept (rw c.in-Nothing.is at c.in_ok-next.ensures.ok) c.requires.ready
 
 pub returns-in-Char : goal.returns-in-Char
 returns-in-Char g c =
     let m = g.Sink.TokenSink in
-    moved-one m.step m.view m.asks_cdata m.ended m.is_sound m.number m.has_failed m.errors m.is_quiet c.args.self.now c.next.new.self c.take.new.self c.args.input.now c.next.new.input c.in-Char.c c.take.result c.next.ensures.kept (rw c.in-Char.is at c.in_ok-next.ensures.ok) c.take.ensures
+    moved-one m c.args.self.now c.next.new.self c.take.new.self c.args.input.now c.next.new.input c.in-Char.c c.take.result c.next.ensures.kept (rw c.in-Char.is at c.in_ok-next.ensures.ok) c.take.ensures
 
 pub returns-in-Run : goal.returns-in-Run
 returns-in-Run g c =
     let m = g.Sink.TokenSink in
-    moved-run m.step m.view m.asks_cdata m.ended m.is_sound m.number m.has_failed m.errors m.is_quiet c.args.self.now c.next.new.self c.take_text.new.self c.args.input.now c.next.new.input c.in-Run.run' c.take_text.result c.next.ensures.kept (rw c.in-Run.is at c.in_ok-next.ensures.ok) c.take_text.ensures
+    moved-run m c.args.self.now c.next.new.self c.take_text.new.self c.args.input.now c.next.new.input c.in-Run.run' c.take_text.result c.next.ensures.kept (rw c.in-Run.is at c.in_ok-next.ensures.ok) c.take_text.ensures

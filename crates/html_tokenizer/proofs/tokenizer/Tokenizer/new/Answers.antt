@@ -5,4 +5,4 @@ use Rattle.html_tokenizer.proofs.tokenizer.Tokenizer.new.Goals as goal
 pub returns-clause-reads : goal.returns-clause-reads
 returns-clause-reads g c =
     let m = g.Sink.TokenSink in
-    is-new m.step m.view m.asks_cdata m.ended m.is_sound m.number m.has_failed m.errors m.is_quiet _ c.args.sink c.args.opts refl refl refl refl refl refl refl refl refl c.first_state.ensures.text c.first_state.ensures.place c.requires.sound
+    is-new m _ c.args.sink c.args.opts refl refl refl refl refl refl refl refl refl c.first_state.ensures.text c.first_state.ensures.place c.requires.sound

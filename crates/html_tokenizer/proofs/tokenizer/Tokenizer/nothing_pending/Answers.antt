@@ -6,4 +6,4 @@ use Rattle.html_tokenizer.proofs.tokenizer.Tokenizer.nothing_pending.Goals as go
 pub returns-clause-reads : goal.returns-clause-reads
 returns-clause-reads g c =
     let m = g.Sink.TokenSink in
-    λ h. reads-text m.step m.view m.asks_cdata m.ended m.is_sound m.number m.has_failed m.errors m.is_quiet c.args.self.now (ap not (sym c.is_some.ensures ∙ c.if-is_some.false)) (sym c.is_text_state.ensures ∙ h)
+    λ h. reads-text m c.args.self.now (ap not (sym c.is_some.ensures ∙ c.if-is_some.false)) (sym c.is_text_state.ensures ∙ h)

@@ -5,9 +5,9 @@ use Rattle.html_tokenizer.proofs.tokenizer.Tokenizer.raw_ampersand.Goals as goal
 pub returns-then-has_references : goal.returns-then-has_references
 returns-then-has_references g c =
     let m = g.Sink.TokenSink in
-    raw-reference m.step m.view m.asks_cdata m.ended m.is_sound m.number m.has_failed m.errors m.is_quiet g.met.Sink.TokenSink.laws _ _ _ c.requires.at c.requires.sound (sym c.if-has_references.ensures) c.new.ensures
+    raw-reference m g.met.Sink.TokenSink.laws _ _ _ c.requires.at c.requires.sound (sym c.if-has_references.ensures) c.new.ensures
 
 pub returns-else-has_references : goal.returns-else-has_references
 returns-else-has_references g c =
     let m = g.Sink.TokenSink in
-    raw-amp_told m.step m.view m.asks_cdata m.ended m.is_sound m.number m.has_failed m.errors m.is_quiet g.met.Sink.TokenSink.laws _ _ _ _ c.requires.at c.requires.sound (sym c.if-has_references.ensures) c.take_char.ensures
+    raw-amp_told m g.met.Sink.TokenSink.laws _ _ _ _ c.requires.at c.requires.sound (sym c.if-has_references.ensures) c.take_char.ensures

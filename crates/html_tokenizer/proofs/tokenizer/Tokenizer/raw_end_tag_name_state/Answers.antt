@@ -5,14 +5,14 @@ use Rattle.html_tokenizer.proofs.tokenizer.Tokenizer.raw_end_tag_name_state.Goal
 pub returns-then-is_ascii_alphabetic : goal.returns-then-is_ascii_alphabetic
 returns-then-is_ascii_alphabetic g c =
     let m = g.Sink.TokenSink in
-    letter-taken m.step m.view m.asks_cdata m.ended m.is_sound m.number m.has_failed m.errors m.is_quiet g.met.Sink.TokenSink.laws _ _ _ _ c.requires.at c.requires.sound (sym c.if-is_ascii_alphabetic.ensures.value) c.in_ok-push.ensures.ok
+    letter-taken m g.met.Sink.TokenSink.laws _ _ _ _ c.requires.at c.requires.sound (sym c.if-is_ascii_alphabetic.ensures.value) c.in_ok-push.ensures.ok
 
 pub returns-in_err-tell_end_tag : goal.returns-in_err-tell_end_tag
 returns-in_err-tell_end_tag g c =
     let m = g.Sink.TokenSink in
-    unfit-failed m.step m.view m.asks_cdata m.ended m.is_sound m.number m.has_failed m.errors m.is_quiet g.met.Sink.TokenSink.laws _ _ _ _ _ _ c.requires.at c.requires.sound c.tell_end_tag.ensures.letters (sym c.if-is_ascii_alphabetic.ensures.value) (sym c.if-not-ends_at_tag.ensures) (sym c.if-ends_raw_text.ensures) c.from_residual-in_err-tell_end_tag.ensures.1 c.in_err-tell_end_tag.ensures.is
+    unfit-failed m g.met.Sink.TokenSink.laws _ _ _ _ _ _ c.requires.at c.requires.sound c.tell_end_tag.ensures.letters (sym c.if-is_ascii_alphabetic.ensures.value) (sym c.if-not-ends_at_tag.ensures) (sym c.if-ends_raw_text.ensures) c.from_residual-in_err-tell_end_tag.ensures.1 c.in_err-tell_end_tag.ensures.is
 
 pub returns : goal.returns
 returns g c =
     let m = g.Sink.TokenSink in
-    unfit-kept m.step m.view m.asks_cdata m.ended m.is_sound m.number m.has_failed m.errors m.is_quiet g.met.Sink.TokenSink.laws _ c.tell_end_tag.new.self _ _ _ _ c.requires.at c.requires.sound c.tell_end_tag.ensures.letters (sym c.if-is_ascii_alphabetic.ensures.value) (sym c.if-not-ends_at_tag.ensures) (sym c.if-ends_raw_text.ensures) c.in_ok-tell_end_tag.ensures.is c.raw_data_state.ensures
+    unfit-kept m g.met.Sink.TokenSink.laws _ c.tell_end_tag.new.self _ _ _ _ c.requires.at c.requires.sound c.tell_end_tag.ensures.letters (sym c.if-is_ascii_alphabetic.ensures.value) (sym c.if-not-ends_at_tag.ensures) (sym c.if-ends_raw_text.ensures) c.in_ok-tell_end_tag.ensures.is c.raw_data_state.ensures

@@ -5,14 +5,14 @@ use Rattle.html_tokenizer.proofs.tokenizer.Tokenizer.raw_end_tag_open_state.Goal
 pub returns-then-is_ascii_alphabetic : goal.returns-then-is_ascii_alphabetic
 returns-then-is_ascii_alphabetic g c =
     let m = g.Sink.TokenSink in
-    name-taken m.step m.view m.asks_cdata m.ended m.is_sound m.number m.has_failed m.errors m.is_quiet g.met.Sink.TokenSink.laws _ _ _ _ c.requires.at c.requires.sound (sym c.if-is_ascii_alphabetic.ensures.value) c.in_ok-self.ensures.ok
+    name-taken m g.met.Sink.TokenSink.laws _ _ _ _ c.requires.at c.requires.sound (sym c.if-is_ascii_alphabetic.ensures.value) c.in_ok-self.ensures.ok
 
 pub returns-in_err-tell_two : goal.returns-in_err-tell_two
 returns-in_err-tell_two g c =
     let m = g.Sink.TokenSink in
-    no_name-failed m.step m.view m.asks_cdata m.ended m.is_sound m.number m.has_failed m.errors m.is_quiet g.met.Sink.TokenSink.laws _ _ _ _ _ _ c.requires.at c.requires.sound (sym c.if-is_ascii_alphabetic.ensures.value) c.from_residual-in_err-tell_two.ensures.1 c.in_err-tell_two.ensures
+    no_name-failed m g.met.Sink.TokenSink.laws _ _ _ _ _ _ c.requires.at c.requires.sound (sym c.if-is_ascii_alphabetic.ensures.value) c.from_residual-in_err-tell_two.ensures.1 c.in_err-tell_two.ensures
 
 pub returns : goal.returns
 returns g c =
     let m = g.Sink.TokenSink in
-    no_name-kept m.step m.view m.asks_cdata m.ended m.is_sound m.number m.has_failed m.errors m.is_quiet g.met.Sink.TokenSink.laws _ c.tell_two.new.self _ _ _ _ c.requires.at c.requires.sound (sym c.if-is_ascii_alphabetic.ensures.value) c.in_ok-tell_two.ensures c.raw_data_state.ensures
+    no_name-kept m g.met.Sink.TokenSink.laws _ c.tell_two.new.self _ _ _ _ c.requires.at c.requires.sound (sym c.if-is_ascii_alphabetic.ensures.value) c.in_ok-tell_two.ensures c.raw_data_state.ensures

@@ -5,9 +5,9 @@ use Rattle.html_tokenizer.proofs.tokenizer.Tokenizer.raw_less_than_sign.Goals as
 pub returns-then-ends_at_tag : goal.returns-then-ends_at_tag
 returns-then-ends_at_tag g c =
     let m = g.Sink.TokenSink in
-    raw-opened m.step m.view m.asks_cdata m.ended m.is_sound m.number m.has_failed m.errors m.is_quiet g.met.Sink.TokenSink.laws _ _ c.requires.at c.requires.sound (sym c.if-ends_at_tag.ensures)
+    raw-opened m g.met.Sink.TokenSink.laws _ _ c.requires.at c.requires.sound (sym c.if-ends_at_tag.ensures)
 
 pub returns-else-ends_at_tag : goal.returns-else-ends_at_tag
 returns-else-ends_at_tag g c =
     let m = g.Sink.TokenSink in
-    raw-open_told m.step m.view m.asks_cdata m.ended m.is_sound m.number m.has_failed m.errors m.is_quiet g.met.Sink.TokenSink.laws _ _ _ _ c.requires.at c.requires.sound (sym c.if-ends_at_tag.ensures) c.take_char.ensures
+    raw-open_told m g.met.Sink.TokenSink.laws _ _ _ _ c.requires.at c.requires.sound (sym c.if-ends_at_tag.ensures) c.take_char.ensures

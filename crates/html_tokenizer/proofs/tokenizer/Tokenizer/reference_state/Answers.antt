@@ -7,4 +7,4 @@ use Rattle.html_tokenizer.proofs.tokenizer.Tokenizer.reference_state.Goals as go
 pub returns-then-may_go_on : goal.returns-then-may_go_on
 returns-then-may_go_on g c =
     let m = g.Sink.TokenSink in
-    took-held m.step m.view m.asks_cdata m.ended m.is_sound m.number m.has_failed m.errors m.is_quiet c.args.self.now c.args.c c.args.held _ c.requires.fits c.requires.sound (goes_on-held (rows_of c.args.self.now) c.args.held c.args.c (sym c.if-may_go_on.ensures.is)) c.in_ok-push.ensures.ok
+    took-held m c.args.self.now c.args.c c.args.held _ c.requires.fits c.requires.sound (goes_on-held (rows_of c.args.self.now) c.args.held c.args.c (sym c.if-may_go_on.ensures.is)) c.in_ok-push.ensures.ok

@@ -5,7 +5,7 @@ use Rattle.html_tokenizer.proofs.tokenizer.Tokenizer.run.Given as goal
 abbrev pub invariant-loop-handle : goal.invariant-loop-handle
 invariant-loop-handle g l =
     let m = g.Sink.TokenSink in
-    Going m.step m.view m.asks_cdata m.ended m.is_sound m.number m.has_failed m.errors m.is_quiet l.fn.self l.self l.fn.input l.input
+    Going m l.fn.self l.self l.fn.input l.input
 
 abbrev pub decreases-loop-handle : goal.decreases-loop-handle
 decreases-loop-handle g l = length l.input.characters

@@ -6,4 +6,4 @@ use Rattle.html_tokenizer.proofs.tokenizer.Tokenizer.set_plaintext_state.Goals a
 pub returns-clause-reads : goal.returns-clause-reads
 returns-clause-reads g c =
     let m = g.Sink.TokenSink in
-    reads-text m.step m.view m.asks_cdata m.ended m.is_sound m.number m.has_failed m.errors m.is_quiet _ (and_parts _ _ (and_parts _ _ c.requires.nothing_pending).0).1 refl
+    reads-text m _ (and_parts _ _ (and_parts _ _ c.requires.nothing_pending).0).1 refl

@@ -6,29 +6,29 @@ use Rattle.html_tokenizer.proofs.tokenizer.Tokenizer.tag_open_state.Goals as goa
 pub returns-then-c-eq47 : goal.returns-then-c-eq47
 returns-then-c-eq47 g c =
     let m = g.Sink.TokenSink in
-    rw c.if-c-eq47.true (open-slash m.step m.view m.asks_cdata m.ended m.is_sound m.number m.has_failed m.errors m.is_quiet g.met.Sink.TokenSink.laws c.args.self.now c.requires.at c.requires.sound)
+    rw c.if-c-eq47.true (open-slash m g.met.Sink.TokenSink.laws c.args.self.now c.requires.at c.requires.sound)
 
 pub returns-then-c-eq33 : goal.returns-then-c-eq33
 returns-then-c-eq33 g c =
     let m = g.Sink.TokenSink in
-    rw c.if-c-eq33.true (open-mark m.step m.view m.asks_cdata m.ended m.is_sound m.number m.has_failed m.errors m.is_quiet g.met.Sink.TokenSink.laws c.args.self.now c.new.result c.requires.at c.requires.sound c.new.ensures)
+    rw c.if-c-eq33.true (open-mark m g.met.Sink.TokenSink.laws c.args.self.now c.new.result c.requires.at c.requires.sound c.new.ensures)
 
 pub returns-then-is_ascii_alphabetic : goal.returns-then-is_ascii_alphabetic
 returns-then-is_ascii_alphabetic g c =
     let m = g.Sink.TokenSink in
-    open-letter m.step m.view m.asks_cdata m.ended m.is_sound m.number m.has_failed m.errors m.is_quiet g.met.Sink.TokenSink.laws c.args.self.now _ c.args.c c.nameless.result _ c.requires.at (sym c.is_ascii_alphabetic.ensures.value ∙ c.if-is_ascii_alphabetic.true) c.nameless.ensures c.tag_name_state.ensures
+    open-letter m g.met.Sink.TokenSink.laws c.args.self.now _ c.args.c c.nameless.result _ c.requires.at (sym c.is_ascii_alphabetic.ensures.value ∙ c.if-is_ascii_alphabetic.true) c.nameless.ensures c.tag_name_state.ensures
 
 pub returns-then-c-eq63 : goal.returns-then-c-eq63
 returns-then-c-eq63 g c =
     let m = g.Sink.TokenSink in
-    open-bogus m.step m.view m.asks_cdata m.ended m.is_sound m.number m.has_failed m.errors m.is_quiet g.met.Sink.TokenSink.laws c.args.self.now _ c.args.c c.empty.result _ c.requires.at c.if-c-eq63.true c.empty.ensures c.bogus_comment_state.ensures
+    open-bogus m g.met.Sink.TokenSink.laws c.args.self.now _ c.args.c c.empty.result _ c.requires.at c.if-c-eq63.true c.empty.ensures c.bogus_comment_state.ensures
 
 pub returns-in_err-tell_unopened : goal.returns-in_err-tell_unopened
 returns-in_err-tell_unopened g c =
     let m = g.Sink.TokenSink in
-    open-text_failed m.step m.view m.asks_cdata m.ended m.is_sound m.number m.has_failed m.errors m.is_quiet g.met.Sink.TokenSink.laws c.args.self.now _ c.args.c _ _ c.requires.at c.requires.sound (is-text m.step m.view m.asks_cdata m.ended m.is_sound m.number m.has_failed m.errors m.is_quiet g.met.Sink.TokenSink.laws c.args.c (sym c.is_ascii_alphabetic.ensures.value ∙ c.if-is_ascii_alphabetic.false) (ne_eqb c.args.c 47 c.if-c-eq47.false) (ne_eqb c.args.c 33 c.if-c-eq33.false) (ne_eqb c.args.c 63 c.if-c-eq63.false)) c.from_residual.ensures.1 c.in_err-tell_unopened.ensures
+    open-text_failed m g.met.Sink.TokenSink.laws c.args.self.now _ c.args.c _ _ c.requires.at c.requires.sound (is-text m g.met.Sink.TokenSink.laws c.args.c (sym c.is_ascii_alphabetic.ensures.value ∙ c.if-is_ascii_alphabetic.false) (ne_eqb c.args.c 47 c.if-c-eq47.false) (ne_eqb c.args.c 33 c.if-c-eq33.false) (ne_eqb c.args.c 63 c.if-c-eq63.false)) c.from_residual.ensures.1 c.in_err-tell_unopened.ensures
 
 pub returns : goal.returns
 returns g c =
     let m = g.Sink.TokenSink in
-    open-text_kept m.step m.view m.asks_cdata m.ended m.is_sound m.number m.has_failed m.errors m.is_quiet g.met.Sink.TokenSink.laws c.args.self.now c.tell_unopened.new.self _ c.args.c _ c.requires.at c.requires.sound (is-text m.step m.view m.asks_cdata m.ended m.is_sound m.number m.has_failed m.errors m.is_quiet g.met.Sink.TokenSink.laws c.args.c (sym c.is_ascii_alphabetic.ensures.value ∙ c.if-is_ascii_alphabetic.false) (ne_eqb c.args.c 47 c.if-c-eq47.false) (ne_eqb c.args.c 33 c.if-c-eq33.false) (ne_eqb c.args.c 63 c.if-c-eq63.false)) c.in_ok-tell_unopened.ensures c.data_state.ensures
+    open-text_kept m g.met.Sink.TokenSink.laws c.args.self.now c.tell_unopened.new.self _ c.args.c _ c.requires.at c.requires.sound (is-text m g.met.Sink.TokenSink.laws c.args.c (sym c.is_ascii_alphabetic.ensures.value ∙ c.if-is_ascii_alphabetic.false) (ne_eqb c.args.c 47 c.if-c-eq47.false) (ne_eqb c.args.c 33 c.if-c-eq33.false) (ne_eqb c.args.c 63 c.if-c-eq63.false)) c.in_ok-tell_unopened.ensures c.data_state.ensures

@@ -4,4 +4,4 @@ use Rattle.html_tokenizer.proofs.tokenizer.Tokenizer.take_behind_doctype.Goals a
 pub returns : goal.returns
 returns g c =
     let m = g.Sink.TokenSink in
-    doctype-other m.step m.view m.asks_cdata m.ended m.is_sound m.number m.has_failed m.errors m.is_quiet g.met.Sink.TokenSink.laws c.args.self.now _ c.args.c _ c.requires.at c.before_doctype_name_state.ensures
+    doctype-other m g.met.Sink.TokenSink.laws c.args.self.now _ c.args.c _ c.requires.at c.before_doctype_name_state.ensures

@@ -4,4 +4,4 @@ use Rattle.html_tokenizer.proofs.tokenizer.Tokenizer.take_behind_keyword.Goals a
 pub returns : goal.returns
 returns g c =
     let m = g.Sink.TokenSink in
-    keyword-other m.step m.view m.asks_cdata m.ended m.is_sound m.number m.has_failed m.errors m.is_quiet g.met.Sink.TokenSink.laws c.args.self.now _ c.args.c _ c.args.kind c.requires.at c.before_doctype_identifier_state.ensures
+    keyword-other m g.met.Sink.TokenSink.laws c.args.self.now _ c.args.c _ c.args.kind c.requires.at c.before_doctype_identifier_state.ensures

@@ -4,9 +4,9 @@ use Rattle.html_tokenizer.proofs.tokenizer.Tokenizer.take_behind_solidus.Goals a
 pub returns-then-c-eq62 : goal.returns-then-c-eq62
 returns-then-c-eq62 g c =
     let m = g.Sink.TokenSink in
-    slash-close m.step m.view m.asks_cdata m.ended m.is_sound m.number m.has_failed m.errors m.is_quiet _ _ _ _ c.requires.at c.requires.sound c.if-c-eq62.true c.emit_tag.ensures
+    slash-close m _ _ _ _ c.requires.at c.requires.sound c.if-c-eq62.true c.emit_tag.ensures
 
 pub returns : goal.returns
 returns g c =
     let m = g.Sink.TokenSink in
-    slash-other m.step m.view m.asks_cdata m.ended m.is_sound m.number m.has_failed m.errors m.is_quiet _ _ _ _ c.requires.at c.if-c-eq62.false c.before_attribute_name_state.ensures
+    slash-other m _ _ _ _ c.requires.at c.if-c-eq62.false c.before_attribute_name_state.ensures

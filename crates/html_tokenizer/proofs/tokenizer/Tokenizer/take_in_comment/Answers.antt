@@ -5,9 +5,9 @@ use Rattle.html_tokenizer.proofs.tokenizer.Tokenizer.take_in_comment.Goals as go
 pub returns-then-c-eq45 : goal.returns-then-c-eq45
 returns-then-c-eq45 g c =
     let m = g.Sink.TokenSink in
-    rw c.if-c-eq45.true (comment-dash m.step m.view m.asks_cdata m.ended m.is_sound m.number m.has_failed m.errors m.is_quiet g.met.Sink.TokenSink.laws c.args.self.now c.requires.sound c.requires.at)
+    rw c.if-c-eq45.true (comment-dash m g.met.Sink.TokenSink.laws c.args.self.now c.requires.sound c.requires.at)
 
 pub returns : goal.returns
 returns g c =
     let m = g.Sink.TokenSink in
-    comment-push m.step m.view m.asks_cdata m.ended m.is_sound m.number m.has_failed m.errors m.is_quiet g.met.Sink.TokenSink.laws c.args.self.now c.args.c c.requires.sound c.push.new.self c.requires.at (ne_eqb c.args.c 45 c.if-c-eq45.false) (rw c.shown.ensures at c.in_ok-push.ensures.ok)
+    comment-push m g.met.Sink.TokenSink.laws c.args.self.now c.args.c c.requires.sound c.push.new.self c.requires.at (ne_eqb c.args.c 45 c.if-c-eq45.false) (rw c.shown.ensures at c.in_ok-push.ensures.ok)

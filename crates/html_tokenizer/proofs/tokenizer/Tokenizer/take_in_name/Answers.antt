@@ -5,9 +5,9 @@ use Rattle.html_tokenizer.proofs.tokenizer.Tokenizer.take_in_name.Goals as goal
 pub returns-then-ends_name : goal.returns-then-ends_name
 returns-then-ends_name g c =
     let m = g.Sink.TokenSink in
-    name-end m.step m.view m.asks_cdata m.ended m.is_sound m.number m.has_failed m.errors m.is_quiet _ _ _ _ c.requires.at (sym c.ends_name.ensures ∙ c.if-ends_name.true) c.after_attribute_name_state.ensures
+    name-end m _ _ _ _ c.requires.at (sym c.ends_name.ensures ∙ c.if-ends_name.true) c.after_attribute_name_state.ensures
 
 pub returns : goal.returns
 returns g c =
     let m = g.Sink.TokenSink in
-    name-more m.step m.view m.asks_cdata m.ended m.is_sound m.number m.has_failed m.errors m.is_quiet _ _ _ c.requires.at c.requires.sound (sym c.ends_name.ensures ∙ c.if-ends_name.false) (rw c.lowered.ensures at c.in_ok-push.ensures.ok)
+    name-more m _ _ _ c.requires.at c.requires.sound (sym c.ends_name.ensures ∙ c.if-ends_name.false) (rw c.lowered.ensures at c.in_ok-push.ensures.ok)

@@ -4,15 +4,15 @@ use Rattle.html_tokenizer.proofs.tokenizer.Tokenizer.take_in_quoted_value.Goals 
 pub returns-then-c-quote : goal.returns-then-c-quote
 returns-then-c-quote g c =
     let m = g.Sink.TokenSink in
-    quoted-close m.step m.view m.asks_cdata m.ended m.is_sound m.number m.has_failed m.errors m.is_quiet c.args.self.now c.finish_attribute.new.self _ _ _ c.requires.at c.requires.sound c.requires.quote c.if-c-quote.true c.in_ok-finish_attribute.ensures.ok
+    quoted-close m c.args.self.now c.finish_attribute.new.self _ _ _ c.requires.at c.requires.sound c.requires.quote c.if-c-quote.true c.in_ok-finish_attribute.ensures.ok
 
 pub returns-then-c-eq38 : goal.returns-then-c-eq38
 returns-then-c-eq38 g c =
     let m = g.Sink.TokenSink in
-    value-reference m.step m.view m.asks_cdata m.ended m.is_sound m.number m.has_failed m.errors m.is_quiet c.args.self.now c.args.kind _ _ c.requires.at c.requires.sound c.if-c-eq38.true c.new.ensures
+    value-reference m c.args.self.now c.args.kind _ _ c.requires.at c.requires.sound c.if-c-eq38.true c.new.ensures
 
 pub returns : goal.returns
 returns g c =
     let m = g.Sink.TokenSink in
-    quoted-more m.step m.view m.asks_cdata m.ended m.is_sound m.number m.has_failed m.errors m.is_quiet c.args.self.now _ _ _ _ c.requires.at c.requires.sound
+    quoted-more m c.args.self.now _ _ _ _ c.requires.at c.requires.sound
     c.requires.quote c.if-c-quote.false c.if-c-eq38.false (rw c.shown.ensures at c.in_ok-push.ensures.ok)

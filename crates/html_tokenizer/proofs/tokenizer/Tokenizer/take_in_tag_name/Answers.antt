@@ -5,20 +5,20 @@ use Rattle.html_tokenizer.proofs.tokenizer.Tokenizer.take_in_tag_name.Goals as g
 pub returns-then-is_white_space : goal.returns-then-is_white_space
 returns-then-is_white_space g c =
     let m = g.Sink.TokenSink in
-    tag_name-space m.step m.view m.asks_cdata m.ended m.is_sound m.number m.has_failed m.errors m.is_quiet _ _ c.requires.at c.requires.sound (sym c.is_white_space.ensures ∙ c.if-is_white_space.true)
+    tag_name-space m _ _ c.requires.at c.requires.sound (sym c.is_white_space.ensures ∙ c.if-is_white_space.true)
 
 pub returns-then-c-eq47 : goal.returns-then-c-eq47
 returns-then-c-eq47 g c =
     let m = g.Sink.TokenSink in
-    tag_name-slash m.step m.view m.asks_cdata m.ended m.is_sound m.number m.has_failed m.errors m.is_quiet _ _ c.requires.at c.requires.sound c.if-c-eq47.true
+    tag_name-slash m _ _ c.requires.at c.requires.sound c.if-c-eq47.true
 
 pub returns-then-c-eq62 : goal.returns-then-c-eq62
 returns-then-c-eq62 g c =
     let m = g.Sink.TokenSink in
-    tag_name-close m.step m.view m.asks_cdata m.ended m.is_sound m.number m.has_failed m.errors m.is_quiet _ _ _ _ c.requires.at c.requires.sound c.if-c-eq62.true c.emit_tag.ensures
+    tag_name-close m _ _ _ _ c.requires.at c.requires.sound c.if-c-eq62.true c.emit_tag.ensures
 
 pub returns : goal.returns
 returns g c =
     let m = g.Sink.TokenSink in
-    tag_name-more m.step m.view m.asks_cdata m.ended m.is_sound m.number m.has_failed m.errors m.is_quiet _ _ _ c.requires.at c.requires.sound
+    tag_name-more m _ _ _ c.requires.at c.requires.sound
     (sym c.is_white_space.ensures ∙ c.if-is_white_space.false) c.if-c-eq47.false c.if-c-eq62.false (rw c.lowered.ensures at c.in_ok-push.ensures.ok)

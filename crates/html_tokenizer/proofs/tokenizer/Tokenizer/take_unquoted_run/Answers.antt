@@ -5,9 +5,9 @@ use Rattle.html_tokenizer.proofs.tokenizer.Tokenizer.take_unquoted_run.Goals as 
 pub returns-in_err-tell_unquoted_faults : goal.returns-in_err-tell_unquoted_faults
 returns-in_err-tell_unquoted_faults g c =
     let m = g.Sink.TokenSink in
-    run_refused m.step m.view m.asks_cdata m.ended m.is_sound m.number m.has_failed m.errors m.is_quiet c.args.self.now _ _ _ _ c.in_err-tell_unquoted_faults.ensures c.from_residual.ensures.1
+    run_refused m c.args.self.now _ _ _ _ c.in_err-tell_unquoted_faults.ensures c.from_residual.ensures.1
 
 pub returns : goal.returns
 returns g c =
     let m = g.Sink.TokenSink in
-    unquoted_run-kept m.step m.view m.asks_cdata m.ended m.is_sound m.number m.has_failed m.errors m.is_quiet c.args.self.now c.tell_unquoted_faults.new.self _ _ _ c.requires.run c.requires.sound c.requires.at (rw c.as_str.ensures at c.in_ok-tell_unquoted_faults.ensures) c.append.ensures.ok c.append.ensures.fault
+    unquoted_run-kept m c.args.self.now c.tell_unquoted_faults.new.self _ _ _ c.requires.run c.requires.sound c.requires.at (rw c.as_str.ensures at c.in_ok-tell_unquoted_faults.ensures) c.append.ensures.ok c.append.ensures.fault

@@ -4,4 +4,4 @@ use Rattle.html_tokenizer.proofs.tokenizer.Tokenizer.take_value_run.Goals as goa
 pub returns-in_default : goal.returns-in_default
 returns-in_default g c =
     let m = g.Sink.TokenSink in
-    value_run-kept m.step m.view m.asks_cdata m.ended m.is_sound m.number m.has_failed m.errors m.is_quiet _ _ _ _ _ c.in_default.not-Unquoted c.requires.run c.requires.sound c.requires.at c.append.ensures.ok c.append.ensures.fault
+    value_run-kept m _ _ _ _ _ c.in_default.not-Unquoted c.requires.run c.requires.sound c.requires.at c.append.ensures.ok c.append.ensures.fault

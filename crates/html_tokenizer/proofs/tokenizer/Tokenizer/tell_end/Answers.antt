@@ -4,4 +4,4 @@ use Rattle.html_tokenizer.proofs.tokenizer.Tokenizer.tell_end.Goals as goal
 pub returns : goal.returns
 returns g c =
     let m = g.Sink.TokenSink in
-    ended m.step m.view m.asks_cdata m.ended m.is_sound m.number m.has_failed m.errors m.is_quiet c.args.self.now c.tell_held.new.self _ _ c.in_ok-tell_held.ensures c.tell.ensures
+    ended m c.args.self.now c.tell_held.new.self _ _ c.in_ok-tell_held.ensures c.tell.ensures

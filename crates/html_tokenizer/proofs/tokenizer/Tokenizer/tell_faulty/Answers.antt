@@ -5,9 +5,9 @@ use Rattle.html_tokenizer.specs.Steps.{a_fault}
 pub returns-in_err-tell_error : goal.returns-in_err-tell_error
 returns-in_err-tell_error g c =
     let m = g.Sink.TokenSink in
-    tells-failed m.step m.view m.asks_cdata m.ended m.is_sound m.number m.has_failed m.errors m.is_quiet g.met.Sink.TokenSink.laws a_fault _ c.tell_error.new.self _ _ _ _ c.in_err-tell_error.ensures c.from_residual.ensures.1
+    tells-failed m g.met.Sink.TokenSink.laws a_fault _ c.tell_error.new.self _ _ _ _ c.in_err-tell_error.ensures c.from_residual.ensures.1
 
 pub returns : goal.returns
 returns g c =
     let m = g.Sink.TokenSink in
-    tells-erred m.step m.view m.asks_cdata m.ended m.is_sound m.number m.has_failed m.errors m.is_quiet g.met.Sink.TokenSink.laws a_fault _ c.tell_error.new.self _ _ _ c.in_ok-tell_error.ensures c.tell.ensures
+    tells-erred m g.met.Sink.TokenSink.laws a_fault _ c.tell_error.new.self _ _ _ c.in_ok-tell_error.ensures c.tell.ensures

@@ -5,9 +5,9 @@ use Rattle.html_tokenizer.proofs.tokenizer.Tokenizer.tell_held.Goals as goal
 pub returns-in-Some : goal.returns-in-Some
 returns-in-Some g c =
     let m = g.Sink.TokenSink in
-    closes_where m.step m.view m.asks_cdata m.ended m.is_sound m.number m.has_failed m.errors m.is_quiet c.args.self.now _ _ _ (sym c.in-Some.ensures.value) c.end_reference.ensures
+    closes_where m c.args.self.now _ _ _ (sym c.in-Some.ensures.value) c.end_reference.ensures
 
 pub returns-in-None : goal.returns-in-None
 returns-in-None g c =
     let m = g.Sink.TokenSink in
-    closes_where m.step m.view m.asks_cdata m.ended m.is_sound m.number m.has_failed m.errors m.is_quiet c.args.self.now _ _ _ (sym c.in-None.ensures.value ∙ sym c.in-None.ensures.after) c.end_state.ensures
+    closes_where m c.args.self.now _ _ _ (sym c.in-None.ensures.value ∙ sym c.in-None.ensures.after) c.end_state.ensures

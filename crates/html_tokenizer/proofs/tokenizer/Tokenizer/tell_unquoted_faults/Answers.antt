@@ -8,13 +8,13 @@ use Rattle.html_tokenizer.proofs.tokenizer.Tokenizer.tell_unquoted_faults.Goals 
 pub loop-c-preserved : goal.loop-c-preserved
 loop-c-preserved g c =
     let m = g.Sink.TokenSink in
-    erred-each m.step m.view m.asks_cdata m.ended m.is_sound m.number m.has_failed m.errors m.is_quiet is_odd_unquoted c.loop-c.yielded c.in-Some.c c.args.self.now c.loop-c.self c.tell_fault.new.self c.loop-c.invariant
+    erred-each m is_odd_unquoted c.loop-c.yielded c.in-Some.c c.args.self.now c.loop-c.self c.tell_fault.new.self c.loop-c.invariant
     (rw (← c.unquoted_fault.ensures) c.in_ok-tell_fault.ensures)
 
 pub returns-in_err-tell_fault : goal.returns-in_err-tell_fault
 returns-in_err-tell_fault g c =
     let m = g.Sink.TokenSink in
-    errs-behind m.step m.view m.asks_cdata m.ended m.is_sound m.number m.has_failed m.errors m.is_quiet _ c.args.self.now c.loop-c.self _ _ _ c.loop-c.invariant c.in_err-tell_fault.ensures c.from_residual.ensures.1
+    errs-behind m _ c.args.self.now c.loop-c.self _ _ _ c.loop-c.invariant c.in_err-tell_fault.ensures c.from_residual.ensures.1
 
 pub returns : goal.returns
 returns g c =

@@ -5,4 +5,4 @@ use Rattle.html_tokenizer.proofs.tokenizer.Tokenizer.tell_unquoted_faults.Given 
 abbrev pub invariant-loop-c : goal.invariant-loop-c
 invariant-loop-c g l =
     let m = g.Sink.TokenSink in
-    Erred m.step m.view m.asks_cdata m.ended m.is_sound m.number m.has_failed m.errors m.is_quiet (owed_for_each is_odd_unquoted l.yielded) l.fn.self l.self
+    Erred m (owed_for_each is_odd_unquoted l.yielded) l.fn.self l.self

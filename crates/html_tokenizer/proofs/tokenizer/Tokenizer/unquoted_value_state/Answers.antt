@@ -7,9 +7,9 @@ use Rattle.html_tokenizer.proofs.tokenizer.Tokenizer.unquoted_value_state.Goals 
 pub returns-in_err-tell_fault : goal.returns-in_err-tell_fault
 returns-in_err-tell_fault g c =
     let m = g.Sink.TokenSink in
-    keeps_refused m.step m.view m.asks_cdata m.ended m.is_sound m.number m.has_failed m.errors m.is_quiet c.args.self.now _ c.args.self.now.char_ref c.args.c _ _ c.in_err-tell_fault.ensures c.from_residual.ensures.1
+    keeps_refused m c.args.self.now _ c.args.self.now.char_ref c.args.c _ _ c.in_err-tell_fault.ensures c.from_residual.ensures.1
 
 pub returns : goal.returns
 returns g c =
     let m = g.Sink.TokenSink in
-    keeps_erred m.step m.view m.asks_cdata m.ended m.is_sound m.number m.has_failed m.errors m.is_quiet (_) c.args.self.now c.tell_fault.new.self _ c.args.c _ c.in_ok-tell_fault.ensures (λ e. unquoted-absorbs m.step m.view m.asks_cdata m.ended m.is_sound m.number m.has_failed m.errors m.is_quiet c.args.self.now c.args.c c.requires.at (sym c.unquoted_fault.ensures ∙ e)) c.take_in_unquoted_value.ensures
+    keeps_erred m (_) c.args.self.now c.tell_fault.new.self _ c.args.c _ c.in_ok-tell_fault.ensures (λ e. unquoted-absorbs m c.args.self.now c.args.c c.requires.at (sym c.unquoted_fault.ensures ∙ e)) c.take_in_unquoted_value.ensures

@@ -9,6 +9,7 @@ use Rattle.html_tokenizer.specs.CharRefs.{fits_in}
 use Rattle.html_tokenizer.specs.declared.tokenizer.Tokenizer.{Tokenizer}
 use Rattle.html_tokenizer_tests.proofs.tests.calls.turn_plain.Goals as goal
 use Rattle.html_tokens.specs.declared.token.Token.{Token}
+use Rattle.html_tokens.specs.declared.sink.TokenSink.{Ghosts}
 
 -- the third of four facts
 third : (a b c d : Bool) → (a && b && c && d) ≡ true → c ≡ true
@@ -22,20 +23,20 @@ fits-none : (held : Option (List ℕ)) (st : State) → is_none held ≡ true �
 fits-none None st h = refl
 fits-none (Some cs) st h = absurd cc
 
-module _ {K S H : Type 0} (step : Step S) (view : K → S) (cdata : S → Bool) (ends : S → S) (sound : S → Type 0) (number : H → ℕ) (broken : K → Bool) (errors : K → ℕ) (quiet : S → Token → Bool) where
-  ready-if : (failed ended : Bool) (k : Tokenizer K) → is_none k.char_ref ≡ true → IsReadyIf step view cdata ends sound number broken errors quiet (refused_by failed ended) k
-      → IsReadyIf step view cdata ends sound number broken errors quiet (refused_by failed ended) (record k { state = state.Plaintext })
+module _ {K H : Type 0} (Sink : Ghosts K H) where
+  ready-if : (failed ended : Bool) (k : Tokenizer K) → is_none k.char_ref ≡ true → IsReadyIf Sink (refused_by failed ended) k
+      → IsReadyIf Sink (refused_by failed ended) (record k { state = state.Plaintext })
   ready-if true ended k none h = tt
   ready-if false true k none h = tt
   ready-if false false k none h = record { sound = h.sound; fits = fits-none k.char_ref state.Plaintext none }
 
   -- A tokenizer that may be called, with nothing pending, may be called where all that follows is text.
-  ready-plain : (k new : Tokenizer K) → is_nothing_pending k ≡ true → new ≡ record k { state = state.Plaintext } → IsReadyIf step view cdata ends sound number broken errors quiet (refusal k.stream) k
-      → IsReadyIf step view cdata ends sound number broken errors quiet (refusal new.stream) new
+  ready-plain : (k new : Tokenizer K) → is_nothing_pending k ≡ true → new ≡ record k { state = state.Plaintext } → IsReadyIf Sink (refusal k.stream) k
+      → IsReadyIf Sink (refusal new.stream) new
   ready-plain k new nothing is h =
       rw is (ready-if k.stream.has_failed k.stream.has_ended k (third (not k.stream.has_ended) (not k.stream.has_failed) (is_none k.char_ref) (is_text_state k.state) nothing) h)
 
 pub returns : goal.returns
 returns g c =
     let m = g.S.TokenSink in
-    ready-plain m.step m.view m.asks_cdata m.ended m.is_sound m.number m.has_failed m.errors m.is_quiet _ _ (sym c.nothing_pending.ensures.is ∙ search rules) c.set_plaintext_state.ensures.changed c.requires
+    ready-plain m _ _ (sym c.nothing_pending.ensures.is ∙ search rules) c.set_plaintext_state.ensures.changed c.requires
