@@ -17,7 +17,7 @@ use Rattle.html_tokens.specs.Sink.{Step}
 use Rattle.html_tokens.specs.Tags.{behind_tag, with_attribute, attribute_after, is_odd_in_name, is_odd_first}
 use Rattle.html_tokenizer.specs.declared.tokenizer.Tokenizer.{Tokenizer}
 use Rattle.html_tokenizer.specs.Rest.{rows_of, standing, held_at}
-use Rattle.html_tokenizer.specs.Steps.{IsAt, Took, Keeps, EndsTag}
+use Rattle.html_tokenizer.specs.Steps.{IsAt, Took, Keeps, EndsTag, plays}
 use Rattle.html_tokenizer.proofs.TagEnds.{noted-tag}
 use Rattle.html_tokenizer.proofs.Glue.{at, took, took_tag, keeps_silent, Absorbs}
 use Rattle.html_tokenizer.proofs.Lawful.{slight-absorbed}
@@ -80,7 +80,7 @@ module _ {K H : Type 0} (Sink : Ghosts K H) where
   unfolding held_at
   name-end old new c result from e h =
       keeps_silent Sink old (record old { state = state.AfterAttributeName }) new c state.AttributeName state.AfterAttributeName result from (record { state = refl; fresh = from.fresh }) refl refl
-      (λ b s t. ap (λ i. play (noting Sink.step Sink.is_quiet) noting_error (noting_cdata Sink.asks_cdata) (noting_end Sink.ended) (rows_of old) i b s (c ∷ t)) (name-ends (rows_of old) (standing old InData) old.tag old.attribute_name c t e)) h
+      (λ b s t. ap (λ i. plays Sink (rows_of old) i b s (c ∷ t)) (name-ends (rows_of old) (standing old InData) old.tag old.attribute_name c t e)) h
 
   pub after-space : (old : Tokenizer K) (c : ℕ) → IsAt old state.AfterAttributeName → Sink.is_sound (Sink.view old.sink) → is_white_space c ≡ true → Took Sink old old c flow.Continue
   unfolding held_at
@@ -102,7 +102,7 @@ module _ {K H : Type 0} (Sink : Ghosts K H) where
   -- The attribute ended before the character, which may be odd there.
   pub finish-odd : (odd : Bool) (old fin new : Tokenizer K) (value : List ℕ) (c : ℕ) (st : State) (result : Result (ProcessResult H) ParseFault) → IsAt old st → fin ≡ finished old value
       → ((b : ℕ) (s : Sink.State × Notes ℕ) (t : List ℕ) → at Sink st old b s (c ∷ t)
-      ≡ play (noting Sink.step Sink.is_quiet) noting_error (noting_cdata Sink.asks_cdata) (noting_end Sink.ended) (rows_of old) (silent 0 (standing old (InTag (with_attribute old.tag old.attribute_name value)))) b (erred_by noting_error (slight_if odd) s) (c ∷ t))
+      ≡ plays Sink (rows_of old) (silent 0 (standing old (InTag (with_attribute old.tag old.attribute_name value)))) b (erred_by noting_error (slight_if odd) s) (c ∷ t))
       → Keeps Sink (record fin { state = state.BeforeAttributeName }) new c result → Keeps Sink old new c result
   unfolding held_at
   finish-odd odd old fin new value c st result from is law h =
@@ -112,7 +112,7 @@ module _ {K H : Type 0} (Sink : Ghosts K H) where
   -- The attribute ended before the character.
   pub finish-before : (old fin new : Tokenizer K) (value : List ℕ) (c : ℕ) (st : State) (result : Result (ProcessResult H) ParseFault) → IsAt old st → fin ≡ finished old value
       → ((b : ℕ) (s : Sink.State × Notes ℕ) (t : List ℕ) → at Sink st old b s (c ∷ t)
-      ≡ play (noting Sink.step Sink.is_quiet) noting_error (noting_cdata Sink.asks_cdata) (noting_end Sink.ended) (rows_of old) (silent 0 (standing old (InTag (with_attribute old.tag old.attribute_name value)))) b s (c ∷ t))
+      ≡ plays Sink (rows_of old) (silent 0 (standing old (InTag (with_attribute old.tag old.attribute_name value)))) b s (c ∷ t))
       → Keeps Sink (record fin { state = state.BeforeAttributeName }) new c result → Keeps Sink old new c result
   finish-before old fin new value c st result from is law h = finish-odd false old fin new value c st result from is law h
 
@@ -121,14 +121,14 @@ module _ {K H : Type 0} (Sink : Ghosts K H) where
   unfolding held_at
   after-other old fin new c result from e ne is h =
       finish-before old fin new [] c state.AfterAttributeName result from is
-      (λ b s t. ap (λ i. play (noting Sink.step Sink.is_quiet) noting_error (noting_cdata Sink.asks_cdata) (noting_end Sink.ended) (rows_of old) i b s (c ∷ t)) (equals-none (rows_of old) (standing old InData) old.tag old.attribute_name c t e (ne_eqb 61 c (λ x. ne (sym x))))) h
+      (λ b s t. ap (λ i. plays Sink (rows_of old) i b s (c ∷ t)) (equals-none (rows_of old) (standing old InData) old.tag old.attribute_name c t e (ne_eqb 61 c (λ x. ne (sym x))))) h
 
   -- the first character of a name, where it is odd
   pub before-absorbs : (old : Tokenizer K) (c : ℕ) → IsAt old state.BeforeAttributeName → is_odd_first c ≡ true → Absorbs Sink old c
   unfolding held_at
   before-absorbs old c from e =
       absorbs_odd Sink old c state.BeforeAttributeName (is_odd_first c)
-      (λ b s t. play (noting Sink.step Sink.is_quiet) noting_error (noting_cdata Sink.asks_cdata) (noting_end Sink.ended) (rows_of old) (attribute_after (rows_of old) (standing old InData) old.tag (lowered c ∷ []) t) (b + line_break (nat_eq c 10)) s t) from e
+      (λ b s t. plays Sink (rows_of old) (attribute_after (rows_of old) (standing old InData) old.tag (lowered c ∷ []) t) (b + line_break (nat_eq c 10)) s t) from e
       (λ b s t. tag-attribute (noting Sink.step Sink.is_quiet) noting_error (noting_cdata Sink.asks_cdata) (noting_end Sink.ended) (rows_of old) slight-absorbed (standing old InData) old.tag b s c t (odd-no_space c e) (odd-no_slash c e) (odd-no_close c e))
 
   -- a further one
@@ -136,5 +136,5 @@ module _ {K H : Type 0} (Sink : Ghosts K H) where
   unfolding held_at
   name-absorbs old c from e =
       absorbs_odd Sink old c state.AttributeName (is_odd_in_name c)
-      (λ b s t. play (noting Sink.step Sink.is_quiet) noting_error (noting_cdata Sink.asks_cdata) (noting_end Sink.ended) (rows_of old) (attribute_after (rows_of old) (standing old InData) old.tag (old.attribute_name ++ lowered c ∷ []) t) (b + line_break (nat_eq c 10)) s t) from e
+      (λ b s t. plays Sink (rows_of old) (attribute_after (rows_of old) (standing old InData) old.tag (old.attribute_name ++ lowered c ∷ []) t) (b + line_break (nat_eq c 10)) s t) from e
       (λ b s t. name-goes_on (noting Sink.step Sink.is_quiet) noting_error (noting_cdata Sink.asks_cdata) (noting_end Sink.ended) (rows_of old) slight-absorbed (standing old InData) old.tag old.attribute_name b s c t (odd-goes_on c e))

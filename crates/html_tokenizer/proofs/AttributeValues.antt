@@ -20,7 +20,7 @@ use Rattle.html_tokens.specs.Tags.{opening, opened_by, Other, quoted_after, unqu
 use Rattle.html_tokenizer.specs.declared.tokenizer.Tokenizer.{Tokenizer}
 use Rattle.html_tokenizer.specs.Quotes.{quote_of}
 use Rattle.html_tokenizer.specs.Rest.{rows_of, standing, held_at}
-use Rattle.html_tokenizer.specs.Steps.{IsAt, Took, Keeps}
+use Rattle.html_tokenizer.specs.Steps.{IsAt, Took, Keeps, reads, plays}
 use Rattle.html_tokenizer.proofs.Glue.{at, took, keeps_silent, Absorbs}
 use Rattle.html_tokenizer.proofs.Lawful.{slight-absorbed}
 use Rattle.html_tokenizer.proofs.Readings.{play-marked}
@@ -56,7 +56,7 @@ module _ {K H : Type 0} (Sink : Ghosts K H) where
 
   -- ">" in place of a value is odd
   value-close : (old : Tokenizer K) (b : ℕ) (s : Sink.State × Notes ℕ) (t : List ℕ) → at Sink state.BeforeAttributeValue old b s (62 ∷ t)
-      ≡ play (noting Sink.step Sink.is_quiet) noting_error (noting_cdata Sink.asks_cdata) (noting_end Sink.ended) (rows_of old) (no_value (standing old InData) old.tag old.attribute_name) b (noting_error Slight s) (62 ∷ t)
+      ≡ plays Sink (rows_of old) (no_value (standing old InData) old.tag old.attribute_name) b (noting_error Slight s) (62 ∷ t)
   unfolding held_at
   value-close old b s t = play-marked (noting Sink.step Sink.is_quiet) noting_error (noting_cdata Sink.asks_cdata) (noting_end Sink.ended) (rows_of old) slight-absorbed true (no_value (standing old InData) old.tag old.attribute_name) b s (62 ∷ t)
 
@@ -85,15 +85,15 @@ module _ {K H : Type 0} (Sink : Ghosts K H) where
   unfolding held_at
   value_before-other old new c text result from e f g h is keeps =
       keeps_silent Sink old (record old { attribute_value = []; state = state.AttributeValue value.Unquoted }) new c state.BeforeAttributeValue (state.AttributeValue value.Unquoted) result from (record { state = refl; fresh = from.fresh }) refl refl
-      (λ b s t. ap (λ i. play (noting Sink.step Sink.is_quiet) noting_error (noting_cdata Sink.asks_cdata) (noting_end Sink.ended) (rows_of old) i b s (c ∷ t))
+      (λ b s t. ap (λ i. plays Sink (rows_of old) i b s (c ∷ t))
       (value-opens (rows_of old) (standing old InData) old.tag old.attribute_name c t e ∙ ap (λ o. opened_by o (rows_of old) (standing old InData) old.tag old.attribute_name c t) (opening-other c g h f))) (rw is at keeps)
 
   held-quoted : (kind : AttrValueKind) (quote : ℕ) (k : Tokenizer K) (b : ℕ) (s : Sink.State × Notes ℕ) (t : List ℕ) → quote_of kind ≡ Some quote
-      → at Sink (state.AttributeValue kind) k b s t ≡ play (noting Sink.step Sink.is_quiet) noting_error (noting_cdata Sink.asks_cdata) (noting_end Sink.ended) (rows_of k) (quoted_after (rows_of k) quote (standing k InData) k.tag k.attribute_name k.attribute_value t) b s t
+      → at Sink (state.AttributeValue kind) k b s t ≡ plays Sink (rows_of k) (quoted_after (rows_of k) quote (standing k InData) k.tag k.attribute_name k.attribute_value t) b s t
   unfolding held_at
   held-quoted value.Unquoted quote k b s t e = cc
-  held-quoted value.SingleQuoted quote k b s t e = let q : 39 ≡ quote = cc in ap (λ q. play (noting Sink.step Sink.is_quiet) noting_error (noting_cdata Sink.asks_cdata) (noting_end Sink.ended) (rows_of k) (quoted_after (rows_of k) q (standing k InData) k.tag k.attribute_name k.attribute_value t) b s t) q
-  held-quoted value.DoubleQuoted quote k b s t e = let q : 34 ≡ quote = cc in ap (λ q. play (noting Sink.step Sink.is_quiet) noting_error (noting_cdata Sink.asks_cdata) (noting_end Sink.ended) (rows_of k) (quoted_after (rows_of k) q (standing k InData) k.tag k.attribute_name k.attribute_value t) b s t) q
+  held-quoted value.SingleQuoted quote k b s t e = let q : 39 ≡ quote = cc in ap (λ q. plays Sink (rows_of k) (quoted_after (rows_of k) q (standing k InData) k.tag k.attribute_name k.attribute_value t) b s t) q
+  held-quoted value.DoubleQuoted quote k b s t e = let q : 34 ≡ quote = cc in ap (λ q. plays Sink (rows_of k) (quoted_after (rows_of k) q (standing k InData) k.tag k.attribute_name k.attribute_value t) b s t) q
 
   pub quoted-more : (old : Tokenizer K) (kind : AttrValueKind) (quote c : ℕ) (text : List ℕ) → IsAt old (state.AttributeValue kind) → Sink.is_sound (Sink.view old.sink) → quote_of kind ≡ Some quote → c ≢ quote → c ≢ 38 → text ≡ old.attribute_value ++ shown c ∷ []
       → Took Sink old (record old { attribute_value = text }) c flow.Continue
@@ -141,7 +141,7 @@ module _ {K H : Type 0} (Sink : Ghosts K H) where
   unfolding held_at
   unquoted-end old fin new c result from e is h =
       finish-before Sink old fin new old.attribute_value c (state.AttributeValue value.Unquoted) result from is
-      (λ b s t. ap (λ i. play (noting Sink.step Sink.is_quiet) noting_error (noting_cdata Sink.asks_cdata) (noting_end Sink.ended) (rows_of old) i b s (c ∷ t)) (unquoted-ends (rows_of old) (standing old InData) old.tag old.attribute_name old.attribute_value c t e)) h
+      (λ b s t. ap (λ i. plays Sink (rows_of old) i b s (c ∷ t)) (unquoted-ends (rows_of old) (standing old InData) old.tag old.attribute_name old.attribute_value c t e)) h
 
   pub value_behind : (old new : Tokenizer K) (c : ℕ) (result : Result (ProcessResult H) ParseFault) → IsAt old state.AfterAttributeValueQuoted
       → Keeps Sink (record old { state = state.BeforeAttributeName }) new c result → Keeps Sink old new c result
@@ -153,14 +153,14 @@ module _ {K H : Type 0} (Sink : Ghosts K H) where
   pub value_before-absorbs : (old : Tokenizer K) (c : ℕ) → IsAt old state.BeforeAttributeValue → nat_eq c 62 ≡ true → Absorbs Sink old c
   value_before-absorbs old c from e = rw (eqb-true c 62 e) (
       absorbs_odd Sink old 62 state.BeforeAttributeValue true
-      (λ b s t. play (noting Sink.step Sink.is_quiet) noting_error (noting_cdata Sink.asks_cdata) (noting_end Sink.ended) (rows_of old) (no_value (standing old InData) old.tag old.attribute_name) b s (62 ∷ t)) from refl
+      (λ b s t. plays Sink (rows_of old) (no_value (standing old InData) old.tag old.attribute_name) b s (62 ∷ t)) from refl
       (λ b s t. value-close old b s t))
 
   -- U+0000 in a value in quotes
   pub quoted-absorbs : (old : Tokenizer K) (kind : AttrValueKind) (quote c : ℕ) → IsAt old (state.AttributeValue kind) → quote_of kind ≡ Some quote → is_null c ≡ true → Absorbs Sink old c
   quoted-absorbs old kind quote c from quoted e =
       absorbs_odd Sink old c (state.AttributeValue kind) (is_null c)
-      (λ b s t. play (noting Sink.step Sink.is_quiet) noting_error (noting_cdata Sink.asks_cdata) (noting_end Sink.ended) (rows_of old) (quoted_after (rows_of old) quote (standing old InData) old.tag old.attribute_name (old.attribute_value ++ shown c ∷ []) t) (b + line_break (nat_eq c 10)) s t) from e
+      (λ b s t. plays Sink (rows_of old) (quoted_after (rows_of old) quote (standing old InData) old.tag old.attribute_name (old.attribute_value ++ shown c ∷ []) t) (b + line_break (nat_eq c 10)) s t) from e
       (λ b s t. held-quoted kind quote old b s (c ∷ t) quoted
       ∙ quoted-goes_on (noting Sink.step Sink.is_quiet) noting_error (noting_cdata Sink.asks_cdata) (noting_end Sink.ended) (rows_of old) slight-absorbed quote (standing old InData) old.tag old.attribute_name old.attribute_value b s c t (null-no_quote kind quote c quoted e) (null-no_reference c e))
 
@@ -169,7 +169,7 @@ module _ {K H : Type 0} (Sink : Ghosts K H) where
   unfolding held_at
   unquoted-absorbs old c from e =
       absorbs_odd Sink old c (state.AttributeValue value.Unquoted) (is_odd_unquoted c)
-      (λ b s t. play (noting Sink.step Sink.is_quiet) noting_error (noting_cdata Sink.asks_cdata) (noting_end Sink.ended) (rows_of old) (unquoted_after (rows_of old) (standing old InData) old.tag old.attribute_name (old.attribute_value ++ shown c ∷ []) t) (b + line_break (nat_eq c 10)) s t) from e
+      (λ b s t. plays Sink (rows_of old) (unquoted_after (rows_of old) (standing old InData) old.tag old.attribute_name (old.attribute_value ++ shown c ∷ []) t) (b + line_break (nat_eq c 10)) s t) from e
       (λ b s t. unquoted-goes_on (noting Sink.step Sink.is_quiet) noting_error (noting_cdata Sink.asks_cdata) (noting_end Sink.ended) (rows_of old) slight-absorbed (standing old InData) old.tag old.attribute_name old.attribute_value b s c t (odd-no_end c e) (odd-no_reference c e))
 
   -- what stands behind a value in quotes with no space between
@@ -177,4 +177,4 @@ module _ {K H : Type 0} (Sink : Ghosts K H) where
   unfolding held_at
   behind-absorbs old c from e =
       absorbs_odd Sink old c state.AfterAttributeValueQuoted (not (ends_tag_name c))
-      (λ b s t. reading (noting Sink.step Sink.is_quiet) noting_error (noting_cdata Sink.asks_cdata) (noting_end Sink.ended) (rows_of old) (standing old (InTag old.tag)) b s (c ∷ t)) from e (λ b s t. refl)
+      (λ b s t. reads Sink (rows_of old) (standing old (InTag old.tag)) b s (c ∷ t)) from e (λ b s t. refl)

@@ -16,7 +16,7 @@ use Rattle.html_tokens.specs.Sink.{Step, SinkLaws}
 use Rattle.html_tokens.proofs.Readings.{reading-item}
 use Rattle.html_tokenizer.specs.declared.tokenizer.Tokenizer.{Tokenizer}
 use Rattle.html_tokenizer.specs.Rest.{rows_of, standing, held_at}
-use Rattle.html_tokenizer.specs.Steps.{IsAt, Fails, Told, TakesAs, Took, Keeps, nothing, a_fault}
+use Rattle.html_tokenizer.specs.Steps.{IsAt, Fails, Told, TakesAs, Took, Keeps, nothing, a_fault, reads}
 use Rattle.html_tokenizer.proofs.Lawful.{noting-lawful}
 use Rattle.html_tokenizer.proofs.Readings.{reading-char, sum-zero}
 use Rattle.html_tokenizer.proofs.Runs.{reading-token, reading-text, reading-two}
@@ -48,12 +48,12 @@ module _ {K H : Type 0} (Sink : Ghosts K H) (laws : SinkLaws Sink.is_sound Sink.
   pub cdata-bracket : (old : Tokenizer K) (c : ℕ) → IsAt old state.CdataSection → Sink.is_sound (Sink.view old.sink) → c ≡ 93 → Took Sink old (record old { state = state.CdataSectionBracket }) c flow.Continue
   unfolding held_at
   cdata-bracket old c from ok e = rw e (took Sink old (record old { state = state.CdataSectionBracket }) 93 state.CdataSection state.CdataSectionBracket from (record { state = refl; fresh = from.fresh }) refl refl ok
-      (λ b s t. ap (λ n. reading (noting Sink.step Sink.is_quiet) noting_error (noting_cdata Sink.asks_cdata) (noting_end Sink.ended) (rows_of old) (standing old InCdata) n s (93 ∷ t)) (sym (sum-zero b))))
+      (λ b s t. ap (λ n. reads Sink (rows_of old) (standing old InCdata) n s (93 ∷ t)) (sym (sum-zero b))))
 
   pub cdata-brackets : (old : Tokenizer K) (c : ℕ) → IsAt old state.CdataSectionBracket → Sink.is_sound (Sink.view old.sink) → c ≡ 93 → Took Sink old (record old { state = state.CdataSectionEnd }) c flow.Continue
   unfolding held_at
   cdata-brackets old c from ok e = rw e (took Sink old (record old { state = state.CdataSectionEnd }) 93 state.CdataSectionBracket state.CdataSectionEnd from (record { state = refl; fresh = from.fresh }) refl refl ok
-      (λ b s t. ap (λ n. reading (noting Sink.step Sink.is_quiet) noting_error (noting_cdata Sink.asks_cdata) (noting_end Sink.ended) (rows_of old) (standing old InCdata) n s (93 ∷ 93 ∷ t)) (sym (sum-zero b))))
+      (λ b s t. ap (λ n. reads Sink (rows_of old) (standing old InCdata) n s (93 ∷ 93 ∷ t)) (sym (sum-zero b))))
 
   -- "]" was text
   bracket-says : (old : Tokenizer K) (c : ℕ) → nat_eq 93 c ≡ false → Says Sink state.CdataSectionBracket old c nothing (CharacterTokens (93 ∷ [])) (λ b s t. at Sink state.CdataSection (record old { state = state.CdataSection }) b s (c ∷ t))

@@ -18,7 +18,7 @@ use Rattle.html_tokens.specs.Reading.{line_number, line_break, line_breaks, read
 use Rattle.html_tokens.specs.Sink.{◌>>=◌, Step, SinkLaws}
 use Rattle.html_tokenizer.specs.declared.tokenizer.Tokenizer.{Tokenizer}
 use Rattle.html_tokenizer.specs.Rest.{rows_of, standing, held_at}
-use Rattle.html_tokenizer.specs.Steps.{owed_for, Owed, IsAt, more, Fails, Told, Took, Keeps, nothing, a_fault}
+use Rattle.html_tokenizer.specs.Steps.{owed_for, Owed, IsAt, more, Fails, Told, Took, Keeps, nothing, a_fault, reads, plays}
 use Rattle.html_tokenizer.proofs.Readings.{play-is}
 use Rattle.html_tokenizer.proofs.Ends.{EndSays, end-says, emitted-took, emitted-failed, same-text, behind-one, item-absorbs, state-absorbs}
 use Rattle.html_tokenizer.proofs.Errors.{tells-less}
@@ -117,7 +117,7 @@ module _ {K H : Type 0} (Sink : Ghosts K H) (laws : SinkLaws Sink.is_sound Sink.
   CommentSays st old owed front = EndSays Sink laws st old (emitted old) owed (CommentToken front)
 
   comment-says : (fault : Option Fault) (old : Tokenizer K) (b : ℕ) (s : Sink.State × Notes ℕ) → Sink.is_sound s.0 → (front t u : List ℕ) (n : ℕ) (i : Item) → i ≡ told_as fault (CommentToken front) n (standing old InData) → line_breaks (take n u) ≡ 0 → drop n u ≡ t
-      → play (noting Sink.step Sink.is_quiet) noting_error (noting_cdata Sink.asks_cdata) (noting_end Sink.ended) (rows_of old) i b s u ≡ (noting Sink.step Sink.is_quiet (s.0, more (owed_for fault) s.1) (CommentToken front) (line_number b) >>= λ p. reading (noting Sink.step Sink.is_quiet) noting_error (noting_cdata Sink.asks_cdata) (noting_end Sink.ended) (rows_of old) (standing old InData) (b + 0) p.0 t)
+      → plays Sink (rows_of old) i b s u ≡ (noting Sink.step Sink.is_quiet (s.0, more (owed_for fault) s.1) (CommentToken front) (line_number b) >>= λ p. reads Sink (rows_of old) (standing old InData) (b + 0) p.0 t)
   comment-says fault old b s h front t u n i is unbroken left = end-says Sink laws fault old b s h (CommentToken front) t u n i tt is unbroken left
 
   pub bogus-says : (old : Tokenizer K) → CommentSays state.BogusComment old a_fault old.comment
@@ -226,27 +226,27 @@ module _ {K H : Type 0} (Sink : Ghosts K H) (laws : SinkLaws Sink.is_sound Sink.
     pub start-other : IsAt old state.CommentStart → front ≡ [] → nat_eq 62 c ≡ false → nat_eq 45 c ≡ false → Keeps Sink old new c result
     unfolding held_at
     start-other from is e f = goes-on state.CommentStart from (λ b s t.
-        ap (λ i. play (noting Sink.step Sink.is_quiet) noting_error (noting_cdata Sink.asks_cdata) (noting_end Sink.ended) (rows_of old) i b s (c ∷ t)) (at-other (standing old InData) c t e f)
-        ∙ ap (λ x. play (noting Sink.step Sink.is_quiet) noting_error (noting_cdata Sink.asks_cdata) (noting_end Sink.ended) (rows_of old) (comment_after (standing old InData) x (c ∷ t)) b s (c ∷ t)) (sym is))
+        ap (λ i. plays Sink (rows_of old) i b s (c ∷ t)) (at-other (standing old InData) c t e f)
+        ∙ ap (λ x. plays Sink (rows_of old) (comment_after (standing old InData) x (c ∷ t)) b s (c ∷ t)) (sym is))
 
     pub start_dash-other : IsAt old state.CommentStartDash → front ≡ 45 ∷ [] → nat_eq 62 c ≡ false → nat_eq c 45 ≡ false → Keeps Sink old new c result
     unfolding held_at
     start_dash-other from is e f = goes-on state.CommentStartDash from (λ b s t.
         behind-one Sink laws old 45 refl (comment_at (standing old InData) (45 ∷ c ∷ t)) (comment_after (standing old InData) (45 ∷ []) (c ∷ t)) b s (c ∷ t) (at-dash (standing old InData) c t e f)
-        ∙ ap (λ x. play (noting Sink.step Sink.is_quiet) noting_error (noting_cdata Sink.asks_cdata) (noting_end Sink.ended) (rows_of old) (comment_after (standing old InData) x (c ∷ t)) b s (c ∷ t)) (sym is))
+        ∙ ap (λ x. plays Sink (rows_of old) (comment_after (standing old InData) x (c ∷ t)) b s (c ∷ t)) (sym is))
 
     pub end_dash-other : IsAt old state.CommentEndDash → front ≡ old.comment ++ 45 ∷ [] → nat_eq c 45 ≡ false → Keeps Sink old new c result
     unfolding held_at
     end_dash-other from is e = goes-on state.CommentEndDash from (λ b s t.
         behind-one Sink laws old 45 refl _ _ b s (c ∷ t) (dash-letter (standing old InData) old.comment c t e)
-        ∙ ap (λ x. play (noting Sink.step Sink.is_quiet) noting_error (noting_cdata Sink.asks_cdata) (noting_end Sink.ended) (rows_of old) (comment_after (standing old InData) x (c ∷ t)) b s (c ∷ t)) (sym is))
+        ∙ ap (λ x. plays Sink (rows_of old) (comment_after (standing old InData) x (c ∷ t)) b s (c ∷ t)) (sym is))
 
     pub end-other : IsAt old state.CommentEnd → front ≡ old.comment ++ codes "--" → nat_eq c 62 ≡ false → nat_eq c 33 ≡ false → nat_eq c 45 ≡ false → Keeps Sink old new c result
     unfolding held_at
     end-other from is e f h = goes-on state.CommentEnd from (λ b s t.
         behind-one Sink laws old 45 refl _ _ b s (45 ∷ c ∷ t) (dashes-letter (standing old InData) old.comment c t e f h)
         ∙ behind-one Sink laws old 45 refl _ _ b s (c ∷ t) refl
-        ∙ ap (λ x. play (noting Sink.step Sink.is_quiet) noting_error (noting_cdata Sink.asks_cdata) (noting_end Sink.ended) (rows_of old) (comment_after (standing old InData) x (c ∷ t)) b s (c ∷ t)) (sym is))
+        ∙ ap (λ x. plays Sink (rows_of old) (comment_after (standing old InData) x (c ∷ t)) b s (c ∷ t)) (sym is))
 
     pub bang-other : IsAt old state.CommentEndBang → front ≡ old.comment ++ codes "--!" → nat_eq c 62 ≡ false → Keeps Sink old new c result
     unfolding held_at
@@ -255,7 +255,7 @@ module _ {K H : Type 0} (Sink : Ghosts K H) (laws : SinkLaws Sink.is_sound Sink.
         behind-one Sink laws old 45 refl (comment_after (standing old InData) old.comment (45 ∷ 45 ∷ 33 ∷ c ∷ t)) (behind (behind left)) b s (45 ∷ 33 ∷ c ∷ t) (bang-letter (standing old InData) old.comment c t e)
         ∙ behind-one Sink laws old 45 refl (behind (behind left)) (behind left) b s (33 ∷ c ∷ t) refl
         ∙ behind-one Sink laws old 33 refl (behind left) left b s (c ∷ t) refl
-        ∙ ap (λ x. play (noting Sink.step Sink.is_quiet) noting_error (noting_cdata Sink.asks_cdata) (noting_end Sink.ended) (rows_of old) (comment_after (standing old InData) x (c ∷ t)) b s (c ∷ t)) (sym is))
+        ∙ ap (λ x. plays Sink (rows_of old) (comment_after (standing old InData) x (c ∷ t)) b s (c ∷ t)) (sym is))
 
   -- States within a comment that are never entered are read as those that they stand for.
   module _ (old new : Tokenizer K) (c : ℕ) (result : Result (ProcessResult H) ParseFault) where

@@ -21,7 +21,7 @@ use Rattle.html_tokenizer.specs.declared.keyword.Word.TheVariants as word
 use Rattle.html_tokenizer.specs.declared.tokenizer.Tokenizer.{Tokenizer}
 use Rattle.html_tokenizer.specs.Keywords.{becomes, may_become, may_declare, IsPart, MakesNoWord, OpensNothing}
 use Rattle.html_tokenizer.specs.Rest.{rows_of, standing, held_at}
-use Rattle.html_tokenizer.specs.Steps.{IsAt, Took, Keeps, nothing}
+use Rattle.html_tokenizer.specs.Steps.{IsAt, Took, Keeps, nothing, reads, plays}
 use Rattle.html_tokenizer.proofs.Rises.{rises-same}
 use Rattle.html_tokenizer.proofs.Ends.{behind-one}
 use Rattle.html_tokenizer.proofs.Glue.{at, fits-at, keeps-along, no-break, now-at, took}
@@ -109,7 +109,7 @@ part-more cs c h = by-word (may_become word.Dashes (cs ++ c ∷ [])) (may_become
 module _ {K H : Type 0} (Sink : Ghosts K H) (laws : SinkLaws Sink.is_sound Sink.step Sink.ended Sink.is_quiet) where
   -- an item behind characters of words
   pub play-plain : (old : Tokenizer K) (cs t : List ℕ) (j : Item) (b : ℕ) (s : Sink.State × Notes ℕ) → list_all is_plain cs ≡ true
-      → play (noting Sink.step Sink.is_quiet) noting_error (noting_cdata Sink.asks_cdata) (noting_end Sink.ended) (rows_of old) (behind_all (length cs) j) b s (cs ++ t) ≡ play (noting Sink.step Sink.is_quiet) noting_error (noting_cdata Sink.asks_cdata) (noting_end Sink.ended) (rows_of old) j b s t
+      → plays Sink (rows_of old) (behind_all (length cs) j) b s (cs ++ t) ≡ plays Sink (rows_of old) j b s t
   play-plain old [] t j b s h = refl
   play-plain old (c ∷ cs) t j b s h =
       let p = and_parts (is_plain c) (list_all is_plain cs) h in
@@ -118,7 +118,7 @@ module _ {K H : Type 0} (Sink : Ghosts K H) (laws : SinkLaws Sink.is_sound Sink.
 
   -- a declaration, read from behind what was read of it
   read-declared : (old : Tokenizer K) (cs t : List ℕ) (j : Item) (b : ℕ) (s : Sink.State × Notes ℕ) → list_all is_plain cs ≡ true → declaration_at (Sink.asks_cdata s.0) (standing old InData) (cs ++ t) ≡ behind_all 2 (behind_all (length cs) j)
-      → reading (noting Sink.step Sink.is_quiet) noting_error (noting_cdata Sink.asks_cdata) (noting_end Sink.ended) (rows_of old) (standing old InData) b s (60 ∷ 33 ∷ (cs ++ t)) ≡ play (noting Sink.step Sink.is_quiet) noting_error (noting_cdata Sink.asks_cdata) (noting_end Sink.ended) (rows_of old) j b s t
+      → reads Sink (rows_of old) (standing old InData) b s (60 ∷ 33 ∷ (cs ++ t)) ≡ plays Sink (rows_of old) j b s t
   read-declared old cs t j b s h is =
       opened Sink laws old b s (33 ∷ (cs ++ t)) (behind (behind_all (length cs) j)) is
       ∙ behind-one Sink laws old 33 refl (behind (behind_all (length cs) j)) (behind_all (length cs) j) b s (cs ++ t) refl
@@ -126,12 +126,12 @@ module _ {K H : Type 0} (Sink : Ghosts K H) (laws : SinkLaws Sink.is_sound Sink.
 
   -- the same where c makes the word whole
   read-word : (old : Tokenizer K) (cs : List ℕ) (c : ℕ) (t : List ℕ) (w : Word) (j : Item) (b : ℕ) (s : Sink.State × Notes ℕ) → becomes w (cs ++ c ∷ []) ≡ true → declaration_at (Sink.asks_cdata s.0) (standing old InData) ((cs ++ c ∷ []) ++ t) ≡ behind_all 2 (behind_all (length (cs ++ c ∷ [])) j)
-      → reading (noting Sink.step Sink.is_quiet) noting_error (noting_cdata Sink.asks_cdata) (noting_end Sink.ended) (rows_of old) (standing old InData) b s (60 ∷ 33 ∷ (cs ++ c ∷ t)) ≡ play (noting Sink.step Sink.is_quiet) noting_error (noting_cdata Sink.asks_cdata) (noting_end Sink.ended) (rows_of old) j (b + line_break (nat_eq c 10)) s t
+      → reads Sink (rows_of old) (standing old InData) b s (60 ∷ 33 ∷ (cs ++ c ∷ t)) ≡ plays Sink (rows_of old) j (b + line_break (nat_eq c 10)) s t
   read-word old cs c t w j b s h is =
       let plain : list_all is_plain (cs ++ c ∷ []) ≡ true = word-plain w (cs ++ c ∷ []) h in
-      ap (λ u. reading (noting Sink.step Sink.is_quiet) noting_error (noting_cdata Sink.asks_cdata) (noting_end Sink.ended) (rows_of old) (standing old InData) b s (60 ∷ 33 ∷ u)) (sym (append_assoc cs (c ∷ []) t))
+      ap (λ u. reads Sink (rows_of old) (standing old InData) b s (60 ∷ 33 ∷ u)) (sym (append_assoc cs (c ∷ []) t))
       ∙ read-declared old (cs ++ c ∷ []) t j b s plain is
-      ∙ ap (λ x. play (noting Sink.step Sink.is_quiet) noting_error (noting_cdata Sink.asks_cdata) (noting_end Sink.ended) (rows_of old) j x s t) (sym (no-break b c (plain-break c (last-plain cs c plain))))
+      ∙ ap (λ x. plays Sink (rows_of old) j x s t) (sym (no-break b c (plain-break c (last-plain cs c plain))))
 
   module _ (old : Tokenizer K) (c : ℕ) (from : IsAt old state.MarkupDeclarationOpen) (ok : Sink.is_sound (Sink.view old.sink)) where
     pub comment-opened : becomes word.Dashes (old.keyword ++ c ∷ []) ≡ true → Took Sink old (record old { state = state.CommentStart }) c flow.Continue
@@ -174,8 +174,8 @@ module _ {K H : Type 0} (Sink : Ghosts K H) (laws : SinkLaws Sink.is_sound Sink.
         let plain : is_plain c ≡ true = last-plain old.keyword c (part-plain (old.keyword ++ c ∷ []) (part-more old.keyword c h)) in
         took Sink old (record old { keyword = old.keyword ++ c ∷ [] }) c state.MarkupDeclarationOpen state.MarkupDeclarationOpen from (record { state = from.state; fresh = from.fresh }) refl refl ok
         (λ b s t.
-        ap (λ u. reading (noting Sink.step Sink.is_quiet) noting_error (noting_cdata Sink.asks_cdata) (noting_end Sink.ended) (rows_of old) (standing old InData) b s (60 ∷ 33 ∷ u)) (sym (append_assoc old.keyword (c ∷ []) t))
-        ∙ ap (λ x. reading (noting Sink.step Sink.is_quiet) noting_error (noting_cdata Sink.asks_cdata) (noting_end Sink.ended) (rows_of old) (standing old InData) x s (60 ∷ 33 ∷ ((old.keyword ++ c ∷ []) ++ t))) (sym (no-break b c (plain-break c plain)))))
+        ap (λ u. reads Sink (rows_of old) (standing old InData) b s (60 ∷ 33 ∷ u)) (sym (append_assoc old.keyword (c ∷ []) t))
+        ∙ ap (λ x. reads Sink (rows_of old) (standing old InData) x s (60 ∷ 33 ∷ ((old.keyword ++ c ∷ []) ++ t))) (sym (no-break b c (plain-break c plain)))))
 
   -- what was read is the front of a bogus comment
   bogus-read : (old : Tokenizer K) (c : ℕ) (b : ℕ) (s : Sink.State × Notes ℕ) (t : List ℕ) → IsPart old.keyword → OpensNothing (Sink.asks_cdata s.0) old.keyword c

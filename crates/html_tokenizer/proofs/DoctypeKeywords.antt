@@ -22,7 +22,7 @@ use Rattle.html_tokenizer.specs.declared.keyword.Word.TheVariants as word
 use Rattle.html_tokenizer.specs.declared.tokenizer.Tokenizer.{Tokenizer}
 use Rattle.html_tokenizer.specs.Keywords.{becomes, may_become, may_identify, front_of, IsPart, MakesNoIdentifier}
 use Rattle.html_tokenizer.specs.Rest.{rows_of, standing, held_at}
-use Rattle.html_tokenizer.specs.Steps.{IsAt, Took, Keeps}
+use Rattle.html_tokenizer.specs.Steps.{IsAt, Took, Keeps, plays}
 use Rattle.html_tokenizer.proofs.Declarations.{behind-word, play-plain}
 use Rattle.html_tokenizer.proofs.Doctypes.{DoctypeSays, at-mark, skip-white, stop-white, word-other}
 use Rattle.html_tokenizer.proofs.Ends.{behind-any}
@@ -111,14 +111,14 @@ module _ {K H : Type 0} (Sink : Ghosts K H) (laws : SinkLaws Sink.is_sound Sink.
   -- a keyword that c makes whole
   read-keyword : (old : Tokenizer K) (d : Doctype) (cs : List ℕ) (c : ℕ) (t : List ℕ) (w : Word) (j : Item) (b : ℕ) (s : Sink.State × Notes ℕ) → becomes w (cs ++ c ∷ []) ≡ true → ends_word (front_of cs c) ≡ false
       → keyword_by false (begins_any_case (codes "public") ((cs ++ c ∷ []) ++ t)) (begins_any_case (codes "system") ((cs ++ c ∷ []) ++ t)) (standing old InData) d ((cs ++ c ∷ []) ++ t) ≡ behind_all (length (cs ++ c ∷ [])) j
-      → play (noting Sink.step Sink.is_quiet) noting_error (noting_cdata Sink.asks_cdata) (noting_end Sink.ended) (rows_of old) (after_name (standing old InData) d (cs ++ c ∷ t)) b s (cs ++ c ∷ t) ≡ play (noting Sink.step Sink.is_quiet) noting_error (noting_cdata Sink.asks_cdata) (noting_end Sink.ended) (rows_of old) j (b + line_break (nat_eq c 10)) s t
+      → plays Sink (rows_of old) (after_name (standing old InData) d (cs ++ c ∷ t)) b s (cs ++ c ∷ t) ≡ plays Sink (rows_of old) j (b + line_break (nat_eq c 10)) s t
   read-keyword old d cs c t w j b s h begun is =
       let plain : list_all is_plain (cs ++ c ∷ []) ≡ true = word-plain w (cs ++ c ∷ []) h in
-      ap (λ i. play (noting Sink.step Sink.is_quiet) noting_error (noting_cdata Sink.asks_cdata) (noting_end Sink.ended) (rows_of old) i b s (cs ++ c ∷ t)) (name-word (standing old InData) d cs c t begun)
-      ∙ ap (λ u. play (noting Sink.step Sink.is_quiet) noting_error (noting_cdata Sink.asks_cdata) (noting_end Sink.ended) (rows_of old) (keyword_by false (begins_any_case (codes "public") u) (begins_any_case (codes "system") u) (standing old InData) d u) b s u) (sym (append_assoc cs (c ∷ []) t))
-      ∙ ap (λ i. play (noting Sink.step Sink.is_quiet) noting_error (noting_cdata Sink.asks_cdata) (noting_end Sink.ended) (rows_of old) i b s ((cs ++ c ∷ []) ++ t)) is
+      ap (λ i. plays Sink (rows_of old) i b s (cs ++ c ∷ t)) (name-word (standing old InData) d cs c t begun)
+      ∙ ap (λ u. plays Sink (rows_of old) (keyword_by false (begins_any_case (codes "public") u) (begins_any_case (codes "system") u) (standing old InData) d u) b s u) (sym (append_assoc cs (c ∷ []) t))
+      ∙ ap (λ i. plays Sink (rows_of old) i b s ((cs ++ c ∷ []) ++ t)) is
       ∙ play-plain Sink laws old (cs ++ c ∷ []) t j b s plain
-      ∙ ap (λ x. play (noting Sink.step Sink.is_quiet) noting_error (noting_cdata Sink.asks_cdata) (noting_end Sink.ended) (rows_of old) j x s t) (sym (no-break b c (plain-break c (last-plain cs c plain))))
+      ∙ ap (λ x. plays Sink (rows_of old) j x s t) (sym (no-break b c (plain-break c (last-plain cs c plain))))
 
   module _ (old : Tokenizer K) (c : ℕ) (from : IsAt old state.AfterDoctypeName) (ok : Sink.is_sound (Sink.view old.sink)) where
     pub public-found : becomes word.Public (old.keyword ++ c ∷ []) ≡ true → ends_word (front_of old.keyword c) ≡ false → Took Sink old (record old { state = state.AfterDoctypeKeyword id.Public }) c flow.Continue
@@ -138,12 +138,12 @@ module _ {K H : Type 0} (Sink : Ghosts K H) (laws : SinkLaws Sink.is_sound Sink.
         let plain : is_plain c ≡ true = last-plain old.keyword c (part-plain (old.keyword ++ c ∷ []) (identifier-more old.keyword c h)) in
         took Sink old (record old { keyword = old.keyword ++ c ∷ [] }) c state.AfterDoctypeName state.AfterDoctypeName from (record { state = from.state; fresh = from.fresh }) refl refl ok
         (λ b s t.
-        ap (λ u. play (noting Sink.step Sink.is_quiet) noting_error (noting_cdata Sink.asks_cdata) (noting_end Sink.ended) (rows_of old) (after_name (standing old InData) old.doctype u) b s u) (sym (append_assoc old.keyword (c ∷ []) t))
-        ∙ ap (λ x. play (noting Sink.step Sink.is_quiet) noting_error (noting_cdata Sink.asks_cdata) (noting_end Sink.ended) (rows_of old) (after_name (standing old InData) old.doctype ((old.keyword ++ c ∷ []) ++ t)) x s ((old.keyword ++ c ∷ []) ++ t)) (sym (no-break b c (plain-break c plain)))))
+        ap (λ u. plays Sink (rows_of old) (after_name (standing old InData) old.doctype u) b s u) (sym (append_assoc old.keyword (c ∷ []) t))
+        ∙ ap (λ x. plays Sink (rows_of old) (after_name (standing old InData) old.doctype ((old.keyword ++ c ∷ []) ++ t)) x s ((old.keyword ++ c ∷ []) ++ t)) (sym (no-break b c (plain-break c plain)))))
 
     -- white space where no keyword was read
     white-read : (b : ℕ) (s : Sink.State × Notes ℕ) (t cs : List ℕ) → cs ≡ [] → is_white_space c ≡ true
-        → play (noting Sink.step Sink.is_quiet) noting_error (noting_cdata Sink.asks_cdata) (noting_end Sink.ended) (rows_of old) (after_name (standing old InData) old.doctype (cs ++ c ∷ t)) b s (cs ++ c ∷ t) ≡ play (noting Sink.step Sink.is_quiet) noting_error (noting_cdata Sink.asks_cdata) (noting_end Sink.ended) (rows_of old) (after_name (standing old InData) old.doctype (cs ++ t)) (b + line_break (nat_eq c 10)) s (cs ++ t)
+        → plays Sink (rows_of old) (after_name (standing old InData) old.doctype (cs ++ c ∷ t)) b s (cs ++ c ∷ t) ≡ plays Sink (rows_of old) (after_name (standing old InData) old.doctype (cs ++ t)) (b + line_break (nat_eq c 10)) s (cs ++ t)
     white-read b s t cs e h = rw e (behind-any Sink laws old (after_name (standing old InData) old.doctype (c ∷ t)) (after_name (standing old InData) old.doctype t) b s c t (skip-white (keyword_at (standing old InData) old.doctype) c t h))
 
     pub keyword-white : IsPart old.keyword → ends_word (front_of old.keyword c) ≡ true → nat_eq c 62 ≡ false → Took Sink old old c flow.Continue
@@ -154,7 +154,7 @@ module _ {K H : Type 0} (Sink : Ghosts K H) (laws : SinkLaws Sink.is_sound Sink.
         (λ b s t. white-read b s t old.keyword none (ended-white c (ended-here old.keyword c none h) e))
 
   mark-read : (old : Tokenizer K) (b : ℕ) (s : Sink.State × Notes ℕ) (t cs : List ℕ) → cs ≡ []
-      → play (noting Sink.step Sink.is_quiet) noting_error (noting_cdata Sink.asks_cdata) (noting_end Sink.ended) (rows_of old) (after_name (standing old InData) old.doctype (cs ++ 62 ∷ t)) b s (cs ++ 62 ∷ t) ≡ play (noting Sink.step Sink.is_quiet) noting_error (noting_cdata Sink.asks_cdata) (noting_end Sink.ended) (rows_of old) (given (standing old InData) old.doctype 1) b s (62 ∷ t)
+      → plays Sink (rows_of old) (after_name (standing old InData) old.doctype (cs ++ 62 ∷ t)) b s (cs ++ 62 ∷ t) ≡ plays Sink (rows_of old) (given (standing old InData) old.doctype 1) b s (62 ∷ t)
   mark-read old b s t cs e = rw e refl
 
   -- ">" where no keyword was read
@@ -164,9 +164,9 @@ module _ {K H : Type 0} (Sink : Ghosts K H) (laws : SinkLaws Sink.is_sound Sink.
 
   -- what is no keyword is junk
   keyword-junk : (old : Tokenizer K) (c : ℕ) (b : ℕ) (s : Sink.State × Notes ℕ) (t : List ℕ) → IsPart old.keyword → MakesNoIdentifier old.keyword c → may_identify old.keyword c ≡ false → ends_word (front_of old.keyword c) ≡ false
-      → play (noting Sink.step Sink.is_quiet) noting_error (noting_cdata Sink.asks_cdata) (noting_end Sink.ended) (rows_of old) (after_name (standing old InData) old.doctype (old.keyword ++ c ∷ t)) b s (old.keyword ++ c ∷ t) ≡ play (noting Sink.step Sink.is_quiet) noting_error (noting_cdata Sink.asks_cdata) (noting_end Sink.ended) (rows_of old) (junk_after (standing old InData) (forced old.doctype) (c ∷ t)) b s (c ∷ t)
+      → plays Sink (rows_of old) (after_name (standing old InData) old.doctype (old.keyword ++ c ∷ t)) b s (old.keyword ++ c ∷ t) ≡ plays Sink (rows_of old) (junk_after (standing old InData) (forced old.doctype) (c ∷ t)) b s (c ∷ t)
   keyword-junk old c b s t part whole h begun =
-      ap (λ i. play (noting Sink.step Sink.is_quiet) noting_error (noting_cdata Sink.asks_cdata) (noting_end Sink.ended) (rows_of old) i b s (old.keyword ++ c ∷ t)) (name-word (standing old InData) old.doctype old.keyword c t begun ∙ junk-read (standing old InData) old.doctype old.keyword c t part whole h)
+      ap (λ i. plays Sink (rows_of old) i b s (old.keyword ++ c ∷ t)) (name-word (standing old InData) old.doctype old.keyword c t begun ∙ junk-read (standing old InData) old.doctype old.keyword c t part whole h)
       ∙ play-plain Sink laws old old.keyword (c ∷ t) (junk_after (standing old InData) (forced old.doctype) (c ∷ t)) b s (part-plain old.keyword part)
 
   pub keyword-other : (old new : Tokenizer K) (c : ℕ) (result : Result (ProcessResult H) ParseFault) → IsAt old state.AfterDoctypeName → IsPart old.keyword → MakesNoIdentifier old.keyword c → may_identify old.keyword c ≡ false → ends_word (front_of old.keyword c) ≡ false

@@ -22,7 +22,7 @@ use Rattle.html_tokens.specs.Reading.{line_number, line_break, reading, play}
 use Rattle.html_tokens.specs.Sink.{◌>>=◌, Step, SinkLaws}
 use Rattle.html_tokenizer.specs.declared.tokenizer.Tokenizer.{Tokenizer}
 use Rattle.html_tokenizer.specs.Rest.{rows_of, standing, with_identifier, held_at}
-use Rattle.html_tokenizer.specs.Steps.{owed_for, IsAt, more, Fails, Told, Took, Keeps}
+use Rattle.html_tokenizer.specs.Steps.{owed_for, IsAt, more, Fails, Told, Took, Keeps, reads, plays}
 use Rattle.html_tokenizer.proofs.Ends.{EndSays, end-says, emitted-took, emitted-failed, behind-any, item-absorbs, state-absorbs, item-marked, behind-odd}
 use Rattle.html_tokenizer.proofs.Errors.{tells-less}
 use Rattle.html_tokenizer.proofs.Glue.{Absorbs, at, took, took_marked, keeps_marked, keeps_silent}
@@ -197,7 +197,7 @@ module _ {K H : Type 0} (Sink : Ghosts K H) (laws : SinkLaws Sink.is_sound Sink.
   doctype-failed old new c st cs odd d result fault e from ok is fails says = emitted-failed Sink laws (owed_for (and_slight_if odd (grave_if d.force_quirks))) old (emitted old cs) new c st (DoctypeToken d) result fault e from ok is fails says
 
   pub at-mark : (old : Tokenizer K) (b : ℕ) (s : Sink.State × Notes ℕ) → Sink.is_sound s.0 → (odd : Bool) (d : Doctype) (t : List ℕ) (i : Item) → i ≡ marked odd (given (standing old InData) d 1)
-      → play (noting Sink.step Sink.is_quiet) noting_error (noting_cdata Sink.asks_cdata) (noting_end Sink.ended) (rows_of old) i b s (62 ∷ t) ≡ (noting Sink.step Sink.is_quiet (s.0, more (owed_for (and_slight_if odd (grave_if d.force_quirks))) s.1) (DoctypeToken d) (line_number b) >>= λ p. reading (noting Sink.step Sink.is_quiet) noting_error (noting_cdata Sink.asks_cdata) (noting_end Sink.ended) (rows_of old) (standing old InData) (b + 0) p.0 t)
+      → plays Sink (rows_of old) i b s (62 ∷ t) ≡ (noting Sink.step Sink.is_quiet (s.0, more (owed_for (and_slight_if odd (grave_if d.force_quirks))) s.1) (DoctypeToken d) (line_number b) >>= λ p. reads Sink (rows_of old) (standing old InData) (b + 0) p.0 t)
   at-mark old b s h odd d t i is = end-says Sink laws (and_slight_if odd (grave_if d.force_quirks)) old b s h (DoctypeToken d) t (62 ∷ t) 1 i tt is refl refl
 
   -- ">" at each place
@@ -278,7 +278,7 @@ module _ {K H : Type 0} (Sink : Ghosts K H) (laws : SinkLaws Sink.is_sound Sink.
         → Took Sink old (record old { temporary = front; doctype = d; state = st' }) c flow.Continue
     moves st st' front d from law = took Sink old (record old { temporary = front; doctype = d; state = st' }) c st st' from (record { state = refl; fresh = from.fresh }) refl refl ok law
 
-    behind-c : (i j : Item) (b : ℕ) (s : Sink.State × Notes ℕ) (t : List ℕ) → i ≡ behind j → play (noting Sink.step Sink.is_quiet) noting_error (noting_cdata Sink.asks_cdata) (noting_end Sink.ended) (rows_of old) i b s (c ∷ t) ≡ play (noting Sink.step Sink.is_quiet) noting_error (noting_cdata Sink.asks_cdata) (noting_end Sink.ended) (rows_of old) j (b + line_break (nat_eq c 10)) s t
+    behind-c : (i j : Item) (b : ℕ) (s : Sink.State × Notes ℕ) (t : List ℕ) → i ≡ behind j → plays Sink (rows_of old) i b s (c ∷ t) ≡ plays Sink (rows_of old) j (b + line_break (nat_eq c 10)) s t
     behind-c i j b s t is = behind-any Sink laws old i j b s c t is
 
     -- white space
@@ -365,8 +365,8 @@ module _ {K H : Type 0} (Sink : Ghosts K H) (laws : SinkLaws Sink.is_sound Sink.
         → Keeps Sink (record old { temporary = front; doctype = d; state = st' }) new c result → Keeps Sink old new c result
     goes-on st st' front d from law keeps = keeps_silent Sink old (record old { temporary = front; doctype = d; state = st' }) new c st st' result from (record { state = refl; fresh = from.fresh }) refl refl law keeps
 
-    same-item : (i j : Item) (b : ℕ) (s : Sink.State × Notes ℕ) (u : List ℕ) → i ≡ j → play (noting Sink.step Sink.is_quiet) noting_error (noting_cdata Sink.asks_cdata) (noting_end Sink.ended) (rows_of old) i b s u ≡ play (noting Sink.step Sink.is_quiet) noting_error (noting_cdata Sink.asks_cdata) (noting_end Sink.ended) (rows_of old) j b s u
-    same-item i j b s u e = ap (λ x. play (noting Sink.step Sink.is_quiet) noting_error (noting_cdata Sink.asks_cdata) (noting_end Sink.ended) (rows_of old) x b s u) e
+    same-item : (i j : Item) (b : ℕ) (s : Sink.State × Notes ℕ) (u : List ℕ) → i ≡ j → plays Sink (rows_of old) i b s u ≡ plays Sink (rows_of old) j b s u
+    same-item i j b s u e = ap (λ x. plays Sink (rows_of old) x b s u) e
 
     pub before_name-other : (front : List ℕ) (d : Doctype) → IsAt old state.BeforeDoctypeName → is_white_space c ≡ false → nat_eq c 62 ≡ false → front ≡ []
         → Keeps Sink (record old { temporary = front; doctype = d; state = state.DoctypeName }) new c result → Keeps Sink old new c result

@@ -25,7 +25,7 @@ use Rattle.html_tokenizer.specs.declared.keyword.Word.TheVariants as word
 use Rattle.html_tokenizer.specs.declared.tokenizer.Tokenizer.{Tokenizer}
 use Rattle.html_tokenizer.specs.Keywords.{IsPart}
 use Rattle.html_tokenizer.specs.Rest.{rows_of, standing, with_identifier, held_at}
-use Rattle.html_tokenizer.specs.Steps.{owed_for, IsAt, more, IsNoTag, Tells, a_fault}
+use Rattle.html_tokenizer.specs.Steps.{owed_for, IsAt, more, IsNoTag, Tells, a_fault, reads, plays}
 use Rattle.html_tokenizer.proofs.Declarations.{play-plain}
 use Rattle.html_tokenizer.proofs.Doctypes.{stop-white}
 use Rattle.html_tokenizer.proofs.Ends.{behind-one}
@@ -78,15 +78,15 @@ part-identified st d (x ∷ cs) part =
 module _ {K H : Type 0} (Sink : Ghosts K H) (laws : SinkLaws Sink.is_sound Sink.step Sink.ended Sink.is_quiet) where
   -- what a comment that takes all that is left makes of the sink
   comment-item : (old : Tokenizer K) (b : ℕ) (s : Sink.State × Notes ℕ) → Sink.is_sound s.0 → (front u : List ℕ) (n : ℕ) (i : Item) → i ≡ told_as (Some Grave) (CommentToken front) n (standing old InData) → line_breaks (take n u) ≡ 0 → drop n u ≡ []
-      → play (noting Sink.step Sink.is_quiet) noting_error (noting_cdata Sink.asks_cdata) (noting_end Sink.ended) (rows_of old) i b s u ≡ (noting Sink.step Sink.is_quiet (s.0, more a_fault s.1) (CommentToken front) (line_number b) >>= λ p. at_end Sink b p.0)
+      → plays Sink (rows_of old) i b s u ≡ (noting Sink.step Sink.is_quiet (s.0, more a_fault s.1) (CommentToken front) (line_number b) >>= λ p. at_end Sink b p.0)
   comment-item old b s h front u n i is unbroken left = end-item Sink laws (Some Grave) old b s h (CommentToken front) u n i tt is unbroken left
 
   -- a token behind part of a word, which ends the input and so is faulty
   part-told : (old : Tokenizer K) (b : ℕ) (s : Sink.State × Notes ℕ) → Sink.is_sound s.0 → (cs : List ℕ) (token : Token) → IsPart cs → IsNoTag token
-      → play (noting Sink.step Sink.is_quiet) noting_error (noting_cdata Sink.asks_cdata) (noting_end Sink.ended) (rows_of old) (behind_all (length cs) (told_as (Some Grave) token 0 (standing old InData))) b s cs ≡ (noting Sink.step Sink.is_quiet (s.0, more a_fault s.1) token (line_number b) >>= λ p. at_end Sink b p.0)
+      → plays Sink (rows_of old) (behind_all (length cs) (told_as (Some Grave) token 0 (standing old InData))) b s cs ≡ (noting Sink.step Sink.is_quiet (s.0, more a_fault s.1) token (line_number b) >>= λ p. at_end Sink b p.0)
   part-told old b s h cs token part none =
       let item : Item = told_as (Some Grave) token 0 (standing old InData) in
-      ap (λ u. play (noting Sink.step Sink.is_quiet) noting_error (noting_cdata Sink.asks_cdata) (noting_end Sink.ended) (rows_of old) (behind_all (length cs) item) b s u) (sym (append-nil cs))
+      ap (λ u. plays Sink (rows_of old) (behind_all (length cs) item) b s u) (sym (append-nil cs))
       ∙ play-plain Sink laws old cs [] item b s (part-plain cs part)
       ∙ end-item Sink laws (Some Grave) old b s h token [] 0 item none refl refl refl
 
@@ -118,14 +118,14 @@ module _ {K H : Type 0} (Sink : Ghosts K H) (laws : SinkLaws Sink.is_sound Sink.
   unfolding held_at
   declaration-tells old part b s ok =
       let item : Item = told_as (Some Grave) (CommentToken old.keyword) 0 (standing old InData) in
-      ap (λ u. reading (noting Sink.step Sink.is_quiet) noting_error (noting_cdata Sink.asks_cdata) (noting_end Sink.ended) (rows_of old) (standing old InData) b s (60 ∷ 33 ∷ u)) (append-nil old.keyword)
+      ap (λ u. reads Sink (rows_of old) (standing old InData) b s (60 ∷ 33 ∷ u)) (append-nil old.keyword)
       ∙ opened Sink laws old b s (33 ∷ old.keyword) (behind (behind_all (length old.keyword) item)) (part-declared (Sink.asks_cdata s.0) (standing old InData) old.keyword part)
       ∙ behind-one Sink laws old 33 refl (behind (behind_all (length old.keyword) item)) (behind_all (length old.keyword) item) b s old.keyword refl
       ∙ part-told old b s ok old.keyword (CommentToken old.keyword) part tt
 
   -- what a doctype where nothing is left makes of the sink
   doctype-item : (old : Tokenizer K) (b : ℕ) (s : Sink.State × Notes ℕ) → Sink.is_sound s.0 → (odd : Bool) (d : Doctype) (i : Item) → i ≡ marked odd (given (standing old InData) d 0)
-      → play (noting Sink.step Sink.is_quiet) noting_error (noting_cdata Sink.asks_cdata) (noting_end Sink.ended) (rows_of old) i b s [] ≡ (noting Sink.step Sink.is_quiet (s.0, more (owed_for (and_slight_if odd (grave_if d.force_quirks))) s.1) (DoctypeToken d) (line_number b) >>= λ p. at_end Sink b p.0)
+      → plays Sink (rows_of old) i b s [] ≡ (noting Sink.step Sink.is_quiet (s.0, more (owed_for (and_slight_if odd (grave_if d.force_quirks))) s.1) (DoctypeToken d) (line_number b) >>= λ p. at_end Sink b p.0)
   doctype-item old b s h odd d i is = end-item Sink laws (and_slight_if odd (grave_if d.force_quirks)) old b s h (DoctypeToken d) [] 0 i tt is refl refl
 
   -- before a doctype's name, a doctype of nothing
@@ -143,8 +143,8 @@ module _ {K H : Type 0} (Sink : Ghosts K H) (laws : SinkLaws Sink.is_sound Sink.
   keyword-tells : (old : Tokenizer K) → IsPart old.keyword → EndTells Sink state.AfterDoctypeName old a_fault (DoctypeToken (forced old.doctype))
   unfolding held_at
   keyword-tells old part b s ok =
-      ap (λ u. play (noting Sink.step Sink.is_quiet) noting_error (noting_cdata Sink.asks_cdata) (noting_end Sink.ended) (rows_of old) (after_name (standing old InData) old.doctype u) b s u) (append-nil old.keyword)
-      ∙ ap (λ i. play (noting Sink.step Sink.is_quiet) noting_error (noting_cdata Sink.asks_cdata) (noting_end Sink.ended) (rows_of old) i b s old.keyword) (part-identified (standing old InData) old.doctype old.keyword part)
+      ap (λ u. plays Sink (rows_of old) (after_name (standing old InData) old.doctype u) b s u) (append-nil old.keyword)
+      ∙ ap (λ i. plays Sink (rows_of old) i b s old.keyword) (part-identified (standing old InData) old.doctype old.keyword part)
       ∙ part-told old b s ok old.keyword (DoctypeToken (forced old.doctype)) part tt
 
   -- in an identifier, the doctype with it

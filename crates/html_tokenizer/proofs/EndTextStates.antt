@@ -22,7 +22,7 @@ use Rattle.html_tokenizer.specs.Calls.{at_end, Closes}
 use Rattle.html_tokenizer.specs.EndText.{is_told_text, is_escaped}
 use Rattle.html_tokenizer.specs.declared.tokenizer.Tokenizer.{Tokenizer}
 use Rattle.html_tokenizer.specs.Rest.{rows_of, standing, kind_after, held_at}
-use Rattle.html_tokenizer.specs.Steps.{IsAt, Told, Tells, Errs, owed_for, nothing, a_fault}
+use Rattle.html_tokenizer.specs.Steps.{IsAt, Told, Tells, Errs, owed_for, nothing, a_fault, reads}
 use Rattle.html_tokenizer.proofs.EndTextGlue.{OnlyEnds, TellsLast, TellsThen, closes_told, closes_errs, closes_untold, closes_then}
 use Rattle.html_tokenizer.proofs.Lawful.{noting-lawful}
 use Rattle.html_tokenizer.proofs.RawKinds.{and-none, double_escaped, letter-no_end, kind_after-letters}
@@ -82,7 +82,7 @@ slash-kind word h = kind_after-letters (kind_behind (kind_behind (raw.ScriptData
 module _ {K H : Type 0} (Sink : Ghosts K H) where
   -- where a script's text is so escaped
   ends-as : (k : Tokenizer K) (kind : RawKind) (escaped : ScriptEscapeKind) (b : ℕ) (s : Sink.State × Notes ℕ) → kind ≡ raw.ScriptDataEscaped escaped
-      → reading (noting Sink.step Sink.is_quiet) noting_error (noting_cdata Sink.asks_cdata) (noting_end Sink.ended) (rows_of k) (standing k (InRaw kind)) b s [] ≡ at_end Sink b (noting_error Slight s)
+      → reads Sink (rows_of k) (standing k (InRaw kind)) b s [] ≡ at_end Sink b (noting_error Slight s)
   unfolding reading_from
   ends-as k kind escaped b s e = rw e refl
 
@@ -155,7 +155,7 @@ module _ {K H : Type 0} (Sink : Ghosts K H) (laws : SinkLaws Sink.is_sound Sink.
       let here = standing k InData in
       let lawful = noting-lawful Sink.is_sound Sink.step Sink.ended Sink.is_quiet laws in
       reading-token (λ p. Sink.is_sound p.0) (noting Sink.step Sink.is_quiet) noting_error (noting_cdata Sink.asks_cdata) (noting_end Sink.ended) (rows_of k) lawful (Some Slight) here here b s h 60 (47 ∷ []) (CharacterTokens (60 ∷ [])) tt refl refl
-      ∙ ap (λ n. noting Sink.step Sink.is_quiet (noting_error Slight s) (CharacterTokens (60 ∷ [])) (line_number b) >>= λ p. reading (noting Sink.step Sink.is_quiet) noting_error (noting_cdata Sink.asks_cdata) (noting_end Sink.ended) (rows_of k) here n p.0 (47 ∷ [])) (sum-zero b)
+      ∙ ap (λ n. noting Sink.step Sink.is_quiet (noting_error Slight s) (CharacterTokens (60 ∷ [])) (line_number b) >>= λ p. reads Sink (rows_of k) here n p.0 (47 ∷ [])) (sum-zero b)
       ∙ told-more (λ p. Sink.is_sound p.0) (noting Sink.step Sink.is_quiet) noting_error (noting_cdata Sink.asks_cdata) (noting_end Sink.ended) (rows_of k) lawful here here b (noting_error Slight s) h (60 ∷ []) 47 [] (line_number b)
       (λ q g. reading-text (λ p. Sink.is_sound p.0) (noting Sink.step Sink.is_quiet) noting_error (noting_cdata Sink.asks_cdata) (noting_end Sink.ended) (rows_of k) lawful here here b q g 47 [] (line_number b) refl refl)
 
@@ -177,7 +177,7 @@ module _ {K H : Type 0} (Sink : Ghosts K H) (laws : SinkLaws Sink.is_sound Sink.
   escaped-less old mid st from changed = subst (λ x. IsNoMore (owed_for (slight_if (is_escaped st))) (owed_for (grave_if (is_escaped x)))) (sym (ap (λ (k : Tokenizer K). k.state) changed ∙ from.state)) (slight-less (is_escaped st))
 
   raw_open-read : (k : Tokenizer K) (kind : RawKind) (b : ℕ) (s : Sink.State × Notes ℕ) → Sink.is_sound s.0 → ends_at_tag kind ≡ true
-      → reading (noting Sink.step Sink.is_quiet) noting_error (noting_cdata Sink.asks_cdata) (noting_end Sink.ended) (rows_of k) (standing k (InRaw kind)) b s (60 ∷ []) ≡ (noting Sink.step Sink.is_quiet s (CharacterTokens (60 ∷ [])) (line_number b) >>= λ p. at_end Sink b (erred_by noting_error (slight_if (is_escaped_kind kind)) p.0))
+      → reads Sink (rows_of k) (standing k (InRaw kind)) b s (60 ∷ []) ≡ (noting Sink.step Sink.is_quiet s (CharacterTokens (60 ∷ [])) (line_number b) >>= λ p. at_end Sink b (erred_by noting_error (slight_if (is_escaped_kind kind)) p.0))
   unfolding reading_from
   raw_open-read k kind b s h e =
       let here = standing k (InRaw kind) in
@@ -201,12 +201,12 @@ module _ {K H : Type 0} (Sink : Ghosts K H) (laws : SinkLaws Sink.is_sound Sink.
 
   -- "</" and letters in raw text are to come, and then the end
   raw_name-read : (k : Tokenizer K) (kind : RawKind) (word : List ℕ) (b : ℕ) (s : Sink.State × Notes ℕ) → Sink.is_sound s.0 → list_all is_ascii_alphabetic word ≡ true
-      → reading (noting Sink.step Sink.is_quiet) noting_error (noting_cdata Sink.asks_cdata) (noting_end Sink.ended) (rows_of k) (standing k (InRaw kind)) b s (60 ∷ 47 ∷ (word ++ [])) ≡ (noting Sink.step Sink.is_quiet s (CharacterTokens (60 ∷ 47 ∷ word)) (line_number b) >>= λ p. at_end Sink b (erred_by noting_error (slight_if (is_escaped_kind kind)) p.0))
+      → reads Sink (rows_of k) (standing k (InRaw kind)) b s (60 ∷ 47 ∷ (word ++ [])) ≡ (noting Sink.step Sink.is_quiet s (CharacterTokens (60 ∷ 47 ∷ word)) (line_number b) >>= λ p. at_end Sink b (erred_by noting_error (slight_if (is_escaped_kind kind)) p.0))
   unfolding reading_from
   raw_name-read k kind word b s h w =
       end_tag-run Sink laws k kind word b s h [] w
       (ap (λ u. ends_at_tag kind && is_fitting_end k.last_start_tag (47 ∷ u)) (append-nil word) ∙ rw (unfit-last k.last_start_tag word w) (and-none (ends_at_tag kind)))
-      ∙ ap (λ kind. noting Sink.step Sink.is_quiet s (CharacterTokens (60 ∷ 47 ∷ word)) (line_number b) >>= λ p. reading (noting Sink.step Sink.is_quiet) noting_error (noting_cdata Sink.asks_cdata) (noting_end Sink.ended) (rows_of k) (standing k (InRaw kind)) b p.0 []) (slash-behind kind word w)
+      ∙ ap (λ kind. noting Sink.step Sink.is_quiet s (CharacterTokens (60 ∷ 47 ∷ word)) (line_number b) >>= λ p. reads Sink (rows_of k) (standing k (InRaw kind)) b p.0 []) (slash-behind kind word w)
 
   -- the same by the states behind "</" and behind the letters
   raw_end_open-last : (k : Tokenizer K) (kind : RawKind) → TellsThen Sink (slight_if (is_escaped_kind kind)) (state.RawEndTagOpen kind) k (CharacterTokens (60 ∷ 47 ∷ []))

@@ -12,7 +12,7 @@ use Rattle.html_tokens.specs.Sink.{◌>>=◌, Step, SinkLaws}
 use Rattle.html_tokenizer.specs.Calls.{at_end, Closes}
 use Rattle.html_tokenizer.specs.declared.tokenizer.Tokenizer.{Tokenizer}
 use Rattle.html_tokenizer.specs.Rest.{rows_of, standing}
-use Rattle.html_tokenizer.specs.Steps.{owed_for, Owed, IsAt, more, IsNoTag, Fails, Tells, hearing}
+use Rattle.html_tokenizer.specs.Steps.{owed_for, Owed, IsAt, more, IsNoTag, Fails, Tells, hearing, reads, plays}
 use Rattle.html_tokenizer.proofs.Glue.{at, now-at, token-fails, told-works}
 use Rattle.html_tokenizer.proofs.Lawful.{noting-lawful, erred-sound, erred-more}
 use Rattle.html_tokenizer.proofs.Readings.{play-end}
@@ -48,9 +48,9 @@ module _ {K H : Type 0} (Sink : Ghosts K H) where
 module _ {K H : Type 0} (Sink : Ghosts K H) (laws : SinkLaws Sink.is_sound Sink.step Sink.ended Sink.is_quiet) where
   -- what an item makes of the sink that is a token but no tag, breaks no line, and takes all that is left
   pub end-item : (fault : Option Fault) (old : Tokenizer K) (b : ℕ) (s : Sink.State × Notes ℕ) → Sink.is_sound s.0 → (token : Token) (u : List ℕ) (n : ℕ) (i : Item) → IsNoTag token → i ≡ told_as fault token n (standing old InData) → line_breaks (take n u) ≡ 0 → drop n u ≡ []
-      → play (noting Sink.step Sink.is_quiet) noting_error (noting_cdata Sink.asks_cdata) (noting_end Sink.ended) (rows_of old) i b s u ≡ (noting Sink.step Sink.is_quiet (s.0, more (owed_for fault) s.1) token (line_number b) >>= λ p. at_end Sink b p.0)
+      → plays Sink (rows_of old) i b s u ≡ (noting Sink.step Sink.is_quiet (s.0, more (owed_for fault) s.1) token (line_number b) >>= λ p. at_end Sink b p.0)
   unfolding reading_from
   end-item fault old b s h token u n i none is unbroken left =
       play-end (λ p. Sink.is_sound p.0) (noting Sink.step Sink.is_quiet) noting_error (noting_cdata Sink.asks_cdata) (noting_end Sink.ended) (rows_of old) (noting-lawful Sink.is_sound Sink.step Sink.ended Sink.is_quiet laws) fault i token n (standing old InData) b s (erred-sound Sink.is_sound fault s h) u none is unbroken
-      ∙ ap (λ x. noting Sink.step Sink.is_quiet (erred_by noting_error fault s) token (line_number b) >>= λ p. reading (noting Sink.step Sink.is_quiet) noting_error (noting_cdata Sink.asks_cdata) (noting_end Sink.ended) (rows_of old) (standing old InData) b p.0 x) left
+      ∙ ap (λ x. noting Sink.step Sink.is_quiet (erred_by noting_error fault s) token (line_number b) >>= λ p. reads Sink (rows_of old) (standing old InData) b p.0 x) left
       ∙ ap (λ q. noting Sink.step Sink.is_quiet q token (line_number b) >>= λ p. at_end Sink b p.0) (erred-more fault s)

@@ -15,7 +15,7 @@ use Rattle.html_tokens.specs.Reading.{line_number, line_break, line_breaks, read
 use Rattle.html_tokens.specs.Sink.{◌>>=◌, Step, SinkLaws}
 use Rattle.html_tokenizer.specs.declared.tokenizer.Tokenizer.{Tokenizer}
 use Rattle.html_tokenizer.specs.Rest.{rows_of, standing}
-use Rattle.html_tokenizer.specs.Steps.{owed_for, Owed, IsAt, more, IsNoTag, Fails, Told, Took, Keeps}
+use Rattle.html_tokenizer.specs.Steps.{owed_for, Owed, IsAt, more, IsNoTag, Fails, Told, Took, Keeps, reads, plays}
 use Rattle.html_tokenizer.proofs.Lawful.{noting-lawful, erred-sound, erred-more, slight-absorbed}
 use Rattle.html_tokenizer.proofs.Readings.{play-is, play-end, sum-zero, play-absorbs, play-marked, play-odd}
 use Rattle.html_tokenizer.proofs.Glue.{Says, Absorbs, at, now-at, took_emitted, failed, no-break}
@@ -27,12 +27,12 @@ module _ {K H : Type 0} (Sink : Ghosts K H) (laws : SinkLaws Sink.is_sound Sink.
 
   -- what such an item makes of the sink
   pub end-says : (fault : Option Fault) (old : Tokenizer K) (b : ℕ) (s : Sink.State × Notes ℕ) → Sink.is_sound s.0 → (token : Token) (t u : List ℕ) (n : ℕ) (i : Item) → IsNoTag token → i ≡ told_as fault token n (standing old InData) → line_breaks (take n u) ≡ 0 → drop n u ≡ t
-      → play (noting Sink.step Sink.is_quiet) noting_error (noting_cdata Sink.asks_cdata) (noting_end Sink.ended) (rows_of old) i b s u ≡ (noting Sink.step Sink.is_quiet (s.0, more (owed_for fault) s.1) token (line_number b) >>= λ p. reading (noting Sink.step Sink.is_quiet) noting_error (noting_cdata Sink.asks_cdata) (noting_end Sink.ended) (rows_of old) (standing old InData) (b + 0) p.0 t)
+      → plays Sink (rows_of old) i b s u ≡ (noting Sink.step Sink.is_quiet (s.0, more (owed_for fault) s.1) token (line_number b) >>= λ p. reads Sink (rows_of old) (standing old InData) (b + 0) p.0 t)
   end-says fault old b s h token t u n i none is unbroken left =
       play-end (λ p. Sink.is_sound p.0) (noting Sink.step Sink.is_quiet) noting_error (noting_cdata Sink.asks_cdata) (noting_end Sink.ended) (rows_of old) (noting-lawful Sink.is_sound Sink.step Sink.ended Sink.is_quiet laws) fault i token n (standing old InData) b s (erred-sound Sink.is_sound fault s h) u none is unbroken
-      ∙ ap (λ q. noting Sink.step Sink.is_quiet q token (line_number b) >>= λ p. reading (noting Sink.step Sink.is_quiet) noting_error (noting_cdata Sink.asks_cdata) (noting_end Sink.ended) (rows_of old) (standing old InData) b p.0 (drop n u)) (erred-more fault s)
-      ∙ ap (λ x. noting Sink.step Sink.is_quiet (s.0, more (owed_for fault) s.1) token (line_number b) >>= λ p. reading (noting Sink.step Sink.is_quiet) noting_error (noting_cdata Sink.asks_cdata) (noting_end Sink.ended) (rows_of old) (standing old InData) b p.0 x) left
-      ∙ ap (λ x. noting Sink.step Sink.is_quiet (s.0, more (owed_for fault) s.1) token (line_number b) >>= λ p. reading (noting Sink.step Sink.is_quiet) noting_error (noting_cdata Sink.asks_cdata) (noting_end Sink.ended) (rows_of old) (standing old InData) x p.0 t) (sym (sum-zero b))
+      ∙ ap (λ q. noting Sink.step Sink.is_quiet q token (line_number b) >>= λ p. reads Sink (rows_of old) (standing old InData) b p.0 (drop n u)) (erred-more fault s)
+      ∙ ap (λ x. noting Sink.step Sink.is_quiet (s.0, more (owed_for fault) s.1) token (line_number b) >>= λ p. reads Sink (rows_of old) (standing old InData) b p.0 x) left
+      ∙ ap (λ x. noting Sink.step Sink.is_quiet (s.0, more (owed_for fault) s.1) token (line_number b) >>= λ p. reads Sink (rows_of old) (standing old InData) x p.0 t) (sym (sum-zero b))
 
   -- The token was told, or could not be told.
   pub emitted-took : {owed : Owed} (old source new : Tokenizer K) (c : ℕ) (st : State) (token : Token) → c ≡ 62 → IsAt old st → Sink.is_sound (Sink.view old.sink) → source.sink ≡ old.sink → source.stream ≡ old.stream → IsAt source state.Data
@@ -44,20 +44,20 @@ module _ {K H : Type 0} (Sink : Ghosts K H) (laws : SinkLaws Sink.is_sound Sink.
   emitted-failed owed old source new c st token result fault e from ok is fails says = rw e (failed Sink owed old new 62 st token result fault _ from ok is fails says)
 
   -- an item, whether no line break is counted or none
-  pub same-text : (old : Tokenizer K) (i : Item) (b : ℕ) (s : Sink.State × Notes ℕ) (u : List ℕ) → play (noting Sink.step Sink.is_quiet) noting_error (noting_cdata Sink.asks_cdata) (noting_end Sink.ended) (rows_of old) i b s u ≡ play (noting Sink.step Sink.is_quiet) noting_error (noting_cdata Sink.asks_cdata) (noting_end Sink.ended) (rows_of old) i (b + 0) s u
-  same-text old i b s u = ap (λ x. play (noting Sink.step Sink.is_quiet) noting_error (noting_cdata Sink.asks_cdata) (noting_end Sink.ended) (rows_of old) i x s u) (sym (sum-zero b))
+  pub same-text : (old : Tokenizer K) (i : Item) (b : ℕ) (s : Sink.State × Notes ℕ) (u : List ℕ) → plays Sink (rows_of old) i b s u ≡ plays Sink (rows_of old) i (b + 0) s u
+  same-text old i b s u = ap (λ x. plays Sink (rows_of old) i x s u) (sym (sum-zero b))
 
   -- an item behind a character that breaks no line
-  pub behind-one : (old : Tokenizer K) (d : ℕ) → nat_eq d 10 ≡ false → (i j : Item) (b : ℕ) (s : Sink.State × Notes ℕ) (u : List ℕ) → i ≡ behind j → play (noting Sink.step Sink.is_quiet) noting_error (noting_cdata Sink.asks_cdata) (noting_end Sink.ended) (rows_of old) i b s (d ∷ u) ≡ play (noting Sink.step Sink.is_quiet) noting_error (noting_cdata Sink.asks_cdata) (noting_end Sink.ended) (rows_of old) j b s u
-  behind-one old d e i j b s u is = play-is (noting Sink.step Sink.is_quiet) noting_error (noting_cdata Sink.asks_cdata) (noting_end Sink.ended) (rows_of old) i j b s d u is ∙ ap (λ x. play (noting Sink.step Sink.is_quiet) noting_error (noting_cdata Sink.asks_cdata) (noting_end Sink.ended) (rows_of old) j x s u) (no-break b d e)
+  pub behind-one : (old : Tokenizer K) (d : ℕ) → nat_eq d 10 ≡ false → (i j : Item) (b : ℕ) (s : Sink.State × Notes ℕ) (u : List ℕ) → i ≡ behind j → plays Sink (rows_of old) i b s (d ∷ u) ≡ plays Sink (rows_of old) j b s u
+  behind-one old d e i j b s u is = play-is (noting Sink.step Sink.is_quiet) noting_error (noting_cdata Sink.asks_cdata) (noting_end Sink.ended) (rows_of old) i j b s d u is ∙ ap (λ x. plays Sink (rows_of old) j x s u) (no-break b d e)
 
   -- an item behind one character more
-  pub behind-any : (old : Tokenizer K) (i j : Item) (b : ℕ) (s : Sink.State × Notes ℕ) (c : ℕ) (t : List ℕ) → i ≡ behind j → play (noting Sink.step Sink.is_quiet) noting_error (noting_cdata Sink.asks_cdata) (noting_end Sink.ended) (rows_of old) i b s (c ∷ t) ≡ play (noting Sink.step Sink.is_quiet) noting_error (noting_cdata Sink.asks_cdata) (noting_end Sink.ended) (rows_of old) j (b + line_break (nat_eq c 10)) s t
+  pub behind-any : (old : Tokenizer K) (i j : Item) (b : ℕ) (s : Sink.State × Notes ℕ) (c : ℕ) (t : List ℕ) → i ≡ behind j → plays Sink (rows_of old) i b s (c ∷ t) ≡ plays Sink (rows_of old) j (b + line_break (nat_eq c 10)) s t
   behind-any old i j b s c t is = play-is (noting Sink.step Sink.is_quiet) noting_error (noting_cdata Sink.asks_cdata) (noting_end Sink.ended) (rows_of old) i j b s c t is
 
   -- what is slight before an item with a fault changes nothing
-  pub item-absorbs : (old : Tokenizer K) (i : Item) (b : ℕ) (s : Sink.State × Notes ℕ) (u : List ℕ) → is_some i.fault ≡ true → play (noting Sink.step Sink.is_quiet) noting_error (noting_cdata Sink.asks_cdata) (noting_end Sink.ended) (rows_of old) i b s u ≡ play (noting Sink.step Sink.is_quiet) noting_error (noting_cdata Sink.asks_cdata) (noting_end Sink.ended) (rows_of old) i b (s.0, more (owed_for (Some Slight)) s.1) u
-  item-absorbs old i b s u h = play-absorbs (noting Sink.step Sink.is_quiet) noting_error (noting_cdata Sink.asks_cdata) (noting_end Sink.ended) (rows_of old) slight-absorbed i b s u h ∙ ap (λ q. play (noting Sink.step Sink.is_quiet) noting_error (noting_cdata Sink.asks_cdata) (noting_end Sink.ended) (rows_of old) i b q u) (erred-more (Some Slight) s)
+  pub item-absorbs : (old : Tokenizer K) (i : Item) (b : ℕ) (s : Sink.State × Notes ℕ) (u : List ℕ) → is_some i.fault ≡ true → plays Sink (rows_of old) i b s u ≡ plays Sink (rows_of old) i b (s.0, more (owed_for (Some Slight)) s.1) u
+  item-absorbs old i b s u h = play-absorbs (noting Sink.step Sink.is_quiet) noting_error (noting_cdata Sink.asks_cdata) (noting_end Sink.ended) (rows_of old) slight-absorbed i b s u h ∙ ap (λ q. plays Sink (rows_of old) i b q u) (erred-more (Some Slight) s)
 
   -- so it does in a state that reads such an item
   pub state-absorbs : (old : Tokenizer K) (c : ℕ) (st : State) → IsAt old st → ((b : ℕ) (s : Sink.State × Notes ℕ) (t : List ℕ) → at Sink st old b s (c ∷ t) ≡ at Sink st old b (s.0, more (owed_for (Some Slight)) s.1) (c ∷ t)) → Absorbs Sink old c
@@ -67,9 +67,9 @@ module _ {K H : Type 0} (Sink : Ghosts K H) (laws : SinkLaws Sink.is_sound Sink.
       ∙ sym (now-at Sink old st b (s.0, more (owed_for (Some Slight)) s.1) (c ∷ t) from)
 
   -- an item in which something may be odd
-  pub item-marked : (odd : Bool) (old : Tokenizer K) (i : Item) (b : ℕ) (s : Sink.State × Notes ℕ) (u : List ℕ) → play (noting Sink.step Sink.is_quiet) noting_error (noting_cdata Sink.asks_cdata) (noting_end Sink.ended) (rows_of old) (marked odd i) b s u ≡ play (noting Sink.step Sink.is_quiet) noting_error (noting_cdata Sink.asks_cdata) (noting_end Sink.ended) (rows_of old) i b (s.0, more (owed_for (slight_if odd)) s.1) u
-  item-marked odd old i b s u = play-marked (noting Sink.step Sink.is_quiet) noting_error (noting_cdata Sink.asks_cdata) (noting_end Sink.ended) (rows_of old) slight-absorbed odd i b s u ∙ ap (λ q. play (noting Sink.step Sink.is_quiet) noting_error (noting_cdata Sink.asks_cdata) (noting_end Sink.ended) (rows_of old) i b q u) (erred-more (slight_if odd) s)
+  pub item-marked : (odd : Bool) (old : Tokenizer K) (i : Item) (b : ℕ) (s : Sink.State × Notes ℕ) (u : List ℕ) → plays Sink (rows_of old) (marked odd i) b s u ≡ plays Sink (rows_of old) i b (s.0, more (owed_for (slight_if odd)) s.1) u
+  item-marked odd old i b s u = play-marked (noting Sink.step Sink.is_quiet) noting_error (noting_cdata Sink.asks_cdata) (noting_end Sink.ended) (rows_of old) slight-absorbed odd i b s u ∙ ap (λ q. plays Sink (rows_of old) i b q u) (erred-more (slight_if odd) s)
 
   -- the same of an item behind one character more
-  pub behind-odd : (odd : Bool) (old : Tokenizer K) (i j : Item) (b : ℕ) (s : Sink.State × Notes ℕ) (c : ℕ) (t : List ℕ) → i ≡ marked odd (behind j) → play (noting Sink.step Sink.is_quiet) noting_error (noting_cdata Sink.asks_cdata) (noting_end Sink.ended) (rows_of old) i b s (c ∷ t) ≡ play (noting Sink.step Sink.is_quiet) noting_error (noting_cdata Sink.asks_cdata) (noting_end Sink.ended) (rows_of old) j (b + line_break (nat_eq c 10)) (s.0, more (owed_for (slight_if odd)) s.1) t
-  behind-odd odd old i j b s c t is = play-odd (noting Sink.step Sink.is_quiet) noting_error (noting_cdata Sink.asks_cdata) (noting_end Sink.ended) (rows_of old) slight-absorbed odd i j b s c t is ∙ ap (λ q. play (noting Sink.step Sink.is_quiet) noting_error (noting_cdata Sink.asks_cdata) (noting_end Sink.ended) (rows_of old) j (b + line_break (nat_eq c 10)) q t) (erred-more (slight_if odd) s)
+  pub behind-odd : (odd : Bool) (old : Tokenizer K) (i j : Item) (b : ℕ) (s : Sink.State × Notes ℕ) (c : ℕ) (t : List ℕ) → i ≡ marked odd (behind j) → plays Sink (rows_of old) i b s (c ∷ t) ≡ plays Sink (rows_of old) j (b + line_break (nat_eq c 10)) (s.0, more (owed_for (slight_if odd)) s.1) t
+  behind-odd odd old i j b s c t is = play-odd (noting Sink.step Sink.is_quiet) noting_error (noting_cdata Sink.asks_cdata) (noting_end Sink.ended) (rows_of old) slight-absorbed odd i j b s c t is ∙ ap (λ q. plays Sink (rows_of old) j (b + line_break (nat_eq c 10)) q t) (erred-more (slight_if odd) s)

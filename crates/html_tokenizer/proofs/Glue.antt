@@ -26,7 +26,7 @@ use Rattle.html_tokenizer.specs.declared.tokenizer.Stream.{Stream}
 use Rattle.html_tokenizer.specs.declared.tokenizer.Tokenizer.{Tokenizer}
 use Rattle.html_tokenizer.specs.Rest.{rows_of, standing, pending, held_at}
 use Rattle.html_tokenizer.proofs.Readings.{sum-zero}
-use Rattle.html_tokenizer.specs.Steps.{Owed, nothing, owed_for, hearing, together, owed_by, IsAt, paused_by, more, noted_by, Rises, now, Fails, Told, Erred, Took, Keeps, EndsTag}
+use Rattle.html_tokenizer.specs.Steps.{Owed, nothing, owed_for, hearing, together, owed_by, IsAt, paused_by, more, noted_by, Rises, now, Fails, Told, Erred, Took, Keeps, EndsTag, reads}
 use Rattle.html_tokenizer.proofs.Rises.{more-more, heard-more, rises-slight, rises-then, rises-less}
 
 -- a character that is no line break ends no line
@@ -316,7 +316,7 @@ module _ {K H : Type 0} (Sink : Ghosts K H) where
   -- The tag was told, and the character ended it.
   pub took_tag : (old new : Tokenizer K) (c : ℕ) (st : State) (result : Result (ProcessResult H) ParseFault) → IsAt old st → c ≡ 62 → EndsTag Sink old new result
       → ((b : ℕ) (s : Sink.State × Notes ℕ) → Sink.is_sound s.0 → (t : List ℕ) → at Sink st old b s (c ∷ t)
-      ≡ (noting Sink.step Sink.is_quiet (s.0, more (owed_for (grave_if (is_faulty_tag old.tag))) s.1) (TagToken old.tag) (line_number b) >>= λ p. reading (noting Sink.step Sink.is_quiet) noting_error (noting_cdata Sink.asks_cdata) (noting_end Sink.ended) (rows_of old) (next_stand (behind_tag (standing old InData) old.tag) p.1) b p.0 t))
+      ≡ (noting Sink.step Sink.is_quiet (s.0, more (owed_for (grave_if (is_faulty_tag old.tag))) s.1) (TagToken old.tag) (line_number b) >>= λ p. reads Sink (rows_of old) (next_stand (behind_tag (standing old InData) old.tag) p.1) b p.0 t))
       → Sink.is_sound (Sink.view old.sink) → Keeps Sink old new c result
   took_tag old new c st (Ok result) from close h law ok = record {
     owed = owed_by Sink old;

@@ -20,7 +20,7 @@ use Rattle.html_tokens.specs.Sink.{◌>>=◌, Step, SinkLaws}
 use Rattle.html_tokens.specs.Tags.{named, name_after}
 use Rattle.html_tokenizer.specs.declared.tokenizer.Tokenizer.{Tokenizer}
 use Rattle.html_tokenizer.specs.Rest.{rows_of, standing, held_at}
-use Rattle.html_tokenizer.specs.Steps.{IsAt, Fails, Told, Took, Keeps, Erred, owed_for, a_fault}
+use Rattle.html_tokenizer.specs.Steps.{IsAt, Fails, Told, Took, Keeps, Erred, owed_for, a_fault, reads, plays}
 use Rattle.html_tokenizer.proofs.Lawful.{noting-lawful}
 use Rattle.html_tokenizer.proofs.Readings.{reading-is, reading-char_as, sum-zero}
 use Rattle.html_tokenizer.proofs.Ends.{behind-one}
@@ -70,11 +70,11 @@ end-bogus c l e st t = end-opens c (opens-by c (nat_eq c 47) (nat_eq c 33) (nat_
 module _ {K H : Type 0} (Sink : Ghosts K H) (laws : SinkLaws Sink.is_sound Sink.step Sink.ended Sink.is_quiet) where
   -- a reading at "<", by the item that stands there
   pub opened : (old : Tokenizer K) (b : ℕ) (s : Sink.State × Notes ℕ) (t : List ℕ) (j : Item) → item (rows_of old) (Sink.asks_cdata s.0) (standing old InData) 60 t ≡ behind j
-      → reading (noting Sink.step Sink.is_quiet) noting_error (noting_cdata Sink.asks_cdata) (noting_end Sink.ended) (rows_of old) (standing old InData) b s (60 ∷ t) ≡ play (noting Sink.step Sink.is_quiet) noting_error (noting_cdata Sink.asks_cdata) (noting_end Sink.ended) (rows_of old) j b s t
-  opened old b s t j is = reading-is (noting Sink.step Sink.is_quiet) noting_error (noting_cdata Sink.asks_cdata) (noting_end Sink.ended) (rows_of old) (standing old InData) b s 60 t j is ∙ ap (λ x. play (noting Sink.step Sink.is_quiet) noting_error (noting_cdata Sink.asks_cdata) (noting_end Sink.ended) (rows_of old) j x s t) (sum-zero b)
+      → reads Sink (rows_of old) (standing old InData) b s (60 ∷ t) ≡ plays Sink (rows_of old) j b s t
+  opened old b s t j is = reading-is (noting Sink.step Sink.is_quiet) noting_error (noting_cdata Sink.asks_cdata) (noting_end Sink.ended) (rows_of old) (standing old InData) b s 60 t j is ∙ ap (λ x. plays Sink (rows_of old) j x s t) (sum-zero b)
 
-  same-reading : (old : Tokenizer K) (b : ℕ) (s : Sink.State × Notes ℕ) (u : List ℕ) → reading (noting Sink.step Sink.is_quiet) noting_error (noting_cdata Sink.asks_cdata) (noting_end Sink.ended) (rows_of old) (standing old InData) b s u ≡ reading (noting Sink.step Sink.is_quiet) noting_error (noting_cdata Sink.asks_cdata) (noting_end Sink.ended) (rows_of old) (standing old InData) (b + 0) s u
-  same-reading old b s u = ap (λ x. reading (noting Sink.step Sink.is_quiet) noting_error (noting_cdata Sink.asks_cdata) (noting_end Sink.ended) (rows_of old) (standing old InData) x s u) (sym (sum-zero b))
+  same-reading : (old : Tokenizer K) (b : ℕ) (s : Sink.State × Notes ℕ) (u : List ℕ) → reads Sink (rows_of old) (standing old InData) b s u ≡ reads Sink (rows_of old) (standing old InData) (b + 0) s u
+  same-reading old b s u = ap (λ x. reads Sink (rows_of old) (standing old InData) x s u) (sym (sum-zero b))
 
   -- "/" and "!" are held
   pub open-slash : (old : Tokenizer K) → IsAt old state.TagOpen → Sink.is_sound (Sink.view old.sink) → Took Sink old (record old { state = state.EndTagOpen }) 47 flow.Continue
@@ -126,7 +126,7 @@ module _ {K H : Type 0} (Sink : Ghosts K H) (laws : SinkLaws Sink.is_sound Sink.
   unfolding held_at
   open-says old c e b s h t =
       reading-char_as (λ p. Sink.is_sound p.0) (noting Sink.step Sink.is_quiet) noting_error (noting_cdata Sink.asks_cdata) (noting_end Sink.ended) (rows_of old) (noting-lawful Sink.is_sound Sink.step Sink.ended Sink.is_quiet laws) (Some Slight) (standing old InData) (standing old InData) b s h 60 60 (c ∷ t) (line_number b) (open-text (opening c) (Sink.asks_cdata s.0) (standing old InData) c t e)
-      ∙ ap (λ x. noting Sink.step Sink.is_quiet (noting_error Slight s) (CharacterTokens (60 ∷ [])) (line_number b) >>= λ p. reading (noting Sink.step Sink.is_quiet) noting_error (noting_cdata Sink.asks_cdata) (noting_end Sink.ended) (rows_of old) (standing old InData) x p.0 (c ∷ t)) (sum-zero b)
+      ∙ ap (λ x. noting Sink.step Sink.is_quiet (noting_error Slight s) (CharacterTokens (60 ∷ [])) (line_number b) >>= λ p. reads Sink (rows_of old) (standing old InData) x p.0 (c ∷ t)) (sum-zero b)
 
   pub is-text : (c : ℕ) → is_ascii_alphabetic c ≡ false → nat_eq c 47 ≡ false → nat_eq c 33 ≡ false → nat_eq c 63 ≡ false → IsText (opening c)
   is-text c l a b d = text-by c (nat_eq c 62) refl l a b d
@@ -151,7 +151,7 @@ module _ {K H : Type 0} (Sink : Ghosts K H) (laws : SinkLaws Sink.is_sound Sink.
       (λ b s t. opened old b s (47 ∷ 62 ∷ t) (none 2) refl
       ∙ behind-one Sink laws old 47 refl (none 2) (none 1) b s (62 ∷ t) refl
       ∙ behind-one Sink laws old 62 refl (none 1) (none 0) b s t refl
-      ∙ ap (λ (k : Tokenizer K). reading (noting Sink.step Sink.is_quiet) noting_error (noting_cdata Sink.asks_cdata) (noting_end Sink.ended) (rows_of k) (standing k InData) (b + 0) (noting_error Grave s) t) (sym h.changed))
+      ∙ ap (λ (k : Tokenizer K). reads Sink (rows_of k) (standing k InData) (b + 0) (noting_error Grave s) t) (sym h.changed))
 
   pub end-failed : (old new : Tokenizer K) (c : ℕ) (result : Result (ProcessResult H) ParseFault) (fault : ParseFault) → IsAt old state.EndTagOpen → IsErrAnd result (λ y. y ≡ fault)
       → ((token : Token) (line : ℕ) → Fails Sink old.sink (Sink.step (Sink.view old.sink) token line) fault) → Keeps Sink old new c result

@@ -23,7 +23,7 @@ use Rattle.html_tokens.specs.Sink.{Step, Refusal, SinkLaws}
 use Rattle.html_tokenizer.specs.CharRefs.{may_hold}
 use Rattle.html_tokenizer.specs.declared.tokenizer.Tokenizer.{Tokenizer}
 use Rattle.html_tokenizer.specs.Rest.{rows_of, standing, held_at}
-use Rattle.html_tokenizer.specs.Steps.{IsAt, TakesAs, Took, Keeps, nothing, owed_for}
+use Rattle.html_tokenizer.specs.Steps.{IsAt, TakesAs, Took, Keeps, nothing, owed_for, reads}
 use Rattle.html_tokenizer.proofs.Lawful.{noting-lawful}
 use Rattle.html_tokenizer.proofs.Readings.{reading-char, sum-zero}
 use Rattle.html_tokenizer.proofs.Glue.{Says, took, at}
@@ -60,7 +60,7 @@ rcdata-holds (raw.ScriptDataEscaped _) h = absurd cc
 module _ {K H : Type 0} (Sink : Ghosts K H) where
   -- what raw text makes of the sink
   abbrev pub raw_text : Tokenizer K → RawKind → ℕ → Sink.State × Notes ℕ → List ℕ → Result (Sink.State × Notes ℕ) (Refusal × ℕ)
-  raw_text k kind b s t = reading (noting Sink.step Sink.is_quiet) noting_error (noting_cdata Sink.asks_cdata) (noting_end Sink.ended) (rows_of k) (standing k (InRaw kind)) b s t
+  raw_text k kind b s t = reads Sink (rows_of k) (standing k (InRaw kind)) b s t
 
   -- what is to come where "<" is held
   pub held-open : (k : Tokenizer K) (kind : RawKind) (b : ℕ) (s : Sink.State × Notes ℕ) (t : List ℕ) → ends_at_tag kind ≡ true → at Sink (state.RawLessThanSign kind) k b s t ≡ raw_text k kind b s (60 ∷ t)

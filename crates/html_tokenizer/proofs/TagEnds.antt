@@ -17,7 +17,7 @@ use Rattle.html_tokens.specs.Sink.{Step, numbered}
 use Rattle.html_tokens.specs.Tags.{last_name, behind_tag, is_faulty_tag}
 use Rattle.html_tokenizer.specs.declared.tokenizer.Tokenizer.{Tokenizer}
 use Rattle.html_tokenizer.specs.Rest.{rows_of, standing, held_at}
-use Rattle.html_tokenizer.specs.Steps.{owed_for, IsAt, PausesAt, more, noted_by, Rises, state_behind, answer_to, Fails, Erred, EndedTag, EndsTag, nothing, owed_by, hearing}
+use Rattle.html_tokenizer.specs.Steps.{owed_for, IsAt, PausesAt, more, noted_by, Rises, state_behind, answer_to, Fails, Erred, EndedTag, EndsTag, nothing, owed_by, hearing, reads}
 use Rattle.html_tokenizer.proofs.Glue.{at, fits-at, now-at}
 use Rattle.html_tokenizer.proofs.Rises.{heard-more, rises-heard}
 use Rattle.html_tokenizer.proofs.Lawful.{erred-more}
@@ -25,9 +25,9 @@ use Rattle.html_tokenizer.proofs.Lawful.{erred-more}
 module _ {K H : Type 0} (Sink : Ghosts K H) where
   -- a tag's fault is noted
   pub noted-tag : (k : Tokenizer K) (tag : Tag) (st : Stand) (b : ℕ) (s : Sink.State × Notes ℕ) (t : List ℕ)
-      → (noting Sink.step Sink.is_quiet (erred_by noting_error (grave_if (is_faulty_tag tag)) s) (TagToken tag) (line_number b) >>= λ p. reading (noting Sink.step Sink.is_quiet) noting_error (noting_cdata Sink.asks_cdata) (noting_end Sink.ended) (rows_of k) (next_stand st p.1) b p.0 t)
-      ≡ (noting Sink.step Sink.is_quiet (s.0, more (owed_for (grave_if (is_faulty_tag tag))) s.1) (TagToken tag) (line_number b) >>= λ p. reading (noting Sink.step Sink.is_quiet) noting_error (noting_cdata Sink.asks_cdata) (noting_end Sink.ended) (rows_of k) (next_stand st p.1) b p.0 t)
-  noted-tag k tag st b s t = ap (λ q. noting Sink.step Sink.is_quiet q (TagToken tag) (line_number b) >>= λ p. reading (noting Sink.step Sink.is_quiet) noting_error (noting_cdata Sink.asks_cdata) (noting_end Sink.ended) (rows_of k) (next_stand st p.1) b p.0 t) (erred-more (grave_if (is_faulty_tag tag)) s)
+      → (noting Sink.step Sink.is_quiet (erred_by noting_error (grave_if (is_faulty_tag tag)) s) (TagToken tag) (line_number b) >>= λ p. reads Sink (rows_of k) (next_stand st p.1) b p.0 t)
+      ≡ (noting Sink.step Sink.is_quiet (s.0, more (owed_for (grave_if (is_faulty_tag tag))) s.1) (TagToken tag) (line_number b) >>= λ p. reads Sink (rows_of k) (next_stand st p.1) b p.0 t)
+  noted-tag k tag st b s t = ap (λ q. noting Sink.step Sink.is_quiet q (TagToken tag) (line_number b) >>= λ p. reads Sink (rows_of k) (next_stand st p.1) b p.0 t) (erred-more (grave_if (is_faulty_tag tag)) s)
 
   -- the error that goes before a tag was refused, so the tag would be
   pub tag-failed : (old new : Tokenizer K) (result : Result (ProcessResult H) ParseFault) (fault : ParseFault) → IsErrAnd result (λ y. y ≡ fault)
@@ -38,7 +38,7 @@ module _ {K H : Type 0} (Sink : Ghosts K H) where
 
   -- what is read behind a tag is what the machine reads where the reply has it
   reads-behind : (k : Tokenizer K) (reply : TokenSinkResult H) (b : ℕ) (s : Sink.State) (notes : Notes ℕ) (t : List ℕ)
-      → reading (noting Sink.step Sink.is_quiet) noting_error (noting_cdata Sink.asks_cdata) (noting_end Sink.ended) (rows_of k) (next_stand (standing k InData) (numbered Sink.number reply)) b (s, record notes { pauses = paused notes.pauses (numbered Sink.number reply) }) t
+      → reads Sink (rows_of k) (next_stand (standing k InData) (numbered Sink.number reply)) b (s, record notes { pauses = paused notes.pauses (numbered Sink.number reply) }) t
       ≡ at Sink (state_behind reply) k b (s, noted_by Sink.number nothing notes (answer_to reply)) t
   unfolding held_at
   reads-behind k reply.Continue b s notes t = refl
@@ -67,10 +67,10 @@ module _ {K H : Type 0} (Sink : Ghosts K H) where
       record {
         rises = rises;
         same = λ notes t.
-            ap (λ r. noted (heard (Sink.is_quiet (Sink.view old.sink) (TagToken old.tag)) (more fault notes)) r >>= λ p. reading (noting Sink.step Sink.is_quiet) noting_error (noting_cdata Sink.asks_cdata) (noting_end Sink.ended) (rows_of old) (next_stand (behind_tag (standing old InData) old.tag) p.1) old.stream.breaks p.0 t) gives
-            ∙ ap (λ n. reading (noting Sink.step Sink.is_quiet) noting_error (noting_cdata Sink.asks_cdata) (noting_end Sink.ended) (rows_of old) (next_stand (behind_tag (standing old InData) old.tag) (numbered Sink.number reply)) old.stream.breaks (Sink.view new.sink, record n { pauses = paused notes.pauses (numbered Sink.number reply) }) t) (heard-more (Sink.is_quiet (Sink.view old.sink) (TagToken old.tag)) fault notes)
-            ∙ ap (λ st. reading (noting Sink.step Sink.is_quiet) noting_error (noting_cdata Sink.asks_cdata) (noting_end Sink.ended) (rows_of old) (next_stand st (numbered Sink.number reply)) old.stream.breaks (Sink.view new.sink, record (more owed notes) { pauses = paused notes.pauses (numbered Sink.number reply) }) t) (behind old new last)
-            ∙ ap (λ x. reading (noting Sink.step Sink.is_quiet) noting_error (noting_cdata Sink.asks_cdata) (noting_end Sink.ended) x.table (next_stand (standing new InData) (numbered Sink.number reply)) old.stream.breaks (Sink.view new.sink, record (more owed notes) { pauses = paused notes.pauses (numbered Sink.number reply) }) t) (sym stream)
+            ap (λ r. noted (heard (Sink.is_quiet (Sink.view old.sink) (TagToken old.tag)) (more fault notes)) r >>= λ p. reads Sink (rows_of old) (next_stand (behind_tag (standing old InData) old.tag) p.1) old.stream.breaks p.0 t) gives
+            ∙ ap (λ n. reads Sink (rows_of old) (next_stand (behind_tag (standing old InData) old.tag) (numbered Sink.number reply)) old.stream.breaks (Sink.view new.sink, record n { pauses = paused notes.pauses (numbered Sink.number reply) }) t) (heard-more (Sink.is_quiet (Sink.view old.sink) (TagToken old.tag)) fault notes)
+            ∙ ap (λ st. reads Sink (rows_of old) (next_stand st (numbered Sink.number reply)) old.stream.breaks (Sink.view new.sink, record (more owed notes) { pauses = paused notes.pauses (numbered Sink.number reply) }) t) (behind old new last)
+            ∙ ap (λ x. reads Sink x.table (next_stand (standing new InData) (numbered Sink.number reply)) old.stream.breaks (Sink.view new.sink, record (more owed notes) { pauses = paused notes.pauses (numbered Sink.number reply) }) t) (sym stream)
             ∙ reads-behind new reply old.stream.breaks (Sink.view new.sink) (more owed notes) t
             ∙ sym (now-at Sink new (state_behind reply) old.stream.breaks (Sink.view new.sink, noted_by Sink.number owed notes (answer_to reply)) t to);
         stream = stream;

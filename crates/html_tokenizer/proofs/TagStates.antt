@@ -17,7 +17,7 @@ use Rattle.html_tokens.specs.Sink.{Step}
 use Rattle.html_tokens.specs.Tags.{behind_tag, name_after}
 use Rattle.html_tokenizer.specs.declared.tokenizer.Tokenizer.{Tokenizer}
 use Rattle.html_tokenizer.specs.Rest.{rows_of, standing, held_at}
-use Rattle.html_tokenizer.specs.Steps.{IsAt, Took, Keeps, EndsTag}
+use Rattle.html_tokenizer.specs.Steps.{IsAt, Took, Keeps, EndsTag, reads, plays}
 use Rattle.html_tokenizer.proofs.TagEnds.{noted-tag}
 use Rattle.html_tokenizer.proofs.Glue.{took, took_tag, keeps_silent, Absorbs}
 use Rattle.html_tokenizer.proofs.TagGlue.{took_here, took_odd, keeps_odd, absorbs_odd}
@@ -94,7 +94,7 @@ module _ {K H : Type 0} (Sink : Ghosts K H) where
   tag_name-absorbs old c from e =
       let tag = record old.tag { name = old.tag.name ++ lowered c ∷ [] } in
       absorbs_odd Sink old c state.TagName (is_null c)
-      (λ b s t. play (noting Sink.step Sink.is_quiet) noting_error (noting_cdata Sink.asks_cdata) (noting_end Sink.ended) (rows_of old) (name_after (standing old InData) tag t) (b + line_break (nat_eq c 10)) s t) from e
+      (λ b s t. plays Sink (rows_of old) (name_after (standing old InData) tag t) (b + line_break (nat_eq c 10)) s t) from e
       (λ b s t. name-more (noting Sink.step Sink.is_quiet) noting_error (noting_cdata Sink.asks_cdata) (noting_end Sink.ended) (rows_of old) slight-absorbed (standing old InData) old.tag b s c t (null-none c e))
 
   -- so is what stands behind "/" in a tag, where it is not its end
@@ -102,5 +102,5 @@ module _ {K H : Type 0} (Sink : Ghosts K H) where
   unfolding held_at
   slash-absorbs old c from ne =
       absorbs_odd Sink old c state.SelfClosingStartTag true
-      (λ b s t. reading (noting Sink.step Sink.is_quiet) noting_error (noting_cdata Sink.asks_cdata) (noting_end Sink.ended) (rows_of old) (moved (standing old InData) (InTag old.tag)) b s (c ∷ t)) from refl
+      (λ b s t. reads Sink (rows_of old) (moved (standing old InData) (InTag old.tag)) b s (c ∷ t)) from refl
       (λ b s t. tag-slash (noting Sink.step Sink.is_quiet) noting_error (noting_cdata Sink.asks_cdata) (noting_end Sink.ended) (rows_of old) slight-absorbed (standing old InData) old.tag b s c t (not-close c ne))

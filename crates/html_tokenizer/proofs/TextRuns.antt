@@ -32,7 +32,7 @@ use Rattle.html_tokenizer.specs.CharRefs.{fits_in}
 use Rattle.html_tokenizer.specs.declared.tokenizer.Tokenizer.{Tokenizer}
 use Rattle.html_tokenizer.specs.Quotes.{quote_of}
 use Rattle.html_tokenizer.specs.Rest.{rows_of, standing, held_at}
-use Rattle.html_tokenizer.specs.Steps.{Owed, Erred, IsAt, more, Tells, Took, how_many, now, nothing, owed_for_each, hearing, together}
+use Rattle.html_tokenizer.specs.Steps.{Owed, Erred, IsAt, more, Tells, Took, how_many, now, nothing, owed_for_each, hearing, together, reads}
 use Rattle.html_tokenizer.specs.Stops.{with_breaks, raw_stops, value_stops, state_stops, IsRunAt}
 use Rattle.html_tokenizer.proofs.AttributeValues.{quoted-more, unquoted-held}
 use Rattle.html_tokenizer.proofs.Comments.{bogus-push, comment-push}
@@ -298,7 +298,7 @@ module _ {K H : Type 0} (Sink : Ghosts K H) (laws : SinkLaws Sink.is_sound Sink.
   place-says : (old : Tokenizer K) (place : Place) (bits : ℕ) (run : List ℕ) → has bits 10 ≡ true → 0 < length run → All (λ c. has bits c ≡ false) run
       → ((c : ℕ) → has bits c ≡ false → (x : Bool) (t : List ℕ) → item (rows_of old) x (standing old place) c t ≡ character c (standing old place))
       → (b : ℕ) (s : Sink.State × Notes ℕ) → Sink.is_sound s.0 → (t : List ℕ)
-      → reading (noting Sink.step Sink.is_quiet) noting_error (noting_cdata Sink.asks_cdata) (noting_end Sink.ended) (rows_of old) (standing old place) b s (run ++ t) ≡ (noting Sink.step Sink.is_quiet s (CharacterTokens run) (line_number b) >>= λ p. reading (noting Sink.step Sink.is_quiet) noting_error (noting_cdata Sink.asks_cdata) (noting_end Sink.ended) (rows_of old) (standing old place) b p.0 t)
+      → reads Sink (rows_of old) (standing old place) b s (run ++ t) ≡ (noting Sink.step Sink.is_quiet s (CharacterTokens run) (line_number b) >>= λ p. reads Sink (rows_of old) (standing old place) b p.0 t)
   place-says old place bits run unbroken filled lacking plain b s h t =
       run-told (λ p. Sink.is_sound p.0) (noting Sink.step Sink.is_quiet) noting_error (noting_cdata Sink.asks_cdata) (noting_end Sink.ended) (rows_of old) (noting-lawful Sink.is_sound Sink.step Sink.ended Sink.is_quiet laws) bits unbroken (standing old place) plain b s h run t (line_number b) filled lacking
 

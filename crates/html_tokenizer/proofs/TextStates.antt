@@ -15,7 +15,7 @@ use Rattle.html_tokens.specs.Reading.{line_number, line_break, reading}
 use Rattle.html_tokens.specs.Sink.{Step, SinkLaws}
 use Rattle.html_tokenizer.specs.declared.tokenizer.Tokenizer.{Tokenizer}
 use Rattle.html_tokenizer.specs.Rest.{rows_of, standing, held_at}
-use Rattle.html_tokenizer.specs.Steps.{IsAt, TakesAs, Took, Keeps, nothing, a_fault, owed_for}
+use Rattle.html_tokenizer.specs.Steps.{IsAt, TakesAs, Took, Keeps, nothing, a_fault, owed_for, reads}
 use Rattle.html_tokenizer.proofs.Lawful.{noting-lawful}
 use Rattle.html_tokenizer.proofs.Readings.{reading-char, sum-zero}
 use Rattle.html_tokenizer.proofs.Runs.{reading-token}
@@ -56,7 +56,7 @@ module _ {K H : Type 0} (Sink : Ghosts K H) (laws : SinkLaws Sink.is_sound Sink.
   -- "<" was taken, which is held
   pub data-opened : (old : Tokenizer K) (c : ℕ) → IsAt old state.Data → Sink.is_sound (Sink.view old.sink) → c ≡ 60 → Took Sink old (record old { state = state.TagOpen }) c flow.Continue
   unfolding held_at
-  data-opened old c from ok e = rw e (took Sink old (record old { state = state.TagOpen }) 60 state.Data state.TagOpen from (record { state = refl; fresh = from.fresh }) refl refl ok (λ b s t. ap (λ n. reading (noting Sink.step Sink.is_quiet) noting_error (noting_cdata Sink.asks_cdata) (noting_end Sink.ended) (rows_of old) (standing old InData) n s (60 ∷ t)) (sym (sum-zero b))))
+  data-opened old c from ok e = rw e (took Sink old (record old { state = state.TagOpen }) 60 state.Data state.TagOpen from (record { state = refl; fresh = from.fresh }) refl refl ok (λ b s t. ap (λ n. reads Sink (rows_of old) (standing old InData) n s (60 ∷ t)) (sym (sum-zero b))))
 
   -- "&" was taken, which is held
   pub data-reference : (old : Tokenizer K) (c : ℕ) (begun : List ℕ) → IsAt old state.Data → Sink.is_sound (Sink.view old.sink) → c ≡ 38 → begun ≡ [] → Took Sink old (record old { char_ref = Some begun }) c flow.Continue

@@ -31,7 +31,7 @@ use Rattle.html_tokenizer.specs.Pieces.{ComesAsRun}
 use Rattle.html_tokenizer.specs.Stops.{stops_of}
 use Rattle.html_queue.specs.declared.set.SmallCharSet.{SmallCharSet}
 use Rattle.html_tokenizer.specs.Rest.{rest, rows_of, standing, coming}
-use Rattle.html_tokenizer.specs.Steps.{IsAt, PausesAt, Owed, nothing, owed_for, owed_for_each, together, more, noted_by, Rises, now, Fails}
+use Rattle.html_tokenizer.specs.Steps.{IsAt, PausesAt, Owed, nothing, owed_for, owed_for_each, together, more, noted_by, Rises, now, Fails, reads}
 
 -- the pauses so far, and the one with which a call of `feed` hands back control
 abbrev pub paused_with : {H : Type 0} → (H → ℕ) → List Reply → TokenizerResult H → List Reply
@@ -266,7 +266,7 @@ module _ {K H : Type 0} (Sink : Ghosts K H) where
   pub record IsNew (k : Tokenizer K) (sink : K) (opts : TokenizerOpts) (table : List Row) : Type 0 where
     pub over : k.sink ≡ sink
     pub same : (notes : Notes ℕ) (t : List ℕ)
-        → to_come k notes t ≡ reading (noting Sink.step Sink.is_quiet) noting_error (noting_cdata Sink.asks_cdata) (noting_end Sink.ended) table (first_stand opts.initial_state opts.last_start_tag_name) 0 (Sink.view sink, notes) (normal_text opts.discard_bom t)
+        → to_come k notes t ≡ reads Sink table (first_stand opts.initial_state opts.last_start_tag_name) 0 (Sink.view sink, notes) (normal_text opts.discard_bom t)
     pub ready : IsReady k
     pub begun : refusal_of k ≡ None
     pub exact : k.stream.exact_errors ≡ opts.exact_errors
@@ -274,4 +274,4 @@ module _ {K H : Type 0} (Sink : Ghosts K H) where
 
   -- A tokenizer in a text state, with no part of an item held: what is to come is the reading of what comes, from that text on.
   abbrev pub ReadsAt : Place → Tokenizer K → Type 0
-  ReadsAt place k = (notes : Notes ℕ) (t : List ℕ) → to_come k notes t ≡ reading (noting Sink.step Sink.is_quiet) noting_error (noting_cdata Sink.asks_cdata) (noting_end Sink.ended) (rows_of k) (standing k place) k.stream.breaks (Sink.view k.sink, notes) (coming k t)
+  ReadsAt place k = (notes : Notes ℕ) (t : List ℕ) → to_come k notes t ≡ reads Sink (rows_of k) (standing k place) k.stream.breaks (Sink.view k.sink, notes) (coming k t)

@@ -11,10 +11,11 @@ use Rattle.html_tokens.specs.declared.states.State.TheVariants as state
 use Rattle.html_tokens.specs.declared.token.Token.{Token}
 use Rattle.html_tokens.specs.declared.token.Token.TheVariants.{TagToken, ParseError}
 use Rattle.html_tokens.specs.declared.sink.TokenSink.{Ghosts}
-use Rattle.html_tokens.specs.Item.{Fault, Grave, Slight, grave_if, InData}
+use Rattle.html_tokens.specs.Item.{Fault, Grave, Slight, grave_if, InData, Stand, Item}
 use Rattle.html_tokens.specs.Notes.{Notes, one_if, noting, noting_error, noting_cdata, noting_end}
-use Rattle.html_tokens.specs.Reading.{◌>>=◌, line_break, line_number, next_stand, reading}
+use Rattle.html_tokens.specs.Reading.{◌>>=◌, line_break, line_number, next_stand, play, reading}
 use Rattle.html_tokens.specs.Sink.{Step, Reply, Refusal, InText, AfterEnd, Unfit}
+use Rattle.html_tokens.specs.Table.{Row}
 use Rattle.html_tokens.specs.Tags.{behind_tag, is_faulty_tag}
 use Rattle.html_tokenizer.specs.CharRefs.{fits_in}
 use Rattle.html_tokenizer.specs.declared.tokenizer.Tokenizer.{Tokenizer}
@@ -115,6 +116,14 @@ answer_to (reply.RawData kind) = flow.Continue
 answer_to (reply.EncodingIndicator label) = flow.EncodingIndicator label
 
 module _ {K H : Type 0} (Sink : Ghosts K H) where
+  -- what a text makes of the sink and of what was noted, from a stand on
+  abbrev pub reads : List Row → Stand → ℕ → Sink.State × Notes ℕ → List ℕ → Result (Sink.State × Notes ℕ) (Refusal × ℕ)
+  reads rows st b s t = reading (noting Sink.step Sink.is_quiet) noting_error (noting_cdata Sink.asks_cdata) (noting_end Sink.ended) rows st b s t
+
+  -- the same, where an item stands at its front
+  abbrev pub plays : List Row → Item → ℕ → Sink.State × Notes ℕ → List ℕ → Result (Sink.State × Notes ℕ) (Refusal × ℕ)
+  plays rows i b s t = play (noting Sink.step Sink.is_quiet) noting_error (noting_cdata Sink.asks_cdata) (noting_end Sink.ended) rows i b s t
+
   -- what the characters t make of the sink and of what was noted
   abbrev pub now : Tokenizer K → ℕ → Sink.State × Notes ℕ → List ℕ → Result (Sink.State × Notes ℕ) (Refusal × ℕ)
   now k b s t = held (noting Sink.step Sink.is_quiet) noting_error (noting_cdata Sink.asks_cdata) (noting_end Sink.ended) k b s t
@@ -186,7 +195,7 @@ module _ {K H : Type 0} (Sink : Ghosts K H) where
   -- The tag has gone to the sink behind its error, if it has one, and the machine is where the reply has it.
   pub record EndedTag (old new : Tokenizer K) (result : ProcessResult H) : Type 0 where
     pub same : (notes : Notes ℕ) (t : List ℕ)
-        → (noting Sink.step Sink.is_quiet (Sink.view old.sink, more (owed_for (grave_if (is_faulty_tag old.tag))) notes) (TagToken old.tag) (line_number old.stream.breaks) >>= λ p. reading (noting Sink.step Sink.is_quiet) noting_error (noting_cdata Sink.asks_cdata) (noting_end Sink.ended) (rows_of old) (next_stand (behind_tag (standing old InData) old.tag) p.1) old.stream.breaks p.0 t)
+        → (noting Sink.step Sink.is_quiet (Sink.view old.sink, more (owed_for (grave_if (is_faulty_tag old.tag))) notes) (TagToken old.tag) (line_number old.stream.breaks) >>= λ p. reads (rows_of old) (next_stand (behind_tag (standing old InData) old.tag) p.1) old.stream.breaks p.0 t)
         ≡ now new old.stream.breaks (Sink.view new.sink, noted_by Sink.number (owed_by old) notes result) t
     pub rises : Rises Sink.errors (owed_by old) old.sink new.sink
     pub stream : new.stream ≡ old.stream
