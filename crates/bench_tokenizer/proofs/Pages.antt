@@ -36,7 +36,7 @@ still-told owed m n h k = omega arith
 
 -- a tokenizer that begins has read nothing of a page
 pub begun : (page : List ℕ) (k : Tokenizer Counts) → Begins k → HasRead page k page
-begun page k begins = record { owed = steps.nothing; told = omega arith; same = sym (begins.same page); takes = begins.takes }
+begun page k begins = record { owed = steps.nothing_owed; told = omega arith; same = sym (begins.same page); takes = begins.takes }
 
 -- behind a text that a tokenizer read, what follows that text is the rest of the page
 pub read-on : (page text behind : List ℕ) (old new : Tokenizer Counts) → HasRead page old (text ++ behind) → Reads old new text → HasRead page new behind

@@ -65,5 +65,5 @@ pub record HasRead (page : List ℕ) (k : Tokenizer Counts) (rest : List ℕ) : 
 
 -- A tokenizer at the front of its input: what is to come is the reading of all the text.
 pub record Begins (k : Tokenizer Counts) : Type 0 where
-  pub same : (t : List ℕ) → to_come k steps.nothing t ≡ page_reading t
+  pub same : (t : List ℕ) → to_come k steps.nothing_owed t ≡ page_reading t
   pub takes : Takes k

@@ -138,4 +138,4 @@ module _ {K H : Type 0} (Sink : Ghosts K H) where
       let rises = new-rises k new cs sink opts table is h in
       let all = sym (ap was_quiet (all-noted k new ended cs sink opts table is h e)) ∙ (reading-clean Sink.step Sink.is_quiet Sink.asks_cdata Sink.ended table (first_stand opts.initial_state opts.last_start_tag_name) 0 (Sink.view sink) (text_of Sink opts cs) clean).1 in
       let parts = and_parts e.owed.is_quiet noted.is_quiet all in
-      e.counts ∙ ap (Sink.errors_ended (Sink.view e.told)) (e.rises.none parts.0 ∙ rises.none (and_from noted.is_quiet (owed_for_text opts.exact_errors (text_of Sink opts cs)).is_quiet parts.1 plain))
+      e.counts ∙ ap (Sink.errors_ended (Sink.view e.told)) (e.rises.stays parts.0 ∙ rises.stays (and_from noted.is_quiet (owed_for_text opts.exact_errors (text_of Sink opts cs)).is_quiet parts.1 plain))

@@ -18,7 +18,7 @@ use Rattle.html_tokens.specs.Reading.{line_number, line_break, line_breaks, read
 use Rattle.html_tokens.specs.Sink.{◌>>=◌, Step, SinkLaws}
 use Rattle.html_tokenizer.specs.declared.tokenizer.Tokenizer.{Tokenizer}
 use Rattle.html_tokenizer.specs.Rest.{rows_of, standing, held_at}
-use Rattle.html_tokenizer.specs.Steps.{owed_for, Owed, IsAt, more, Fails, Told, Took, Keeps, nothing, a_fault, reads, plays}
+use Rattle.html_tokenizer.specs.Steps.{owed_for, Owed, IsAt, more, Fails, Told, Took, Keeps, nothing_owed, a_fault, reads, plays}
 use Rattle.html_tokenizer.proofs.Readings.{play-is}
 use Rattle.html_tokenizer.proofs.Ends.{EndSays, end-says, emitted-took, emitted-failed, same-text, behind-one, item-absorbs, state-absorbs}
 use Rattle.html_tokenizer.proofs.Errors.{tells-less}
@@ -149,8 +149,8 @@ module _ {K H : Type 0} (Sink : Ghosts K H) (laws : SinkLaws Sink.is_sound Sink.
   comment-took old new c st front e from ok told says = emitted-took Sink laws old (emitted old) new c st (CommentToken front) e from ok refl refl (record { state = refl; fresh = from.fresh }) told says
 
   -- The same of a comment that ended well, of which no error was told.
-  pub comment-took_well : (old new : Tokenizer K) (c : ℕ) (st : State) (front : List ℕ) → c ≡ 62 → IsAt old st → Sink.is_sound (Sink.view old.sink) → Told Sink nothing (CommentToken front) (emitted old) new → CommentSays st old (owed_for (Some Slight)) front → Took Sink old new c flow.Continue
-  comment-took_well old new c st front e from ok told says = comment-took old new c st front e from ok (tells-less Sink laws nothing (owed_for (Some Slight)) (emitted old) new (CommentToken front) (Ok tt) (slighted-no-more true None) told) says
+  pub comment-took_well : (old new : Tokenizer K) (c : ℕ) (st : State) (front : List ℕ) → c ≡ 62 → IsAt old st → Sink.is_sound (Sink.view old.sink) → Told Sink nothing_owed (CommentToken front) (emitted old) new → CommentSays st old (owed_for (Some Slight)) front → Took Sink old new c flow.Continue
+  comment-took_well old new c st front e from ok told says = comment-took old new c st front e from ok (tells-less Sink laws nothing_owed (owed_for (Some Slight)) (emitted old) new (CommentToken front) (Ok tt) (slighted-no-more true None) told) says
 
   pub comment-failed : (owed : Owed) (old new : Tokenizer K) (c : ℕ) (st : State) (front : List ℕ) (result : Result (ProcessResult H) ParseFault) (fault : ParseFault) → c ≡ 62 → IsAt old st → Sink.is_sound (Sink.view old.sink) → IsErrAnd result (λ y. y ≡ fault)
       → Fails Sink old.sink (Sink.step (Sink.view old.sink) (CommentToken front) (line_number old.stream.breaks)) fault → CommentSays st old owed front → Keeps Sink old new c result

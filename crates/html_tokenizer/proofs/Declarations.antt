@@ -21,7 +21,7 @@ use Rattle.html_tokenizer.specs.declared.keyword.Word.TheVariants as word
 use Rattle.html_tokenizer.specs.declared.tokenizer.Tokenizer.{Tokenizer}
 use Rattle.html_tokenizer.specs.Keywords.{becomes, may_become, may_declare, IsPart, MakesNoWord, OpensNothing}
 use Rattle.html_tokenizer.specs.Rest.{rows_of, standing, held_at}
-use Rattle.html_tokenizer.specs.Steps.{IsAt, Took, Keeps, nothing, reads, plays}
+use Rattle.html_tokenizer.specs.Steps.{IsAt, Took, Keeps, nothing_owed, reads, plays}
 use Rattle.html_tokenizer.proofs.Rises.{rises-same}
 use Rattle.html_tokenizer.proofs.Ends.{behind-one}
 use Rattle.html_tokenizer.proofs.Glue.{at, fits-at, keeps-along, no-break, now-at, took}
@@ -154,7 +154,7 @@ module _ {K H : Type 0} (Sink : Ghosts K H) (laws : SinkLaws Sink.is_sound Sink.
 
     pub cdata-opened : Sink.asks_cdata (Sink.view old.sink) ≡ true → becomes word.Cdata (old.keyword ++ c ∷ []) ≡ true → Took Sink old (record old { state = state.CdataSection }) c flow.Continue
     cdata-opened asks h = record {
-      owed = nothing;
+      owed = nothing_owed;
       rises = rises-same Sink.errors old.sink old.sink refl;
       same = λ notes t.
           now-at Sink old state.MarkupDeclarationOpen old.stream.breaks (Sink.view old.sink, notes) (c ∷ t) from

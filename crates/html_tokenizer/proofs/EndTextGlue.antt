@@ -12,7 +12,7 @@ use Rattle.html_tokens.specs.Reading.{◌>>=◌, line_number, erred_by}
 use Rattle.html_tokens.specs.Sink.{Step}
 use Rattle.html_tokenizer.specs.Calls.{at_end, Closes}
 use Rattle.html_tokenizer.specs.declared.tokenizer.Tokenizer.{Tokenizer}
-use Rattle.html_tokenizer.specs.Steps.{Owed, IsAt, more, Tells, Errs, now, nothing, Told, owed_for, hearing, together}
+use Rattle.html_tokenizer.specs.Steps.{Owed, IsAt, more, Tells, Errs, now, nothing_owed, Told, owed_for, and_heard, together}
 use Rattle.html_tokenizer.proofs.Glue.{at, now-at, bind-err, token-fails, told-next, told-works, fails-along, fails-before, sound_erred}
 use Rattle.html_tokenizer.proofs.Rises.{IsNoMore, more-more, rises-then, rises-less}
 use Rattle.html_tokenizer.proofs.Lawful.{erred-more}
@@ -38,7 +38,7 @@ module _ {K H : Type 0} (Sink : Ghosts K H) where
       → Tells Sink owed token old new result
       → Closes Sink (record old { char_ref = held }) new result
   closes_last owed old new held token (Ok x) law told = record {
-    owed = hearing (Sink.is_quiet (Sink.view old.sink) token) owed;
+    owed = and_heard (Sink.is_quiet (Sink.view old.sink) token) owed;
     rises = told.rises;
     same = λ notes. law notes ∙ told-next Sink owed old new token notes (λ s. at_end Sink old.stream.breaks s) told;
     stream = ap (λ k. k.stream) told.changed;
@@ -80,15 +80,15 @@ module _ {K H : Type 0} (Sink : Ghosts K H) where
 
   -- That token could not be told.
   pub closes_untold : (fault : Option Fault) (old new : Tokenizer K) (st : State) (token : Token) (told : ParseFault) (result : Result (Unit {0}) ParseFault) → IsAt old st → Sink.is_sound (Sink.view old.sink) → TellsThen fault st old token
-      → Tells Sink nothing token old new (Err told) → IsErrAnd result (λ y. y ≡ told) → Closes Sink old new result
+      → Tells Sink nothing_owed token old new (Err told) → IsErrAnd result (λ y. y ≡ told) → Closes Sink old new result
   closes_untold fault old new st token told result from ok law fails is =
       let p = err_from_is_err_and result is in
       rw (p.1, p.2) (λ notes.
       token-fails Sink old.sink _ (Sink.view old.sink) notes token (line_number old.stream.breaks) told (λ p. at_end Sink old.stream.breaks (erred_by noting_error fault p.0)) fails
       (now-at Sink old st old.stream.breaks (Sink.view old.sink, notes) [] from ∙ law old.stream.breaks (Sink.view old.sink, notes) ok))
 
-  behind : (fault : Option Fault) (told owed : Owed) (old mid new : Tokenizer K) (token : Token) (result : Result (Unit {0}) ParseFault) → IsNoMore (owed_for fault) told → Told Sink nothing token old mid → Errs Sink told mid new result
-      → ((notes : Notes ℕ) → now Sink old old.stream.breaks (Sink.view old.sink, notes) [] ≡ at_end Sink old.stream.breaks (Sink.view mid.sink, more (owed_for fault) (more owed notes))) → owed ≡ hearing (Sink.is_quiet (Sink.view old.sink) token) nothing → Closes Sink old new result
+  behind : (fault : Option Fault) (told owed : Owed) (old mid new : Tokenizer K) (token : Token) (result : Result (Unit {0}) ParseFault) → IsNoMore (owed_for fault) told → Told Sink nothing_owed token old mid → Errs Sink told mid new result
+      → ((notes : Notes ℕ) → now Sink old old.stream.breaks (Sink.view old.sink, notes) [] ≡ at_end Sink old.stream.breaks (Sink.view mid.sink, more (owed_for fault) (more owed notes))) → owed ≡ and_heard (Sink.is_quiet (Sink.view old.sink) token) nothing_owed → Closes Sink old new result
   behind fault told owed old mid new token (Ok x) less first h law is = record {
     owed = together (owed_for fault) owed;
     rises = rises-then Sink.errors old.sink mid.sink new.sink (rw is first.rises) (rises-less Sink.errors mid.sink new.sink less h.rises);
@@ -108,13 +108,13 @@ module _ {K H : Type 0} (Sink : Ghosts K H) where
 
   -- The token was told, and then the error of the end, or that error could not be told.
   pub closes_then : (fault : Option Fault) (told : Owed) (old mid new : Tokenizer K) (st : State) (token : Token) (result : Result (Unit {0}) ParseFault) → IsNoMore (owed_for fault) told → IsAt old st → Sink.is_sound (Sink.view old.sink) → TellsThen fault st old token
-      → Told Sink nothing token old mid → Errs Sink told mid new result → Closes Sink old new result
+      → Told Sink nothing_owed token old mid → Errs Sink told mid new result → Closes Sink old new result
   closes_then fault told old mid new st token result less from ok law first errs =
-      let owed = hearing (Sink.is_quiet (Sink.view old.sink) token) nothing in
+      let owed = and_heard (Sink.is_quiet (Sink.view old.sink) token) nothing_owed in
       let ends-behind : (notes : Notes ℕ) → now Sink old old.stream.breaks (Sink.view old.sink, notes) [] ≡ at_end Sink old.stream.breaks (Sink.view mid.sink, more (owed_for fault) (more owed notes)) =
       λ notes.
       now-at Sink old st old.stream.breaks (Sink.view old.sink, notes) [] from
       ∙ law old.stream.breaks (Sink.view old.sink, notes) ok
-      ∙ told-next Sink nothing old mid token notes (λ s. at_end Sink old.stream.breaks (erred_by noting_error fault s)) first
+      ∙ told-next Sink nothing_owed old mid token notes (λ s. at_end Sink old.stream.breaks (erred_by noting_error fault s)) first
       ∙ ap (λ s. at_end Sink old.stream.breaks s) (erred-more fault (Sink.view mid.sink, more owed notes)) in
       behind fault told owed old mid new token result less first errs ends-behind refl

@@ -12,7 +12,7 @@ use Rattle.html_tokens.specs.Sink.{◌>>=◌, Step, SinkLaws}
 use Rattle.html_tokenizer.specs.Calls.{at_end, Closes}
 use Rattle.html_tokenizer.specs.declared.tokenizer.Tokenizer.{Tokenizer}
 use Rattle.html_tokenizer.specs.Rest.{rows_of, standing}
-use Rattle.html_tokenizer.specs.Steps.{owed_for, Owed, IsAt, more, IsNoTag, Fails, Tells, hearing, reads, plays}
+use Rattle.html_tokenizer.specs.Steps.{owed_for, Owed, IsAt, more, IsNoTag, Fails, Tells, and_heard, reads, plays}
 use Rattle.html_tokenizer.proofs.Glue.{at, now-at, token-fails, told-works}
 use Rattle.html_tokenizer.proofs.Lawful.{noting-lawful, erred-sound, erred-more}
 use Rattle.html_tokenizer.proofs.Readings.{play-end}
@@ -29,7 +29,7 @@ module _ {K H : Type 0} (Sink : Ghosts K H) where
   closes-told owed old target new st token (Ok x) from same stream ok told law =
       let gives : Sink.step (Sink.view old.sink) token (line_number old.stream.breaks) ≡ Ok (Sink.view new.sink, reply.Continue) = ap (λ k. Sink.step (Sink.view k) token (line_number old.stream.breaks)) (sym same) ∙ told.gives (line_number old.stream.breaks) (ap (λ x. line_number x.breaks) (sym stream)) in
       record {
-        owed = hearing (Sink.is_quiet (Sink.view old.sink) token) owed;
+        owed = and_heard (Sink.is_quiet (Sink.view old.sink) token) owed;
         rises = rw (← same) told.rises;
         same = λ notes.
             now-at Sink old st old.stream.breaks (Sink.view old.sink, notes) [] from

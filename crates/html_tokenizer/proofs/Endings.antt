@@ -9,7 +9,7 @@ use Rattle.html_tokens.specs.Reading.{line_number}
 use Rattle.html_tokens.specs.Sink.{Step}
 use Rattle.html_tokenizer.specs.Calls.{to_come, at_end, Closed, TellsEnd}
 use Rattle.html_tokenizer.specs.declared.tokenizer.Tokenizer.{Tokenizer}
-use Rattle.html_tokenizer.specs.Steps.{Tells, nothing, hearing, together, more}
+use Rattle.html_tokenizer.specs.Steps.{Tells, nothing_owed, and_heard, together, more}
 use Rattle.html_tokenizer.proofs.Glue.{fails-before, token-fails, told-next, told-works}
 use Rattle.html_tokenizer.proofs.Rises.{more-more, rises-then}
 
@@ -20,15 +20,15 @@ module _ {K H : Type 0} (Sink : Ghosts K H) where
   closed-now old mid h notes = h.same notes ∙ ap (λ x. at_end Sink x.breaks (Sink.view mid.sink, more h.owed notes)) (sym h.stream)
 
   -- The end was told, or could not be told.
-  pub ended : (old mid new : Tokenizer K) (result : Result (Unit {0}) ParseFault) → Closed Sink old mid → Tells Sink nothing EOFToken mid new result
+  pub ended : (old mid new : Tokenizer K) (result : Result (Unit {0}) ParseFault) → Closed Sink old mid → Tells Sink nothing_owed EOFToken mid new result
       → TellsEnd Sink old new result
   ended old mid new (Ok x) h told = record {
-    owed = together (hearing (Sink.is_quiet (Sink.view mid.sink) EOFToken) nothing) h.owed;
+    owed = together (and_heard (Sink.is_quiet (Sink.view mid.sink) EOFToken) nothing_owed) h.owed;
     rises = rises-then Sink.errors old.sink mid.sink new.sink h.rises told.rises;
     same = λ notes.
         closed-now old mid h notes
-        ∙ told-next Sink nothing mid new EOFToken (more h.owed notes) (λ s. Ok (noting_end Sink.ended s)) told
-        ∙ ap (λ n. Ok (Sink.ended (Sink.view new.sink), n)) (more-more (hearing (Sink.is_quiet (Sink.view mid.sink) EOFToken) nothing) h.owed notes);
+        ∙ told-next Sink nothing_owed mid new EOFToken (more h.owed notes) (λ s. Ok (noting_end Sink.ended s)) told
+        ∙ ap (λ n. Ok (Sink.ended (Sink.view new.sink), n)) (more-more (and_heard (Sink.is_quiet (Sink.view mid.sink) EOFToken) nothing_owed) h.owed notes);
     stream = ap (λ k. k.stream) told.changed ∙ h.stream;
     sound = told.sound;
     works = λ e. told-works told.works e;

@@ -12,7 +12,7 @@ use Rattle.html_tokens.specs.Sink.{Step}
 use Rattle.html_tokenizer.specs.declared.tokenizer.Tokenizer.{Tokenizer}
 use Rattle.html_tokenizer.specs.Rest.{pending}
 use Rattle.html_tokenizer.specs.Calls.{KeepsRun}
-use Rattle.html_tokenizer.specs.Steps.{now, Owed, Erred, Errs, Keeps, nothing, owed_for, owed_for_each, together}
+use Rattle.html_tokenizer.specs.Steps.{now, Owed, Erred, Errs, Keeps, nothing_owed, owed_for, owed_for_each, together}
 use Rattle.html_tokenizer.proofs.Glue.{fails-before}
 use Rattle.html_tokenizer.proofs.HeldRefused.{held-refused}
 use Rattle.html_tokenizer.proofs.Refused.{noting-refused, noting-errs, every-fails}
@@ -20,7 +20,7 @@ use Rattle.html_tokenizer.proofs.Rises.{rises-then, rises-less, each-more}
 
 module _ {K H : Type 0} (Sink : Ghosts K H) where
   -- An error could not be told, so nothing that is to come could, whatever reference was held.
-  pub keeps_refused : (old new : Tokenizer K) (held : Option (List ℕ)) (c : ℕ) (fault : ParseFault) (result : Result (ProcessResult H) ParseFault) → Errs Sink nothing old new (Err fault)
+  pub keeps_refused : (old new : Tokenizer K) (held : Option (List ℕ)) (c : ℕ) (fault : ParseFault) (result : Result (ProcessResult H) ParseFault) → Errs Sink nothing_owed old new (Err fault)
       → IsErrAnd result (λ y. y ≡ fault) → Keeps Sink (record old { char_ref = held }) new c result
   keeps_refused old new held c fault result fails is =
       let p = err_from_is_err_and result is in
@@ -31,7 +31,7 @@ module _ {K H : Type 0} (Sink : Ghosts K H) where
       (noting-refused Sink (Sink.view old.sink) notes h)))
 
   -- The same of a run.
-  pub run_refused : (old new : Tokenizer K) (run : List ℕ) (fault : ParseFault) (result : Result (Unit {0}) ParseFault) → Errs Sink nothing old new (Err fault)
+  pub run_refused : (old new : Tokenizer K) (run : List ℕ) (fault : ParseFault) (result : Result (Unit {0}) ParseFault) → Errs Sink nothing_owed old new (Err fault)
       → IsErrAnd result (λ y. y ≡ fault) → KeepsRun Sink old new run result
   run_refused old new run fault result fails is =
       let p = err_from_is_err_and result is in
@@ -57,7 +57,7 @@ module _ {K H : Type 0} (Sink : Ghosts K H) where
       record { sink = both.sink; changed = both.changed; works = both.works; rises = rises-less Sink.errors old.sink new.sink (each-more passes front c) both.rises }
 
   -- Errors were told, and then one could not be told.
-  pub errs-behind : {m : Owed} (n : Owed) (old mid new : Tokenizer K) (fault : ParseFault) (result : Result (Unit {0}) ParseFault) → Erred Sink m old mid → Errs Sink nothing mid new (Err fault)
+  pub errs-behind : {m : Owed} (n : Owed) (old mid new : Tokenizer K) (fault : ParseFault) (result : Result (Unit {0}) ParseFault) → Erred Sink m old mid → Errs Sink nothing_owed mid new (Err fault)
       → IsErrAnd result (λ y. y ≡ fault) → Errs Sink n old new result
   errs-behind n old mid new fault result h fails is =
       let p = err_from_is_err_and result is in

@@ -12,7 +12,7 @@ use Rattle.html_tokens.specs.Sink.{Step, Reply, Gives, Counts, IsIdle, IsReplyTo
 use Rattle.html_tokens.specs.declared.replies.TokenSinkResult.TheVariants as reply
 use Rattle.html_tokens.specs.declared.sink.TokenSink.{Ghosts}
 use Rattle.html_tokenizer.specs.declared.tokenizer.Tokenizer.{Tokenizer}
-use Rattle.html_tokenizer.specs.Steps.{IsNoTag, Owed, Fails, Told, Tells, Erred, Errs, nothing, Rises, hearing}
+use Rattle.html_tokenizer.specs.Steps.{IsNoTag, Owed, Fails, Told, Tells, Erred, Errs, nothing_owed, Rises, and_heard}
 use Rattle.html_tokenizer.proofs.Glue.{fails-before}
 use Rattle.html_tokenizer.proofs.Rises.{IsNoMore, no-more-heard, rises-heard, rises-less, rises-told}
 use Rattle.html_tokenizer.proofs.Lawful.{reply-to}
@@ -32,13 +32,13 @@ module _ {K H : Type 0} (Sink : Ghosts K H) (laws : SinkLaws Sink.is_sound Sink.
       rw (p.1, p.2) (idle-fails old.sink (Sink.view old.sink) after h idle is own fault given works)
 
   -- an error was told, and then a token
-  pub tells-erred : (owed : Owed) (old mid new : Tokenizer K) (token : Token) (result : Result (Unit {0}) ParseFault) → Erred Sink owed old mid → Tells Sink nothing token mid new result → Tells Sink owed token old new result
+  pub tells-erred : (owed : Owed) (old mid new : Tokenizer K) (token : Token) (result : Result (Unit {0}) ParseFault) → Erred Sink owed old mid → Tells Sink nothing_owed token mid new result → Tells Sink owed token old new result
   tells-erred owed old mid new token (Ok x) h told = record {
     gives = λ line e. ap (λ s. Sink.step s token line) (sym h.sink) ∙ told.gives line (e ∙ ap (λ k. line_number k.stream.breaks) (sym h.changed));
     changed = told.changed ∙ ap {A = Tokenizer K} (λ k. record k { sink = new.sink }) h.changed;
     sound = told.sound;
     works = told.works;
-    rises = subst (λ s. Rises Sink.errors (hearing (Sink.is_quiet s token) owed) old.sink new.sink) h.sink (rises-heard Sink.errors (Sink.is_quiet (Sink.view mid.sink) token) old.sink mid.sink new.sink h.rises told.rises);
+    rises = subst (λ s. Rises Sink.errors (and_heard (Sink.is_quiet s token) owed) old.sink new.sink) h.sink (rises-heard Sink.errors (Sink.is_quiet (Sink.view mid.sink) token) old.sink mid.sink new.sink h.rises told.rises);
   }
   tells-erred owed old mid new token (Err fault) h fails =
       let f : Fails Sink mid.sink (Sink.step (Sink.view old.sink) token (line_number old.stream.breaks)) fault = rw (← h.sink) (rw (ap (λ k. line_number k.stream.breaks) h.changed) at fails) in
@@ -55,7 +55,7 @@ module _ {K H : Type 0} (Sink : Ghosts K H) (laws : SinkLaws Sink.is_sound Sink.
   }
   tells-less owed less old new token (Err fault) no_more fails = fails
 
-  pub tells-failed : (owed : Owed) (old mid new : Tokenizer K) (token : Token) (fault : ParseFault) (result : Result (Unit {0}) ParseFault) → Errs Sink nothing old mid (Err fault) → IsErrAnd result (λ y. y ≡ fault) → Tells Sink owed token old new result
+  pub tells-failed : (owed : Owed) (old mid new : Tokenizer K) (token : Token) (fault : ParseFault) (result : Result (Unit {0}) ParseFault) → Errs Sink nothing_owed old mid (Err fault) → IsErrAnd result (λ y. y ≡ fault) → Tells Sink owed token old new result
   tells-failed owed old mid new token fault result h e =
       let p = err_from_is_err_and result e in
       rw (p.1, p.2) (h token (line_number old.stream.breaks))
@@ -66,7 +66,7 @@ module _ {K H : Type 0} (Sink : Ghosts K H) (laws : SinkLaws Sink.is_sound Sink.
 
   -- a token that is neither a tag nor an error was told
   pub told-alone : (old : Tokenizer K) (sink : K) (token : Token) (line : ℕ) (answer : TokenSinkResult H) → IsNoTag token → Sink.is_sound (Sink.view old.sink) → line ≡ line_number old.stream.breaks → Gives Sink.number (Sink.step (Sink.view old.sink) token line) (Ok answer) (Sink.view sink) → Sink.is_sound (Sink.view sink) → Sink.has_failed sink ≡ false
-      → Counts (Sink.is_quiet (Sink.view old.sink) token) token (Ok answer) (Sink.errors old.sink) (Sink.errors sink) → Told Sink nothing token old (record old { sink = sink })
+      → Counts (Sink.is_quiet (Sink.view old.sink) token) token (Ok answer) (Sink.errors old.sink) (Sink.errors sink) → Told Sink nothing_owed token old (record old { sink = sink })
   told-alone old sink token line answer none ok here given kept works counts = record {
     gives = λ l e. ap (Sink.step (Sink.view old.sink) token) (e ∙ sym here) ∙ goes-on (Sink.view old.sink) ok token none line (Sink.view sink) (numbered Sink.number answer) given;
     changed = refl;

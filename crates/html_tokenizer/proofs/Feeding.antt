@@ -17,7 +17,7 @@ use Rattle.html_tokenizer.specs.Input.{coming_in, newline_for, last_of, ComesAs,
 use Rattle.html_tokenizer.specs.declared.tokenizer.Stream.{Stream}
 use Rattle.html_tokenizer.specs.declared.tokenizer.Tokenizer.{Tokenizer}
 use Rattle.html_tokenizer.specs.Rest.{pending, coming}
-use Rattle.html_tokenizer.specs.Steps.{Owed, PausesAt, paused_by, more, noted_by, Rises, now, nothing, together}
+use Rattle.html_tokenizer.specs.Steps.{Owed, PausesAt, paused_by, more, noted_by, Rises, now, nothing_owed, together}
 use Rattle.html_tokenizer.proofs.Rises.{more-more, char-no-more, text-no-more, none-no-more, rises-same, rises-less, rises-besides}
 use Rattle.std.specs.Prelude.{if◌then◌else◌}
 use Rattle.html_tokenizer.proofs.InputChars.{takes-more}
@@ -73,7 +73,7 @@ module _ {K H : Type 0} (Sink : Ghosts K H) where
     pub exact : new.stream.exact_errors ≡ old.stream.exact_errors
 
   pub started : (old : Tokenizer K) (from : Queue) → IsReady Sink old → Going old old from from
-  started old from ready = record { taken = []; takes = record { split = refl; counted = omega arith }; came = []; comes = λ t. refl; owed = nothing; rises = rises-less Sink.errors old.sink old.sink (none-no-more old.stream.exact_errors) (rises-same Sink.errors old.sink old.sink refl); same = λ notes t. refl; ready = ready; works = λ h. h; ended = refl; failed = refl; exact = refl }
+  started old from ready = record { taken = []; takes = record { split = refl; counted = omega arith }; came = []; comes = λ t. refl; owed = nothing_owed; rises = rises-less Sink.errors old.sink old.sink (none-no-more old.stream.exact_errors) (rises-same Sink.errors old.sink old.sink refl); same = λ notes t. refl; ready = ready; works = λ h. h; ended = refl; failed = refl; exact = refl }
 
   -- what was to come over all that was taken
   both-taken : (old mid new : Tokenizer K) (from via to : Queue) (result : ProcessResult H) (h : Going old mid from via) (m : Moved Sink mid new via to result) (notes : Notes ℕ) (t : List ℕ)
@@ -170,7 +170,7 @@ module _ {K H : Type 0} (Sink : Ghosts K H) where
     takes = h.takes;
     came = [];
     comes = h.all;
-    owed = nothing;
+    owed = nothing_owed;
     rises = rises-less Sink.errors old.sink mid.sink (none-no-more old.stream.exact_errors) (rises-same Sink.errors old.sink mid.sink (ap (λ (k : Tokenizer K). k.sink) is));
     same = λ notes t. comes-to old mid (h.taken ++ t) (coming_in mid.stream t) notes h.changed is (h.all t);
     ready = other-fits old mid is ready;

@@ -26,7 +26,7 @@ use Rattle.html_tokenizer.specs.declared.tokenizer.Stream.{Stream}
 use Rattle.html_tokenizer.specs.declared.tokenizer.Tokenizer.{Tokenizer}
 use Rattle.html_tokenizer.specs.Rest.{rows_of, standing, pending, held_at}
 use Rattle.html_tokenizer.proofs.Readings.{sum-zero}
-use Rattle.html_tokenizer.specs.Steps.{Owed, nothing, owed_for, hearing, together, owed_by, IsAt, paused_by, more, noted_by, Rises, now, Fails, Told, Erred, Took, Keeps, EndsTag, reads}
+use Rattle.html_tokenizer.specs.Steps.{Owed, nothing_owed, owed_for, and_heard, together, owed_by, IsAt, paused_by, more, noted_by, Rises, now, Fails, Told, Erred, Took, Keeps, EndsTag, reads}
 use Rattle.html_tokenizer.proofs.Rises.{more-more, heard-more, rises-slight, rises-then, rises-less}
 
 -- a character that is no line break ends no line
@@ -198,7 +198,7 @@ module _ {K H : Type 0} (Sink : Ghosts K H) where
 
   -- what is to come where a token was told behind what is owed
   pub told-next : {owed : Owed} (owing : Owed) (old mid : Tokenizer K) (token : Token) (notes : Notes ℕ) (next : Sink.State × Notes ℕ → Result (Sink.State × Notes ℕ) (Refusal × ℕ)) → Told Sink owed token old mid
-      → (noting Sink.step Sink.is_quiet (Sink.view old.sink, more owing notes) token (line_number old.stream.breaks) >>= λ p. next p.0) ≡ next (Sink.view mid.sink, more (hearing (Sink.is_quiet (Sink.view old.sink) token) owing) notes)
+      → (noting Sink.step Sink.is_quiet (Sink.view old.sink, more owing notes) token (line_number old.stream.breaks) >>= λ p. next p.0) ≡ next (Sink.view mid.sink, more (and_heard (Sink.is_quiet (Sink.view old.sink) token) owing) notes)
   told-next owing old mid token notes next told =
       ap (λ r. noted (heard (Sink.is_quiet (Sink.view old.sink) token) (more owing notes)) r >>= λ p. next p.0) (told.gives (line_number old.stream.breaks) refl)
       ∙ ap (λ n. next (Sink.view mid.sink, n)) (heard-more (Sink.is_quiet (Sink.view old.sink) token) owing notes)
@@ -213,13 +213,13 @@ module _ {K H : Type 0} (Sink : Ghosts K H) where
       → Says st old c owed token (λ b s t. at Sink st' target (b + line_break (nat_eq c 10)) s t)
       → Took Sink old new c flow.Continue
   took_told {owed} old mid new target c st st' token from ok told is to stream law = rw is (record {
-    owed = hearing (Sink.is_quiet (Sink.view old.sink) token) owed;
+    owed = and_heard (Sink.is_quiet (Sink.view old.sink) token) owed;
     rises = told.rises;
     same = λ notes t.
         now-at Sink old st old.stream.breaks (Sink.view old.sink, notes) (c ∷ t) from
         ∙ law old.stream.breaks (Sink.view old.sink, notes) ok t
         ∙ told-next owed old mid token notes (λ s. at Sink st' target (old.stream.breaks + line_break (nat_eq c 10)) s t) told
-        ∙ sym (now-target target mid.sink st' (old.stream.breaks + line_break (nat_eq c 10)) (Sink.view mid.sink, more (hearing (Sink.is_quiet (Sink.view old.sink) token) owed) notes) t to);
+        ∙ sym (now-target target mid.sink st' (old.stream.breaks + line_break (nat_eq c 10)) (Sink.view mid.sink, more (and_heard (Sink.is_quiet (Sink.view old.sink) token) owed) notes) t to);
     stream = stream;
     sound = told.sound;
     fits = fits-at target st' to;
@@ -237,14 +237,14 @@ module _ {K H : Type 0} (Sink : Ghosts K H) where
       let source' : Tokenizer K = record source { sink = old.sink; stream = old.stream } in
       let is : source' ≡ source = rw (← same, ← stream) refl in
       record {
-        owed = hearing (Sink.is_quiet (Sink.view old.sink) token) owed;
+        owed = and_heard (Sink.is_quiet (Sink.view old.sink) token) owed;
         rises = told'.rises;
         same = λ notes t.
             now-at Sink old st old.stream.breaks (Sink.view old.sink, notes) (c ∷ t) from
             ∙ law old.stream.breaks (Sink.view old.sink, notes) ok t
             ∙ told-next owed source' new token notes (λ s. at Sink st' source (old.stream.breaks + line_break (nat_eq c 10)) s t) told'
-            ∙ sym (now-target source new.sink st' (old.stream.breaks + line_break (nat_eq c 10)) (Sink.view new.sink, more (hearing (Sink.is_quiet (Sink.view old.sink) token) owed) notes) t to)
-            ∙ sym (ap (λ k. now Sink k (old.stream.breaks + line_break (nat_eq c 10)) (Sink.view k.sink, more (hearing (Sink.is_quiet (Sink.view old.sink) token) owed) notes) t) told.changed);
+            ∙ sym (now-target source new.sink st' (old.stream.breaks + line_break (nat_eq c 10)) (Sink.view new.sink, more (and_heard (Sink.is_quiet (Sink.view old.sink) token) owed) notes) t to)
+            ∙ sym (ap (λ k. now Sink k (old.stream.breaks + line_break (nat_eq c 10)) (Sink.view k.sink, more (and_heard (Sink.is_quiet (Sink.view old.sink) token) owed) notes) t) told.changed);
         stream = ap (λ k. k.stream) told.changed ∙ stream;
         sound = told.sound;
         fits = ap (λ k. fits_in k.char_ref k.state) told.changed ∙ fits-at source st' to;
@@ -278,10 +278,10 @@ module _ {K H : Type 0} (Sink : Ghosts K H) where
   keeps-behind owed old mid new c (Err fault) stream works rises e h = λ notes t. fails-along old.sink _ _ fault (e notes t) (rw (← stream) (fails-before mid.sink old.sink _ fault works (h (more owed notes) t)))
 
   -- the same with none
-  pub keeps-along : (old mid new : Tokenizer K) (c : ℕ) (result : Result (ProcessResult H) ParseFault) → mid.stream ≡ old.stream → (Sink.has_failed mid.sink ≡ true → Sink.has_failed old.sink ≡ true) → Rises Sink.errors nothing old.sink mid.sink
+  pub keeps-along : (old mid new : Tokenizer K) (c : ℕ) (result : Result (ProcessResult H) ParseFault) → mid.stream ≡ old.stream → (Sink.has_failed mid.sink ≡ true → Sink.has_failed old.sink ≡ true) → Rises Sink.errors nothing_owed old.sink mid.sink
       → ((notes : Notes ℕ) (t : List ℕ) → now Sink old old.stream.breaks (Sink.view old.sink, notes) (c ∷ t) ≡ now Sink mid old.stream.breaks (Sink.view mid.sink, notes) (c ∷ t))
       → Keeps Sink mid new c result → Keeps Sink old new c result
-  keeps-along old mid new c result stream works rises e h = keeps-behind nothing old mid new c result stream works rises e h
+  keeps-along old mid new c result stream works rises e h = keeps-behind nothing_owed old mid new c result stream works rises e h
 
   -- The character, which may be odd here, is taken by another state, which nothing led to but the machine's own fields.
   pub keeps_marked : (odd : Bool) (old mid new : Tokenizer K) (c : ℕ) (st st' : State) (result : Result (ProcessResult H) ParseFault) → IsAt old st → IsAt mid st' → mid.stream ≡ old.stream → mid.sink ≡ old.sink
@@ -306,12 +306,12 @@ module _ {K H : Type 0} (Sink : Ghosts K H) where
       → Says st old c owed token (λ b s t. at Sink st' target b s (c ∷ t))
       → Keeps Sink on new c result → Keeps Sink old new c result
   keeps_told {owed} old mid on new target c st st' token result from ok told is to stream law h =
-      keeps-behind (hearing (Sink.is_quiet (Sink.view old.sink) token) owed) old on new c result (ap (λ k. k.stream) is ∙ stream) (λ h. told-works told.works (ap (λ k. Sink.has_failed k.sink) (sym is) ∙ h)) (rw is told.rises) (λ notes t.
+      keeps-behind (and_heard (Sink.is_quiet (Sink.view old.sink) token) owed) old on new c result (ap (λ k. k.stream) is ∙ stream) (λ h. told-works told.works (ap (λ k. Sink.has_failed k.sink) (sym is) ∙ h)) (rw is told.rises) (λ notes t.
       now-at Sink old st old.stream.breaks (Sink.view old.sink, notes) (c ∷ t) from
       ∙ law old.stream.breaks (Sink.view old.sink, notes) ok t
       ∙ told-next owed old mid token notes (λ s. at Sink st' target old.stream.breaks s (c ∷ t)) told
-      ∙ sym (now-target target mid.sink st' old.stream.breaks (Sink.view mid.sink, more (hearing (Sink.is_quiet (Sink.view old.sink) token) owed) notes) (c ∷ t) to)
-      ∙ sym (ap (λ k. now Sink k old.stream.breaks (Sink.view k.sink, more (hearing (Sink.is_quiet (Sink.view old.sink) token) owed) notes) (c ∷ t)) is)) h
+      ∙ sym (now-target target mid.sink st' old.stream.breaks (Sink.view mid.sink, more (and_heard (Sink.is_quiet (Sink.view old.sink) token) owed) notes) (c ∷ t) to)
+      ∙ sym (ap (λ k. now Sink k old.stream.breaks (Sink.view k.sink, more (and_heard (Sink.is_quiet (Sink.view old.sink) token) owed) notes) (c ∷ t)) is)) h
 
   -- The tag was told, and the character ended it.
   pub took_tag : (old new : Tokenizer K) (c : ℕ) (st : State) (result : Result (ProcessResult H) ParseFault) → IsAt old st → c ≡ 62 → EndsTag Sink old new result

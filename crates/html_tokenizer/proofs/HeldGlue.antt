@@ -17,7 +17,7 @@ use Rattle.html_tokens.specs.Sink.{Step}
 use Rattle.html_tokenizer.specs.CharRefs.{is_held, may_hold}
 use Rattle.html_tokenizer.specs.declared.tokenizer.Tokenizer.{Tokenizer}
 use Rattle.html_tokenizer.specs.Rest.{held_at}
-use Rattle.html_tokenizer.specs.Steps.{Owed, hearing, IsAt, more as more_noted, Fails, Told, Took, Keeps, now, nothing}
+use Rattle.html_tokenizer.specs.Steps.{Owed, and_heard, IsAt, more as more_noted, Fails, Told, Took, Keeps, now, nothing_owed}
 use Rattle.html_tokenizer.proofs.Glue.{at, keeps-behind, no-break, now-target, token-fails, told-next, told-works}
 use Rattle.html_tokenizer.proofs.HeldReadings.{held-unbroken}
 use Rattle.html_tokenizer.proofs.Rises.{rises-same}
@@ -45,7 +45,7 @@ module _ {K H : Type 0} (Sink : Ghosts K H) where
   pub took-held : (old : Tokenizer K) (c : ℕ) (cs more : List ℕ) → may_hold old.state ≡ true → Sink.is_sound (Sink.view old.sink) → is_held c ≡ true → more ≡ cs ++ c ∷ []
       → Took Sink (record old { char_ref = Some cs }) (record old { char_ref = Some more }) c flow.Continue
   took-held old c cs more fits ok held is = record {
-    owed = nothing;
+    owed = nothing_owed;
     rises = rises-same Sink.errors old.sink old.sink refl;
     same = λ notes t.
         now-held old old.state cs old.stream.breaks (Sink.view old.sink, notes) (c ∷ t) refl fits
@@ -68,7 +68,7 @@ module _ {K H : Type 0} (Sink : Ghosts K H) where
       → Told Sink owed token old mid → Resolves st old cs c owed token
       → Keeps Sink mid new c result → Keeps Sink (record old { char_ref = Some cs }) new c result
   keeps-resolved {owed} old mid new cs c st token result from fits ok told law h =
-      let heard = hearing (Sink.is_quiet (Sink.view old.sink) token) owed in
+      let heard = and_heard (Sink.is_quiet (Sink.view old.sink) token) owed in
       keeps-behind Sink heard (record old { char_ref = Some cs }) mid new c result (ap (λ k. k.stream) told.changed) (λ h. told-works told.works h) told.rises (λ notes t.
       now-held old st cs old.stream.breaks (Sink.view old.sink, notes) (c ∷ t) from.state fits
       ∙ law old.stream.breaks (Sink.view old.sink, notes) ok t

@@ -21,7 +21,7 @@ use Rattle.html_tokens.specs.Reading.{◌>>=◌, line_number, line_break}
 use Rattle.html_tokens.specs.Sink.{Step, SinkLaws}
 use Rattle.html_tokenizer.specs.declared.tokenizer.Tokenizer.{Tokenizer}
 use Rattle.html_tokenizer.specs.Rest.{rows_of, standing, kind_after, held_at}
-use Rattle.html_tokenizer.specs.Steps.{IsAt, Fails, Told, TakesAs, Took, Keeps, nothing}
+use Rattle.html_tokenizer.specs.Steps.{IsAt, Fails, Told, TakesAs, Took, Keeps, nothing_owed}
 use Rattle.html_tokenizer.specs.Words.{may_escape}
 use Rattle.html_tokenizer.proofs.Lawful.{noting-lawful}
 use Rattle.html_tokenizer.proofs.Readings.{sum-zero}
@@ -51,7 +51,7 @@ module _ {K H : Type 0} (Sink : Ghosts K H) (laws : SinkLaws Sink.is_sound Sink.
       (λ b s t. held-open Sink old kind b s (47 ∷ t) h ∙ ap (λ n. raw_text Sink old kind n s (60 ∷ 47 ∷ t)) (sym (sum-zero b))))
 
   -- "<" was text
-  less-says : (old : Tokenizer K) (kind : RawKind) (c : ℕ) → ends_at_tag kind ≡ true → may_escape kind c ≡ false → nat_eq c 47 ≡ false → Says Sink (state.RawLessThanSign kind) old c nothing (CharacterTokens (60 ∷ [])) (λ b s t. at Sink (state.RawData kind) (record old { state = state.RawData kind }) b s (c ∷ t))
+  less-says : (old : Tokenizer K) (kind : RawKind) (c : ℕ) → ends_at_tag kind ≡ true → may_escape kind c ≡ false → nat_eq c 47 ≡ false → Says Sink (state.RawLessThanSign kind) old c nothing_owed (CharacterTokens (60 ∷ [])) (λ b s t. at Sink (state.RawData kind) (record old { state = state.RawData kind }) b s (c ∷ t))
   unfolding held_at
   less-says old kind c e p f b s h t =
       held-open Sink old kind b s (c ∷ t) e
@@ -59,25 +59,25 @@ module _ {K H : Type 0} (Sink : Ghosts K H) (laws : SinkLaws Sink.is_sound Sink.
       ∙ ap (λ k. noting Sink.step Sink.is_quiet s (CharacterTokens (60 ∷ [])) (line_number b) >>= λ p. raw_text Sink old k b p.0 (c ∷ t)) (kind-open kind c t p)
 
   pub less-kept : (old mid new : Tokenizer K) (kind : RawKind) (c : ℕ) (result : Result (ProcessResult H) ParseFault) → IsAt old (state.RawLessThanSign kind) → Sink.is_sound (Sink.view old.sink) → ends_at_tag kind ≡ true → may_escape kind c ≡ false → (c ≡ 47 → ⊥)
-      → Told Sink nothing (CharacterTokens (60 ∷ [])) (record old { state = state.RawData kind }) mid → Keeps Sink mid new c result → Keeps Sink old new c result
+      → Told Sink nothing_owed (CharacterTokens (60 ∷ [])) (record old { state = state.RawData kind }) mid → Keeps Sink mid new c result → Keeps Sink old new c result
   less-kept old mid new kind c result from ok e p f told h = keeps_then Sink old (record old { state = state.RawData kind }) mid new c (state.RawLessThanSign kind) (state.RawData kind) (CharacterTokens (60 ∷ [])) result from (record { state = refl; fresh = from.fresh }) refl refl ok told (less-says old kind c e p (ne_eqb c 47 f)) h
 
   pub less-failed : (old new : Tokenizer K) (kind : RawKind) (c : ℕ) (result : Result (ProcessResult H) ParseFault) (fault : ParseFault) → IsAt old (state.RawLessThanSign kind) → Sink.is_sound (Sink.view old.sink) → ends_at_tag kind ≡ true → may_escape kind c ≡ false → (c ≡ 47 → ⊥) → IsErrAnd result (λ y. y ≡ fault)
       → Fails Sink old.sink (Sink.step (Sink.view old.sink) (CharacterTokens (60 ∷ [])) (line_number old.stream.breaks)) fault → Keeps Sink old new c result
-  less-failed old new kind c result fault from ok e p f is fails = not-told_from Sink nothing old old new c (state.RawLessThanSign kind) (CharacterTokens (60 ∷ [])) result fault _ from refl refl ok is fails (less-says old kind c e p (ne_eqb c 47 f))
+  less-failed old new kind c result fault from ok e p f is fails = not-told_from Sink nothing_owed old old new c (state.RawLessThanSign kind) (CharacterTokens (60 ∷ [])) result fault _ from refl refl ok is fails (less-says old kind c e p (ne_eqb c 47 f))
 
   -- "<!" in the text of a script
-  bang-says : (old : Tokenizer K) → Says Sink (state.RawLessThanSign raw.ScriptData) old 33 nothing (CharacterTokens (60 ∷ 33 ∷ [])) (λ b s t. at Sink (state.ScriptDataEscapeStart script.Escaped) (record old { state = state.ScriptDataEscapeStart script.Escaped }) (b + line_break (nat_eq 33 10)) s t)
+  bang-says : (old : Tokenizer K) → Says Sink (state.RawLessThanSign raw.ScriptData) old 33 nothing_owed (CharacterTokens (60 ∷ 33 ∷ [])) (λ b s t. at Sink (state.ScriptDataEscapeStart script.Escaped) (record old { state = state.ScriptDataEscapeStart script.Escaped }) (b + line_break (nat_eq 33 10)) s t)
   unfolding held_at
   bang-says old b s h t =
       two-says old raw.ScriptData b s h 33 t refl refl refl refl (fits-none old raw.ScriptData (33 ∷ t) (fitting-slash old.last_start_tag 33 t refl))
       ∙ ap (λ n. noting Sink.step Sink.is_quiet s (CharacterTokens (60 ∷ 33 ∷ [])) (line_number b) >>= λ p. raw_text Sink old (kind_after raw.ScriptData (60 ∷ 33 ∷ []) t) n p.0 t) (sym (sum-zero b))
 
-  pub bang-told : (old new : Tokenizer K) (c : ℕ) (result : Result (ProcessResult H) ParseFault) → IsAt old (state.RawLessThanSign raw.ScriptData) → Sink.is_sound (Sink.view old.sink) → c ≡ 33 → TakesAs Sink nothing (CharacterTokens (60 ∷ 33 ∷ [])) (record old { state = state.ScriptDataEscapeStart script.Escaped }) new result → Keeps Sink old new c result
-  bang-told old new c result from ok e told = rw e (keeps_taken Sink nothing old (record old { state = state.ScriptDataEscapeStart script.Escaped }) new 33 (state.RawLessThanSign raw.ScriptData) (state.ScriptDataEscapeStart script.Escaped) (CharacterTokens (60 ∷ 33 ∷ [])) result from (record { state = refl; fresh = from.fresh }) refl refl ok told (bang-says old))
+  pub bang-told : (old new : Tokenizer K) (c : ℕ) (result : Result (ProcessResult H) ParseFault) → IsAt old (state.RawLessThanSign raw.ScriptData) → Sink.is_sound (Sink.view old.sink) → c ≡ 33 → TakesAs Sink nothing_owed (CharacterTokens (60 ∷ 33 ∷ [])) (record old { state = state.ScriptDataEscapeStart script.Escaped }) new result → Keeps Sink old new c result
+  bang-told old new c result from ok e told = rw e (keeps_taken Sink nothing_owed old (record old { state = state.ScriptDataEscapeStart script.Escaped }) new 33 (state.RawLessThanSign raw.ScriptData) (state.ScriptDataEscapeStart script.Escaped) (CharacterTokens (60 ∷ 33 ∷ [])) result from (record { state = refl; fresh = from.fresh }) refl refl ok told (bang-says old))
 
   -- "<" and a letter in escaped text
-  letter-says : (old : Tokenizer K) (word : List ℕ) (c : ℕ) → is_ascii_alphabetic c ≡ true → word ≡ c ∷ [] → Says Sink (state.RawLessThanSign (raw.ScriptDataEscaped script.Escaped)) old c nothing (CharacterTokens (60 ∷ c ∷ [])) (λ b s t. at Sink (state.ScriptDataEscapeStart script.DoubleEscaped) (record old { word = word; state = state.ScriptDataEscapeStart script.DoubleEscaped }) (b + line_break (nat_eq c 10)) s t)
+  letter-says : (old : Tokenizer K) (word : List ℕ) (c : ℕ) → is_ascii_alphabetic c ≡ true → word ≡ c ∷ [] → Says Sink (state.RawLessThanSign (raw.ScriptDataEscaped script.Escaped)) old c nothing_owed (CharacterTokens (60 ∷ c ∷ [])) (λ b s t. at Sink (state.ScriptDataEscapeStart script.DoubleEscaped) (record old { word = word; state = state.ScriptDataEscapeStart script.DoubleEscaped }) (b + line_break (nat_eq c 10)) s t)
   unfolding held_at
   letter-says old word c l e b s h t =
       let kind = raw.ScriptDataEscaped script.Escaped in
@@ -85,18 +85,18 @@ module _ {K H : Type 0} (Sink : Ghosts K H) (laws : SinkLaws Sink.is_sound Sink.
       ∙ ap (λ n. noting Sink.step Sink.is_quiet s (CharacterTokens (60 ∷ c ∷ [])) (line_number b) >>= λ p. raw_text Sink old (kind_after kind (60 ∷ c ∷ []) t) n p.0 t) (sym (no-break b c (letter-no_break c l)))
       ∙ ap (λ w. noting Sink.step Sink.is_quiet s (CharacterTokens (60 ∷ c ∷ [])) (line_number b) >>= λ p. raw_text Sink old (kind_after kind (60 ∷ w) t) (b + line_break (nat_eq c 10)) p.0 t) (sym e)
 
-  pub letter-told : (old new : Tokenizer K) (word : List ℕ) (c : ℕ) (result : Result (ProcessResult H) ParseFault) → IsAt old (state.RawLessThanSign (raw.ScriptDataEscaped script.Escaped)) → Sink.is_sound (Sink.view old.sink) → is_ascii_alphabetic c ≡ true → word ≡ c ∷ [] → TakesAs Sink nothing (CharacterTokens (60 ∷ c ∷ [])) (record old { word = word; state = state.ScriptDataEscapeStart script.DoubleEscaped }) new result → Keeps Sink old new c result
-  letter-told old new word c result from ok l e told = keeps_taken Sink nothing old (record old { word = word; state = state.ScriptDataEscapeStart script.DoubleEscaped }) new c (state.RawLessThanSign (raw.ScriptDataEscaped script.Escaped)) (state.ScriptDataEscapeStart script.DoubleEscaped) (CharacterTokens (60 ∷ c ∷ [])) result from (record { state = refl; fresh = from.fresh }) refl refl ok told (letter-says old word c l e)
+  pub letter-told : (old new : Tokenizer K) (word : List ℕ) (c : ℕ) (result : Result (ProcessResult H) ParseFault) → IsAt old (state.RawLessThanSign (raw.ScriptDataEscaped script.Escaped)) → Sink.is_sound (Sink.view old.sink) → is_ascii_alphabetic c ≡ true → word ≡ c ∷ [] → TakesAs Sink nothing_owed (CharacterTokens (60 ∷ c ∷ [])) (record old { word = word; state = state.ScriptDataEscapeStart script.DoubleEscaped }) new result → Keeps Sink old new c result
+  letter-told old new word c result from ok l e told = keeps_taken Sink nothing_owed old (record old { word = word; state = state.ScriptDataEscapeStart script.DoubleEscaped }) new c (state.RawLessThanSign (raw.ScriptDataEscaped script.Escaped)) (state.ScriptDataEscapeStart script.DoubleEscaped) (CharacterTokens (60 ∷ c ∷ [])) result from (record { state = refl; fresh = from.fresh }) refl refl ok told (letter-says old word c l e)
 
   -- behind "<" in text that is escaped twice
-  deep_slash-says : (old : Tokenizer K) (word : List ℕ) → word ≡ [] → Says Sink (state.RawLessThanSign (raw.ScriptDataEscaped script.DoubleEscaped)) old 47 nothing (CharacterTokens (47 ∷ [])) (λ b s t. at Sink state.ScriptDataDoubleEscapeEnd (record old { word = word; state = state.ScriptDataDoubleEscapeEnd }) (b + line_break (nat_eq 47 10)) s t)
+  deep_slash-says : (old : Tokenizer K) (word : List ℕ) → word ≡ [] → Says Sink (state.RawLessThanSign (raw.ScriptDataEscaped script.DoubleEscaped)) old 47 nothing_owed (CharacterTokens (47 ∷ [])) (λ b s t. at Sink state.ScriptDataDoubleEscapeEnd (record old { word = word; state = state.ScriptDataDoubleEscapeEnd }) (b + line_break (nat_eq 47 10)) s t)
   unfolding held_at
   deep_slash-says old word e b s h t =
       let kind = raw.ScriptDataEscaped script.DoubleEscaped in
       char-says Sink laws old (kind_after kind (60 ∷ []) (47 ∷ t)) (kind_after kind (60 ∷ 47 ∷ word) t) b s h 47 t refl refl refl (ap (λ w. kind_after kind (60 ∷ 47 ∷ w) t) (sym e))
 
-  pub deep_slash-told : (old new : Tokenizer K) (word : List ℕ) (c : ℕ) (result : Result (ProcessResult H) ParseFault) → IsAt old (state.RawLessThanSign (raw.ScriptDataEscaped script.DoubleEscaped)) → Sink.is_sound (Sink.view old.sink) → c ≡ 47 → word ≡ [] → TakesAs Sink nothing (CharacterTokens (47 ∷ [])) (record old { word = word; state = state.ScriptDataDoubleEscapeEnd }) new result → Keeps Sink old new c result
-  deep_slash-told old new word c result from ok e w told = rw e (keeps_taken Sink nothing old (record old { word = word; state = state.ScriptDataDoubleEscapeEnd }) new 47 (state.RawLessThanSign (raw.ScriptDataEscaped script.DoubleEscaped)) state.ScriptDataDoubleEscapeEnd (CharacterTokens (47 ∷ [])) result from (record { state = refl; fresh = from.fresh }) refl refl ok told (deep_slash-says old word w))
+  pub deep_slash-told : (old new : Tokenizer K) (word : List ℕ) (c : ℕ) (result : Result (ProcessResult H) ParseFault) → IsAt old (state.RawLessThanSign (raw.ScriptDataEscaped script.DoubleEscaped)) → Sink.is_sound (Sink.view old.sink) → c ≡ 47 → word ≡ [] → TakesAs Sink nothing_owed (CharacterTokens (47 ∷ [])) (record old { word = word; state = state.ScriptDataDoubleEscapeEnd }) new result → Keeps Sink old new c result
+  deep_slash-told old new word c result from ok e w told = rw e (keeps_taken Sink nothing_owed old (record old { word = word; state = state.ScriptDataDoubleEscapeEnd }) new 47 (state.RawLessThanSign (raw.ScriptDataEscaped script.DoubleEscaped)) state.ScriptDataDoubleEscapeEnd (CharacterTokens (47 ∷ [])) result from (record { state = refl; fresh = from.fresh }) refl refl ok told (deep_slash-says old word w))
 
   deep-other : (old : Tokenizer K) (c : ℕ) → nat_eq c 47 ≡ false → (b : ℕ) (s : Sink.State × Notes ℕ) (t : List ℕ) → at Sink (state.RawLessThanSign (raw.ScriptDataEscaped script.DoubleEscaped)) old b s (c ∷ t) ≡ at Sink (state.RawData (raw.ScriptDataEscaped script.DoubleEscaped)) (record old { state = state.RawData (raw.ScriptDataEscaped script.DoubleEscaped) }) b s (c ∷ t)
   unfolding held_at
@@ -114,7 +114,7 @@ module _ {K H : Type 0} (Sink : Ghosts K H) (laws : SinkLaws Sink.is_sound Sink.
       (λ b s t. ap (λ n. raw_text Sink old kind n s (60 ∷ 47 ∷ c ∷ t)) (sym (no-break b c (letter-no_break c l)))))
 
   -- "</" was text
-  no_name-says : (old : Tokenizer K) (kind : RawKind) (c : ℕ) → is_ascii_alphabetic c ≡ false → Says Sink (state.RawEndTagOpen kind) old c nothing (CharacterTokens (60 ∷ 47 ∷ [])) (λ b s t. at Sink (state.RawData kind) (record old { state = state.RawData kind }) b s (c ∷ t))
+  no_name-says : (old : Tokenizer K) (kind : RawKind) (c : ℕ) → is_ascii_alphabetic c ≡ false → Says Sink (state.RawEndTagOpen kind) old c nothing_owed (CharacterTokens (60 ∷ 47 ∷ [])) (λ b s t. at Sink (state.RawData kind) (record old { state = state.RawData kind }) b s (c ∷ t))
   unfolding held_at
   no_name-says old kind c l b s h t =
       two-says old kind b s h 47 (c ∷ t) refl refl refl refl (fits-none old kind (47 ∷ c ∷ t) (fitting-word old.last_start_tag [] c t refl l ∙ unfit-empty old.last_start_tag c))
@@ -122,9 +122,9 @@ module _ {K H : Type 0} (Sink : Ghosts K H) (laws : SinkLaws Sink.is_sound Sink.
       ∙ ap (λ k. noting Sink.step Sink.is_quiet s (CharacterTokens (60 ∷ 47 ∷ [])) (line_number b) >>= λ p. raw_text Sink old k b p.0 (c ∷ t)) (kind-same kind 47 (c ∷ t) refl refl)
 
   pub no_name-kept : (old mid new : Tokenizer K) (kind : RawKind) (c : ℕ) (result : Result (ProcessResult H) ParseFault) → IsAt old (state.RawEndTagOpen kind) → Sink.is_sound (Sink.view old.sink) → is_ascii_alphabetic c ≡ false
-      → Told Sink nothing (CharacterTokens (60 ∷ 47 ∷ [])) (record old { state = state.RawData kind }) mid → Keeps Sink mid new c result → Keeps Sink old new c result
+      → Told Sink nothing_owed (CharacterTokens (60 ∷ 47 ∷ [])) (record old { state = state.RawData kind }) mid → Keeps Sink mid new c result → Keeps Sink old new c result
   no_name-kept old mid new kind c result from ok l told h = keeps_then Sink old (record old { state = state.RawData kind }) mid new c (state.RawEndTagOpen kind) (state.RawData kind) (CharacterTokens (60 ∷ 47 ∷ [])) result from (record { state = refl; fresh = from.fresh }) refl refl ok told (no_name-says old kind c l) h
 
   pub no_name-failed : (old new : Tokenizer K) (kind : RawKind) (c : ℕ) (result : Result (ProcessResult H) ParseFault) (fault : ParseFault) → IsAt old (state.RawEndTagOpen kind) → Sink.is_sound (Sink.view old.sink) → is_ascii_alphabetic c ≡ false → IsErrAnd result (λ y. y ≡ fault)
       → Fails Sink old.sink (Sink.step (Sink.view old.sink) (CharacterTokens (60 ∷ 47 ∷ [])) (line_number old.stream.breaks)) fault → Keeps Sink old new c result
-  no_name-failed old new kind c result fault from ok l is fails = not-told_from Sink nothing old old new c (state.RawEndTagOpen kind) (CharacterTokens (60 ∷ 47 ∷ [])) result fault _ from refl refl ok is fails (no_name-says old kind c l)
+  no_name-failed old new kind c result fault from ok l is fails = not-told_from Sink nothing_owed old old new c (state.RawEndTagOpen kind) (CharacterTokens (60 ∷ 47 ∷ [])) result fault _ from refl refl ok is fails (no_name-says old kind c l)

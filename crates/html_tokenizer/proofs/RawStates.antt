@@ -23,7 +23,7 @@ use Rattle.html_tokens.specs.Sink.{Step, Refusal, SinkLaws}
 use Rattle.html_tokenizer.specs.CharRefs.{may_hold}
 use Rattle.html_tokenizer.specs.declared.tokenizer.Tokenizer.{Tokenizer}
 use Rattle.html_tokenizer.specs.Rest.{rows_of, standing, held_at}
-use Rattle.html_tokenizer.specs.Steps.{IsAt, TakesAs, Took, Keeps, nothing, owed_for, reads}
+use Rattle.html_tokenizer.specs.Steps.{IsAt, TakesAs, Took, Keeps, nothing_owed, owed_for, reads}
 use Rattle.html_tokenizer.proofs.Lawful.{noting-lawful}
 use Rattle.html_tokenizer.proofs.Readings.{reading-char, sum-zero}
 use Rattle.html_tokenizer.proofs.Glue.{Says, took, at}
@@ -94,46 +94,46 @@ module _ {K H : Type 0} (Sink : Ghosts K H) (laws : SinkLaws Sink.is_sound Sink.
       (λ b s t. ap (λ n. raw_text Sink old kind n s (60 ∷ t)) (sym (sum-zero b)) ∙ sym (held-open Sink (record old { state = state.RawLessThanSign kind }) kind (b + 0) s t e))
 
   -- "<" was told in text that is escaped twice
-  open-says : (old : Tokenizer K) → Says Sink (state.RawData (raw.ScriptDataEscaped script.DoubleEscaped)) old 60 nothing (CharacterTokens (60 ∷ [])) (λ b s t. at Sink (state.RawLessThanSign (raw.ScriptDataEscaped script.DoubleEscaped)) (record old { state = state.RawLessThanSign (raw.ScriptDataEscaped script.DoubleEscaped) }) (b + line_break (nat_eq 60 10)) s t)
+  open-says : (old : Tokenizer K) → Says Sink (state.RawData (raw.ScriptDataEscaped script.DoubleEscaped)) old 60 nothing_owed (CharacterTokens (60 ∷ [])) (λ b s t. at Sink (state.RawLessThanSign (raw.ScriptDataEscaped script.DoubleEscaped)) (record old { state = state.RawLessThanSign (raw.ScriptDataEscaped script.DoubleEscaped) }) (b + line_break (nat_eq 60 10)) s t)
   unfolding held_at
   open-says old b s h t =
       let kind = raw.ScriptDataEscaped script.DoubleEscaped in
       reading-char (λ p. Sink.is_sound p.0) (noting Sink.step Sink.is_quiet) noting_error (noting_cdata Sink.asks_cdata) (noting_end Sink.ended) (rows_of old) (noting-lawful Sink.is_sound Sink.step Sink.ended Sink.is_quiet laws) (standing old (InRaw kind)) (standing old (InRaw (kind_behind kind 60 t))) b s h 60 60 t (line_number b) refl
 
-  pub raw-open_told : (old new : Tokenizer K) (kind : RawKind) (result : Result (ProcessResult H) ParseFault) → IsAt old (state.RawData kind) → Sink.is_sound (Sink.view old.sink) → ends_at_tag kind ≡ false → TakesAs Sink nothing (CharacterTokens (60 ∷ [])) (record old { state = state.RawLessThanSign kind }) new result → Keeps Sink old new 60 result
+  pub raw-open_told : (old new : Tokenizer K) (kind : RawKind) (result : Result (ProcessResult H) ParseFault) → IsAt old (state.RawData kind) → Sink.is_sound (Sink.view old.sink) → ends_at_tag kind ≡ false → TakesAs Sink nothing_owed (CharacterTokens (60 ∷ [])) (record old { state = state.RawLessThanSign kind }) new result → Keeps Sink old new 60 result
   raw-open_told old new kind result from ok e told =
       let deep = raw.ScriptDataEscaped script.DoubleEscaped in
       let is : kind ≡ deep = double_escaped kind e in
-      keeps_taken Sink nothing old (record old { state = state.RawLessThanSign deep }) new 60 (state.RawData deep) (state.RawLessThanSign deep) (CharacterTokens (60 ∷ [])) result (rw is at from) (record { state = refl; fresh = from.fresh }) refl refl ok (rw is at told) (open-says old)
+      keeps_taken Sink nothing_owed old (record old { state = state.RawLessThanSign deep }) new 60 (state.RawData deep) (state.RawLessThanSign deep) (CharacterTokens (60 ∷ [])) result (rw is at from) (record { state = refl; fresh = from.fresh }) refl refl ok (rw is at told) (open-says old)
 
   -- "&" was taken, which is held
   pub raw-reference : (old : Tokenizer K) (kind : RawKind) (begun : List ℕ) → IsAt old (state.RawData kind) → Sink.is_sound (Sink.view old.sink) → has_references kind ≡ true → begun ≡ [] → Took Sink old (record old { char_ref = Some begun }) 38 flow.Continue
   unfolding held_at
   raw-reference old kind begun from ok e is = rw is (took_reference Sink old (record old { char_ref = Some [] }) 38 (state.RawData kind) from (rcdata-holds kind e) refl from.state refl refl refl ok (λ b s t. refl))
 
-  amp-says : (old : Tokenizer K) (kind : RawKind) → has_references kind ≡ false → Says Sink (state.RawData kind) old 38 nothing (CharacterTokens (38 ∷ [])) (λ b s t. at Sink (state.RawData kind) old (b + line_break (nat_eq 38 10)) s t)
+  amp-says : (old : Tokenizer K) (kind : RawKind) → has_references kind ≡ false → Says Sink (state.RawData kind) old 38 nothing_owed (CharacterTokens (38 ∷ [])) (λ b s t. at Sink (state.RawData kind) old (b + line_break (nat_eq 38 10)) s t)
   unfolding held_at
   amp-says old kind e b s h t =
       reading-char (λ p. Sink.is_sound p.0) (noting Sink.step Sink.is_quiet) noting_error (noting_cdata Sink.asks_cdata) (noting_end Sink.ended) (rows_of old) (noting-lawful Sink.is_sound Sink.step Sink.ended Sink.is_quiet laws) (standing old (InRaw kind)) (standing old (InRaw kind)) b s h 38 38 t (line_number b)
       (raw-item old kind (Sink.asks_cdata s.0) 38 t refl e ∙ ap (λ kind. character 38 (standing old (InRaw kind))) (kind-same kind 38 t refl refl))
 
-  pub raw-amp_told : (old new : Tokenizer K) (kind : RawKind) (result : Result (ProcessResult H) ParseFault) → IsAt old (state.RawData kind) → Sink.is_sound (Sink.view old.sink) → has_references kind ≡ false → TakesAs Sink nothing (CharacterTokens (38 ∷ [])) old new result → Keeps Sink old new 38 result
-  raw-amp_told old new kind result from ok e told = keeps_taken Sink nothing old old new 38 (state.RawData kind) (state.RawData kind) (CharacterTokens (38 ∷ [])) result from from refl refl ok told (amp-says old kind e)
+  pub raw-amp_told : (old new : Tokenizer K) (kind : RawKind) (result : Result (ProcessResult H) ParseFault) → IsAt old (state.RawData kind) → Sink.is_sound (Sink.view old.sink) → has_references kind ≡ false → TakesAs Sink nothing_owed (CharacterTokens (38 ∷ [])) old new result → Keeps Sink old new 38 result
+  raw-amp_told old new kind result from ok e told = keeps_taken Sink nothing_owed old old new 38 (state.RawData kind) (state.RawData kind) (CharacterTokens (38 ∷ [])) result from from refl refl ok told (amp-says old kind e)
 
   -- "-" was told
-  dash-says : (old : Tokenizer K) (kind : RawKind) → ((escape : ScriptEscapeKind) → kind ≡ raw.ScriptDataEscaped escape → ⊥) → Says Sink (state.RawData kind) old 45 nothing (CharacterTokens (45 ∷ [])) (λ b s t. at Sink (state.RawData kind) old (b + line_break (nat_eq 45 10)) s t)
+  dash-says : (old : Tokenizer K) (kind : RawKind) → ((escape : ScriptEscapeKind) → kind ≡ raw.ScriptDataEscaped escape → ⊥) → Says Sink (state.RawData kind) old 45 nothing_owed (CharacterTokens (45 ∷ [])) (λ b s t. at Sink (state.RawData kind) old (b + line_break (nat_eq 45 10)) s t)
   unfolding held_at
   dash-says old kind e b s h t =
       raw-char old kind b s h 45 t refl refl refl
       ∙ ap (λ k. noting Sink.step Sink.is_quiet s (CharacterTokens (45 ∷ [])) (line_number b) >>= λ p. raw_text Sink old k (b + line_break (nat_eq 45 10)) p.0 t) (kind-dash kind t e)
 
-  pub raw-dash_told : (old new : Tokenizer K) (kind : RawKind) (result : Result (ProcessResult H) ParseFault) → IsAt old (state.RawData kind) → Sink.is_sound (Sink.view old.sink) → (kind ≡ raw.Rcdata) ⊎ ((kind ≡ raw.Rawtext) ⊎ (kind ≡ raw.ScriptData)) → TakesAs Sink nothing (CharacterTokens (45 ∷ [])) old new result → Keeps Sink old new 45 result
-  raw-dash_told old new kind result from ok e told = keeps_taken Sink nothing old old new 45 (state.RawData kind) (state.RawData kind) (CharacterTokens (45 ∷ [])) result from from refl refl ok told (dash-says old kind (unescaped kind e))
+  pub raw-dash_told : (old new : Tokenizer K) (kind : RawKind) (result : Result (ProcessResult H) ParseFault) → IsAt old (state.RawData kind) → Sink.is_sound (Sink.view old.sink) → (kind ≡ raw.Rcdata) ⊎ ((kind ≡ raw.Rawtext) ⊎ (kind ≡ raw.ScriptData)) → TakesAs Sink nothing_owed (CharacterTokens (45 ∷ [])) old new result → Keeps Sink old new 45 result
+  raw-dash_told old new kind result from ok e told = keeps_taken Sink nothing_owed old old new 45 (state.RawData kind) (state.RawData kind) (CharacterTokens (45 ∷ [])) result from from refl refl ok told (dash-says old kind (unescaped kind e))
 
-  escaped_dash-says : (old : Tokenizer K) (escape : ScriptEscapeKind) → Says Sink (state.RawData (raw.ScriptDataEscaped escape)) old 45 nothing (CharacterTokens (45 ∷ [])) (λ b s t. at Sink (state.ScriptDataEscapedDash escape) (record old { state = state.ScriptDataEscapedDash escape }) (b + line_break (nat_eq 45 10)) s t)
+  escaped_dash-says : (old : Tokenizer K) (escape : ScriptEscapeKind) → Says Sink (state.RawData (raw.ScriptDataEscaped escape)) old 45 nothing_owed (CharacterTokens (45 ∷ [])) (λ b s t. at Sink (state.ScriptDataEscapedDash escape) (record old { state = state.ScriptDataEscapedDash escape }) (b + line_break (nat_eq 45 10)) s t)
   unfolding held_at
   escaped_dash-says old escape b s h t = raw-char old (raw.ScriptDataEscaped escape) b s h 45 t refl refl refl
 
-  pub raw-escaped_dash : (old new : Tokenizer K) (kind : RawKind) (escape : ScriptEscapeKind) (result : Result (ProcessResult H) ParseFault) → IsAt old (state.RawData kind) → Sink.is_sound (Sink.view old.sink) → kind ≡ raw.ScriptDataEscaped escape → TakesAs Sink nothing (CharacterTokens (45 ∷ [])) (record old { state = state.ScriptDataEscapedDash escape }) new result → Keeps Sink old new 45 result
+  pub raw-escaped_dash : (old new : Tokenizer K) (kind : RawKind) (escape : ScriptEscapeKind) (result : Result (ProcessResult H) ParseFault) → IsAt old (state.RawData kind) → Sink.is_sound (Sink.view old.sink) → kind ≡ raw.ScriptDataEscaped escape → TakesAs Sink nothing_owed (CharacterTokens (45 ∷ [])) (record old { state = state.ScriptDataEscapedDash escape }) new result → Keeps Sink old new 45 result
   raw-escaped_dash old new kind escape result from ok is told =
-      keeps_taken Sink nothing old (record old { state = state.ScriptDataEscapedDash escape }) new 45 (state.RawData (raw.ScriptDataEscaped escape)) (state.ScriptDataEscapedDash escape) (CharacterTokens (45 ∷ [])) result (rw is at from) (record { state = refl; fresh = from.fresh }) refl refl ok told (escaped_dash-says old escape)
+      keeps_taken Sink nothing_owed old (record old { state = state.ScriptDataEscapedDash escape }) new 45 (state.RawData (raw.ScriptDataEscaped escape)) (state.ScriptDataEscapedDash escape) (CharacterTokens (45 ∷ [])) result (rw is at from) (record { state = refl; fresh = from.fresh }) refl refl ok told (escaped_dash-says old escape)

@@ -10,7 +10,7 @@ use Rattle.html_tokens.specs.declared.token.Token.{Token}
 use Rattle.html_tokens.specs.declared.token.Token.TheVariants.{ParseError}
 use Rattle.html_tokenizer.specs.Calls.{owed_for_char, owed_for_text}
 use Rattle.html_tokenizer.specs.Forbidden.{is_forbidden}
-use Rattle.html_tokenizer.specs.Steps.{IsNoTag, Owed, nothing, owed_for, owed_for_each, how_many, hearing, together, Rises, and_more, more}
+use Rattle.html_tokenizer.specs.Steps.{IsNoTag, Owed, nothing_owed, owed_for, owed_for_each, how_many, and_heard, together, Rises, and_more, more}
 
 capped : (a b c m n : ℕ) → min (a + m) 0xffff_ffff_ffff_ffff ≤ b → min (b + n) 0xffff_ffff_ffff_ffff ≤ c → min (a + (n + m)) 0xffff_ffff_ffff_ffff ≤ c
 capped a b c m n h k = omega arith
@@ -72,7 +72,7 @@ more-more a b notes =
     ∙ ap (λ q. record notes { errors = and_more (a.faults + b.faults) notes.errors; is_quiet = q }) (and-twice a.is_quiet b.is_quiet notes.is_quiet)
 
 -- a token that is heard behind what is owed is owed with it
-pub heard-more : (quiet : Bool) (owed : Owed) (notes : Notes ℕ) → heard quiet (more owed notes) ≡ more (hearing quiet owed) notes
+pub heard-more : (quiet : Bool) (owed : Owed) (notes : Notes ℕ) → heard quiet (more owed notes) ≡ more (and_heard quiet owed) notes
 heard-more quiet owed notes = ap (λ q. record (more owed notes) { is_quiet = q }) (and-between owed.is_quiet notes.is_quiet quiet)
 
 -- a fault is owed
@@ -81,7 +81,7 @@ wronged-more Grave notes = refl
 wronged-more Slight notes = refl
 
 -- what is heard as quiet owes nothing more
-pub hearing-quiet : (owed : Owed) → hearing true owed ≡ owed
+pub hearing-quiet : (owed : Owed) → and_heard true owed ≡ owed
 hearing-quiet owed = ap (λ q. record owed { is_quiet = q }) (and-true owed.is_quiet)
 
 -- One says no more than another of what errors rose by: it counts no more faults, and is quiet only where the other is.
@@ -90,7 +90,7 @@ pub record IsNoMore (less greater : Owed) : Type 0 where
   pub quiet : less.is_quiet ≡ true → greater.is_quiet ≡ true
 
 -- what is owed behind a token that is heard, is so of what says no more
-pub no-more-heard : (quiet : Bool) (less greater : Owed) → IsNoMore less greater → IsNoMore (hearing quiet less) (hearing quiet greater)
+pub no-more-heard : (quiet : Bool) (less greater : Owed) → IsNoMore less greater → IsNoMore (and_heard quiet less) (and_heard quiet greater)
 no-more-heard quiet less greater h = record { faults = h.faults; quiet = λ e. and_from greater.is_quiet quiet (h.quiet (and_parts less.is_quiet quiet e).0) (and_parts less.is_quiet quiet e).1 }
 
 pub no-more-same : (owed : Owed) → IsNoMore owed owed
@@ -102,7 +102,7 @@ slight-no-more = record { faults = omega arith; quiet = λ e. absurd cc }
 
 pub slight-less : (odd : Bool) → IsNoMore (owed_for (slight_if odd)) (owed_for (grave_if odd))
 slight-less true = slight-no-more
-slight-less false = no-more-same nothing
+slight-less false = no-more-same nothing_owed
 
 -- the characters of two texts that pass
 how_many-both : (passes : ℕ → Bool) (a b : List ℕ) → how_many passes (a ++ b) ≡ how_many passes a + how_many passes b
@@ -139,7 +139,7 @@ one-char false owed = record { faults = omega arith; quiet = λ e. e }
 -- what one character owes on its own, as a text
 pub char-no-more : (exact : Bool) (c : ℕ) (owed : Owed) → IsNoMore (together owed (owed_for_text exact (c ∷ []))) (together owed (owed_for_char exact c))
 char-no-more true c owed = one-char (is_forbidden c) owed
-char-no-more false c owed = no-more-same (together owed nothing)
+char-no-more false c owed = no-more-same (together owed nothing_owed)
 
 last-adds : (passes : Bool) (x y : ℕ) → x ≡ y + (one_if passes + 0) → IsNoMore (record { faults = x; is_quiet = nat_eq x 0 }) (together (owed_for (grave_if passes)) (record { faults = y; is_quiet = nat_eq y 0 }))
 last-adds true x y e = record { faults = omega (arith, e); quiet = λ h. absurd (grind (arith, nat_tests)) }
@@ -154,7 +154,7 @@ pub text-no-more : (t : List ℕ) (owed : Owed) → IsNoMore (together owed (owe
 text-no-more t owed = record { faults = omega arith; quiet = λ e. (and_parts owed.is_quiet true e).0 }
 
 -- nor does no text
-pub none-no-more : (exact : Bool) → IsNoMore (together nothing (owed_for_text exact [])) nothing
+pub none-no-more : (exact : Bool) → IsNoMore (together nothing_owed (owed_for_text exact [])) nothing_owed
 none-no-more true = record { faults = omega arith; quiet = λ e. refl }
 none-no-more false = record { faults = omega arith; quiet = λ e. refl }
 
@@ -170,45 +170,45 @@ module _ {K : Type 0} (errors : K → ℕ) where
   pub rises-then : {m n : Owed} (a b c : K) → Rises errors m a b → Rises errors n b c → Rises errors (together n m) a c
   rises-then {m} {n} a b c h k = record {
     enough = capped (errors a) (errors b) (errors c) m.faults n.faults h.enough k.enough;
-    none = λ e. k.none (and_parts n.is_quiet m.is_quiet e).0 ∙ h.none (and_parts n.is_quiet m.is_quiet e).1;
+    stays = λ e. k.stays (and_parts n.is_quiet m.is_quiet e).0 ∙ h.stays (and_parts n.is_quiet m.is_quiet e).1;
   }
 
   -- what rose by so much rose by what says no more
   pub rises-less : {m n : Owed} (a b : K) → IsNoMore n m → Rises errors m a b → Rises errors n a b
   rises-less {m} {n} a b l h = record {
     enough = fewer (errors a) (errors b) m.faults n.faults l.faults h.enough;
-    none = λ e. h.none (l.quiet e);
+    stays = λ e. h.stays (l.quiet e);
   }
 
   -- what rose by what is owed, and then by a token
-  pub rises-heard : {owed : Owed} (quiet : Bool) (a b c : K) → Rises errors owed a b → Rises errors (hearing quiet nothing) b c → Rises errors (hearing quiet owed) a c
+  pub rises-heard : {owed : Owed} (quiet : Bool) (a b c : K) → Rises errors owed a b → Rises errors (and_heard quiet nothing_owed) b c → Rises errors (and_heard quiet owed) a c
   rises-heard {owed} quiet a b c h k = record {
     enough = still (errors a) (errors b) (errors c) owed.faults h.enough k.enough;
-    none = λ e. k.none (and_parts owed.is_quiet quiet e).1 ∙ h.none (and_parts owed.is_quiet quiet e).0;
+    stays = λ e. k.stays (and_parts owed.is_quiet quiet e).1 ∙ h.stays (and_parts owed.is_quiet quiet e).0;
   }
 
   -- what is as it was
-  pub rises-same : (a b : K) → b ≡ a → Rises errors nothing a b
-  rises-same a b h = record { enough = not-lowered (errors a) (errors b) (not-less (errors a) (errors b) (ap errors h)); none = λ e. ap errors h }
+  pub rises-same : (a b : K) → b ≡ a → Rises errors nothing_owed a b
+  rises-same a b h = record { enough = not-lowered (errors a) (errors b) (not-less (errors a) (errors b) (ap errors h)); stays = λ e. ap errors h }
 
   -- what is as it was, where something slight may be owed
   pub rises-slight : (odd : Bool) (a b : K) → b ≡ a → Rises errors (owed_for (slight_if odd)) a b
-  rises-slight true a b h = record { enough = not-lowered (errors a) (errors b) (not-less (errors a) (errors b) (ap errors h)); none = λ e. ap errors h }
+  rises-slight true a b h = record { enough = not-lowered (errors a) (errors b) (not-less (errors a) (errors b) (ap errors h)); stays = λ e. ap errors h }
   rises-slight false a b h = rises-same a b h
 
   -- one error was told
   pub rises-one : (a b : K) → errors b ≡ one_more (errors a) → Rises errors (owed_for (Some Grave)) a b
-  rises-one a b h = record { enough = one (errors a) (errors b) h; none = λ e. absurd cc }
+  rises-one a b h = record { enough = one (errors a) (errors b) h; stays = λ e. absurd cc }
 
   -- a token that is no error was told
-  pub rises-own : (quiet : Bool) (a b : K) → CountsOwn quiet (errors a) (errors b) → Rises errors (hearing quiet nothing) a b
-  rises-own quiet a b h = record { enough = not-lowered (errors a) (errors b) (own quiet (errors a) (errors b) h); none = λ e. own-quiet quiet (errors a) (errors b) h e }
+  pub rises-own : (quiet : Bool) (a b : K) → CountsOwn quiet (errors a) (errors b) → Rises errors (and_heard quiet nothing_owed) a b
+  rises-own quiet a b h = record { enough = not-lowered (errors a) (errors b) (own quiet (errors a) (errors b) h); stays = λ e. own-quiet quiet (errors a) (errors b) h e }
 
   -- what rose by m and by what a text owes on its own, and then by n and by what another does
   pub rises-besides : (exact : Bool) (m n : Owed) (s t : List ℕ) (a b c : K) → Rises errors (together m (owed_for_text exact s)) a b → Rises errors (together n (owed_for_text exact t)) b c → Rises errors (together (together n m) (owed_for_text exact (s ++ t))) a c
   rises-besides exact m n s t a b c h k = rises-less a c (both-no-more exact m n s t) (rises-then a b c h k)
 
   -- the same of what the sink says of a token
-  pub rises-told : {R : Type 0} (quiet : Bool) (token : Token) → IsNoTag token → (reply : R) (a b : K) → Counts quiet token (Ok reply) (errors a) (errors b) → Rises errors (hearing quiet nothing) a b
+  pub rises-told : {R : Type 0} (quiet : Bool) (token : Token) → IsNoTag token → (reply : R) (a b : K) → Counts quiet token (Ok reply) (errors a) (errors b) → Rises errors (and_heard quiet nothing_owed) a b
   rises-told quiet (ParseError message) none reply a b h = absurd none
   rises-told quiet _ none reply a b h = rises-own quiet a b h

@@ -20,7 +20,7 @@ use Rattle.html_tokens.specs.Reading.{◌>>=◌, line_number, line_break}
 use Rattle.html_tokens.specs.Sink.{Step, SinkLaws}
 use Rattle.html_tokenizer.specs.declared.tokenizer.Tokenizer.{Tokenizer}
 use Rattle.html_tokenizer.specs.Rest.{kind_after, held_at}
-use Rattle.html_tokenizer.specs.Steps.{IsAt, TakesAs, Keeps, nothing}
+use Rattle.html_tokenizer.specs.Steps.{IsAt, TakesAs, Keeps, nothing_owed}
 use Rattle.html_tokenizer.specs.Words.{ends_script}
 use Rattle.html_tokenizer.proofs.Glue.{Says, keeps_silent, at}
 use Rattle.html_tokenizer.proofs.Telling.{keeps_taken}
@@ -40,12 +40,12 @@ module _ {K H : Type 0} (Sink : Ghosts K H) (laws : SinkLaws Sink.is_sound Sink.
   kind-says old kind next b s t e = ap (λ k. raw_text Sink old k b s t) e
 
   -- behind "<!"
-  start-dash : (old : Tokenizer K) → Says Sink (state.ScriptDataEscapeStart script.Escaped) old 45 nothing (CharacterTokens (45 ∷ [])) (λ b s t. at Sink state.ScriptDataEscapeStartDash (record old { state = state.ScriptDataEscapeStartDash }) (b + line_break (nat_eq 45 10)) s t)
+  start-dash : (old : Tokenizer K) → Says Sink (state.ScriptDataEscapeStart script.Escaped) old 45 nothing_owed (CharacterTokens (45 ∷ [])) (λ b s t. at Sink state.ScriptDataEscapeStartDash (record old { state = state.ScriptDataEscapeStartDash }) (b + line_break (nat_eq 45 10)) s t)
   unfolding held_at
   start-dash old b s h t = char-says old (kind_after raw.ScriptData (60 ∷ 33 ∷ []) (45 ∷ t)) (kind_after raw.ScriptData (60 ∷ 33 ∷ 45 ∷ []) t) b s h 45 t refl refl refl refl
 
-  pub start-dash_told : (old new : Tokenizer K) (c : ℕ) (result : Result (ProcessResult H) ParseFault) → IsAt old (state.ScriptDataEscapeStart script.Escaped) → Sink.is_sound (Sink.view old.sink) → c ≡ 45 → TakesAs Sink nothing (CharacterTokens (45 ∷ [])) (record old { state = state.ScriptDataEscapeStartDash }) new result → Keeps Sink old new c result
-  start-dash_told old new c result from ok e told = rw e (keeps_taken Sink nothing old (record old { state = state.ScriptDataEscapeStartDash }) new 45 (state.ScriptDataEscapeStart script.Escaped) state.ScriptDataEscapeStartDash (CharacterTokens (45 ∷ [])) result from (record { state = refl; fresh = from.fresh }) refl refl ok told (start-dash old))
+  pub start-dash_told : (old new : Tokenizer K) (c : ℕ) (result : Result (ProcessResult H) ParseFault) → IsAt old (state.ScriptDataEscapeStart script.Escaped) → Sink.is_sound (Sink.view old.sink) → c ≡ 45 → TakesAs Sink nothing_owed (CharacterTokens (45 ∷ [])) (record old { state = state.ScriptDataEscapeStartDash }) new result → Keeps Sink old new c result
+  start-dash_told old new c result from ok e told = rw e (keeps_taken Sink nothing_owed old (record old { state = state.ScriptDataEscapeStartDash }) new 45 (state.ScriptDataEscapeStart script.Escaped) state.ScriptDataEscapeStartDash (CharacterTokens (45 ∷ [])) result from (record { state = refl; fresh = from.fresh }) refl refl ok told (start-dash old))
 
   start-other : (old : Tokenizer K) (c : ℕ) → nat_eq 45 c ≡ false → (b : ℕ) (s : Sink.State × Notes ℕ) (t : List ℕ) → at Sink (state.ScriptDataEscapeStart script.Escaped) old b s (c ∷ t) ≡ at Sink (state.RawData raw.ScriptData) (record old { state = state.RawData raw.ScriptData }) b s (c ∷ t)
   unfolding held_at
@@ -55,12 +55,12 @@ module _ {K H : Type 0} (Sink : Ghosts K H) (laws : SinkLaws Sink.is_sound Sink.
   start-kept old new c result from e h = keeps_silent Sink old (record old { state = state.RawData raw.ScriptData }) new c (state.ScriptDataEscapeStart script.Escaped) (state.RawData raw.ScriptData) result from (record { state = refl; fresh = from.fresh }) refl refl (start-other old c (ne_eqb 45 c (λ x. e (sym x)))) h
 
   -- behind "<!-"
-  dash-dash : (old : Tokenizer K) → Says Sink state.ScriptDataEscapeStartDash old 45 nothing (CharacterTokens (45 ∷ [])) (λ b s t. at Sink (state.ScriptDataEscapedDashDash script.Escaped) (record old { state = state.ScriptDataEscapedDashDash script.Escaped }) (b + line_break (nat_eq 45 10)) s t)
+  dash-dash : (old : Tokenizer K) → Says Sink state.ScriptDataEscapeStartDash old 45 nothing_owed (CharacterTokens (45 ∷ [])) (λ b s t. at Sink (state.ScriptDataEscapedDashDash script.Escaped) (record old { state = state.ScriptDataEscapedDashDash script.Escaped }) (b + line_break (nat_eq 45 10)) s t)
   unfolding held_at
   dash-dash old b s h t = char-says old (kind_after raw.ScriptData (60 ∷ 33 ∷ 45 ∷ []) (45 ∷ t)) (kind_after (raw.ScriptDataEscaped script.Escaped) (45 ∷ 45 ∷ []) t) b s h 45 t refl refl refl refl
 
-  pub dash-dash_told : (old new : Tokenizer K) (c : ℕ) (result : Result (ProcessResult H) ParseFault) → IsAt old state.ScriptDataEscapeStartDash → Sink.is_sound (Sink.view old.sink) → c ≡ 45 → TakesAs Sink nothing (CharacterTokens (45 ∷ [])) (record old { state = state.ScriptDataEscapedDashDash script.Escaped }) new result → Keeps Sink old new c result
-  dash-dash_told old new c result from ok e told = rw e (keeps_taken Sink nothing old (record old { state = state.ScriptDataEscapedDashDash script.Escaped }) new 45 state.ScriptDataEscapeStartDash (state.ScriptDataEscapedDashDash script.Escaped) (CharacterTokens (45 ∷ [])) result from (record { state = refl; fresh = from.fresh }) refl refl ok told (dash-dash old))
+  pub dash-dash_told : (old new : Tokenizer K) (c : ℕ) (result : Result (ProcessResult H) ParseFault) → IsAt old state.ScriptDataEscapeStartDash → Sink.is_sound (Sink.view old.sink) → c ≡ 45 → TakesAs Sink nothing_owed (CharacterTokens (45 ∷ [])) (record old { state = state.ScriptDataEscapedDashDash script.Escaped }) new result → Keeps Sink old new c result
+  dash-dash_told old new c result from ok e told = rw e (keeps_taken Sink nothing_owed old (record old { state = state.ScriptDataEscapedDashDash script.Escaped }) new 45 state.ScriptDataEscapeStartDash (state.ScriptDataEscapedDashDash script.Escaped) (CharacterTokens (45 ∷ [])) result from (record { state = refl; fresh = from.fresh }) refl refl ok told (dash-dash old))
 
   dash-other : (old : Tokenizer K) (c : ℕ) → nat_eq 45 c ≡ false → (b : ℕ) (s : Sink.State × Notes ℕ) (t : List ℕ) → at Sink state.ScriptDataEscapeStartDash old b s (c ∷ t) ≡ at Sink (state.RawData raw.ScriptData) (record old { state = state.RawData raw.ScriptData }) b s (c ∷ t)
   unfolding held_at
@@ -70,12 +70,12 @@ module _ {K H : Type 0} (Sink : Ghosts K H) (laws : SinkLaws Sink.is_sound Sink.
   dash-kept old new c result from e h = keeps_silent Sink old (record old { state = state.RawData raw.ScriptData }) new c state.ScriptDataEscapeStartDash (state.RawData raw.ScriptData) result from (record { state = refl; fresh = from.fresh }) refl refl (dash-other old c (ne_eqb 45 c (λ x. e (sym x)))) h
 
   -- behind "-" in escaped text
-  escaped-dash : (old : Tokenizer K) (kind : ScriptEscapeKind) → Says Sink (state.ScriptDataEscapedDash kind) old 45 nothing (CharacterTokens (45 ∷ [])) (λ b s t. at Sink (state.ScriptDataEscapedDashDash kind) (record old { state = state.ScriptDataEscapedDashDash kind }) (b + line_break (nat_eq 45 10)) s t)
+  escaped-dash : (old : Tokenizer K) (kind : ScriptEscapeKind) → Says Sink (state.ScriptDataEscapedDash kind) old 45 nothing_owed (CharacterTokens (45 ∷ [])) (λ b s t. at Sink (state.ScriptDataEscapedDashDash kind) (record old { state = state.ScriptDataEscapedDashDash kind }) (b + line_break (nat_eq 45 10)) s t)
   unfolding held_at
   escaped-dash old kind b s h t = char-says old (kind_after (raw.ScriptDataEscaped kind) (45 ∷ []) (45 ∷ t)) (kind_after (raw.ScriptDataEscaped kind) (45 ∷ 45 ∷ []) t) b s h 45 t refl refl refl refl
 
-  pub escaped-dash_told : (old new : Tokenizer K) (kind : ScriptEscapeKind) (c : ℕ) (result : Result (ProcessResult H) ParseFault) → IsAt old (state.ScriptDataEscapedDash kind) → Sink.is_sound (Sink.view old.sink) → c ≡ 45 → TakesAs Sink nothing (CharacterTokens (45 ∷ [])) (record old { state = state.ScriptDataEscapedDashDash kind }) new result → Keeps Sink old new c result
-  escaped-dash_told old new kind c result from ok e told = rw e (keeps_taken Sink nothing old (record old { state = state.ScriptDataEscapedDashDash kind }) new 45 (state.ScriptDataEscapedDash kind) (state.ScriptDataEscapedDashDash kind) (CharacterTokens (45 ∷ [])) result from (record { state = refl; fresh = from.fresh }) refl refl ok told (escaped-dash old kind))
+  pub escaped-dash_told : (old new : Tokenizer K) (kind : ScriptEscapeKind) (c : ℕ) (result : Result (ProcessResult H) ParseFault) → IsAt old (state.ScriptDataEscapedDash kind) → Sink.is_sound (Sink.view old.sink) → c ≡ 45 → TakesAs Sink nothing_owed (CharacterTokens (45 ∷ [])) (record old { state = state.ScriptDataEscapedDashDash kind }) new result → Keeps Sink old new c result
+  escaped-dash_told old new kind c result from ok e told = rw e (keeps_taken Sink nothing_owed old (record old { state = state.ScriptDataEscapedDashDash kind }) new 45 (state.ScriptDataEscapedDash kind) (state.ScriptDataEscapedDashDash kind) (CharacterTokens (45 ∷ [])) result from (record { state = refl; fresh = from.fresh }) refl refl ok told (escaped-dash old kind))
 
   escaped-kind : (kind : ScriptEscapeKind) (c : ℕ) (t : List ℕ) → nat_eq 45 c ≡ false → kind_behind (raw.ScriptDataEscaped kind) 45 (c ∷ t) ≡ raw.ScriptDataEscaped kind
   escaped-kind script.Escaped c t e = rw e refl
@@ -93,23 +93,23 @@ module _ {K H : Type 0} (Sink : Ghosts K H) (laws : SinkLaws Sink.is_sound Sink.
   dashes-kind script.Escaped t = refl
   dashes-kind script.DoubleEscaped t = refl
 
-  dashes-dash : (old : Tokenizer K) (kind : ScriptEscapeKind) → Says Sink (state.ScriptDataEscapedDashDash kind) old 45 nothing (CharacterTokens (45 ∷ [])) (λ b s t. at Sink (state.ScriptDataEscapedDashDash kind) old (b + line_break (nat_eq 45 10)) s t)
+  dashes-dash : (old : Tokenizer K) (kind : ScriptEscapeKind) → Says Sink (state.ScriptDataEscapedDashDash kind) old 45 nothing_owed (CharacterTokens (45 ∷ [])) (λ b s t. at Sink (state.ScriptDataEscapedDashDash kind) old (b + line_break (nat_eq 45 10)) s t)
   unfolding held_at
   dashes-dash old kind b s h t = char-says old (kind_after (raw.ScriptDataEscaped kind) (45 ∷ 45 ∷ []) (45 ∷ t)) (kind_after (raw.ScriptDataEscaped kind) (45 ∷ 45 ∷ []) t) b s h 45 t refl refl refl (dashes-kind kind t)
 
-  pub dashes-dash_told : (old new : Tokenizer K) (kind : ScriptEscapeKind) (c : ℕ) (result : Result (ProcessResult H) ParseFault) → IsAt old (state.ScriptDataEscapedDashDash kind) → Sink.is_sound (Sink.view old.sink) → c ≡ 45 → TakesAs Sink nothing (CharacterTokens (45 ∷ [])) old new result → Keeps Sink old new c result
-  dashes-dash_told old new kind c result from ok e told = rw e (keeps_taken Sink nothing old old new 45 (state.ScriptDataEscapedDashDash kind) (state.ScriptDataEscapedDashDash kind) (CharacterTokens (45 ∷ [])) result from from refl refl ok told (dashes-dash old kind))
+  pub dashes-dash_told : (old new : Tokenizer K) (kind : ScriptEscapeKind) (c : ℕ) (result : Result (ProcessResult H) ParseFault) → IsAt old (state.ScriptDataEscapedDashDash kind) → Sink.is_sound (Sink.view old.sink) → c ≡ 45 → TakesAs Sink nothing_owed (CharacterTokens (45 ∷ [])) old new result → Keeps Sink old new c result
+  dashes-dash_told old new kind c result from ok e told = rw e (keeps_taken Sink nothing_owed old old new 45 (state.ScriptDataEscapedDashDash kind) (state.ScriptDataEscapedDashDash kind) (CharacterTokens (45 ∷ [])) result from from refl refl ok told (dashes-dash old kind))
 
   closed-kind : (kind : ScriptEscapeKind) (t : List ℕ) → kind_behind (kind_after (raw.ScriptDataEscaped kind) (45 ∷ 45 ∷ []) (62 ∷ t)) 62 t ≡ raw.ScriptData
   closed-kind script.Escaped t = refl
   closed-kind script.DoubleEscaped t = refl
 
-  dashes-close : (old : Tokenizer K) (kind : ScriptEscapeKind) → Says Sink (state.ScriptDataEscapedDashDash kind) old 62 nothing (CharacterTokens (62 ∷ [])) (λ b s t. at Sink (state.RawData raw.ScriptData) (record old { state = state.RawData raw.ScriptData }) (b + line_break (nat_eq 62 10)) s t)
+  dashes-close : (old : Tokenizer K) (kind : ScriptEscapeKind) → Says Sink (state.ScriptDataEscapedDashDash kind) old 62 nothing_owed (CharacterTokens (62 ∷ [])) (λ b s t. at Sink (state.RawData raw.ScriptData) (record old { state = state.RawData raw.ScriptData }) (b + line_break (nat_eq 62 10)) s t)
   unfolding held_at
   dashes-close old kind b s h t = char-says old (kind_after (raw.ScriptDataEscaped kind) (45 ∷ 45 ∷ []) (62 ∷ t)) raw.ScriptData b s h 62 t refl refl refl (closed-kind kind t)
 
-  pub dashes-closed : (old new : Tokenizer K) (kind : ScriptEscapeKind) (c : ℕ) (result : Result (ProcessResult H) ParseFault) → IsAt old (state.ScriptDataEscapedDashDash kind) → Sink.is_sound (Sink.view old.sink) → c ≡ 62 → TakesAs Sink nothing (CharacterTokens (62 ∷ [])) (record old { state = state.RawData raw.ScriptData }) new result → Keeps Sink old new c result
-  dashes-closed old new kind c result from ok e told = rw e (keeps_taken Sink nothing old (record old { state = state.RawData raw.ScriptData }) new 62 (state.ScriptDataEscapedDashDash kind) (state.RawData raw.ScriptData) (CharacterTokens (62 ∷ [])) result from (record { state = refl; fresh = from.fresh }) refl refl ok told (dashes-close old kind))
+  pub dashes-closed : (old new : Tokenizer K) (kind : ScriptEscapeKind) (c : ℕ) (result : Result (ProcessResult H) ParseFault) → IsAt old (state.ScriptDataEscapedDashDash kind) → Sink.is_sound (Sink.view old.sink) → c ≡ 62 → TakesAs Sink nothing_owed (CharacterTokens (62 ∷ [])) (record old { state = state.RawData raw.ScriptData }) new result → Keeps Sink old new c result
+  dashes-closed old new kind c result from ok e told = rw e (keeps_taken Sink nothing_owed old (record old { state = state.RawData raw.ScriptData }) new 62 (state.ScriptDataEscapedDashDash kind) (state.RawData raw.ScriptData) (CharacterTokens (62 ∷ [])) result from (record { state = refl; fresh = from.fresh }) refl refl ok told (dashes-close old kind))
 
   open-kind : (kind : ScriptEscapeKind) (c : ℕ) (t : List ℕ) → nat_eq 45 c ≡ false → nat_eq 62 c ≡ false → kind_after (raw.ScriptDataEscaped kind) (45 ∷ 45 ∷ []) (c ∷ t) ≡ raw.ScriptDataEscaped kind
   open-kind script.Escaped c t e f = rw (f, e) refl
@@ -123,15 +123,15 @@ module _ {K H : Type 0} (Sink : Ghosts K H) (laws : SinkLaws Sink.is_sound Sink.
   dashes-kept old new kind c result from e f h = keeps_silent Sink old (record old { state = state.RawData (raw.ScriptDataEscaped kind) }) new c (state.ScriptDataEscapedDashDash kind) (state.RawData (raw.ScriptDataEscaped kind)) result from (record { state = refl; fresh = from.fresh }) refl refl (dashes-other old kind c (ne_eqb 45 c (λ x. e (sym x))) (ne_eqb 62 c (λ x. f (sym x)))) h
 
   -- in the word behind "<"
-  word-letter : (old : Tokenizer K) (word : List ℕ) (c : ℕ) → is_ascii_alphabetic c ≡ true → word ≡ old.word ++ c ∷ [] → Says Sink (state.ScriptDataEscapeStart script.DoubleEscaped) old c nothing (CharacterTokens (c ∷ [])) (λ b s t. at Sink (state.ScriptDataEscapeStart script.DoubleEscaped) (record old { word = word }) (b + line_break (nat_eq c 10)) s t)
+  word-letter : (old : Tokenizer K) (word : List ℕ) (c : ℕ) → is_ascii_alphabetic c ≡ true → word ≡ old.word ++ c ∷ [] → Says Sink (state.ScriptDataEscapeStart script.DoubleEscaped) old c nothing_owed (CharacterTokens (c ∷ [])) (λ b s t. at Sink (state.ScriptDataEscapeStart script.DoubleEscaped) (record old { word = word }) (b + line_break (nat_eq c 10)) s t)
   unfolding held_at
   word-letter old word c l e b s h t =
       let kind = raw.ScriptDataEscaped script.Escaped in
       char-says old (kind_after kind (60 ∷ old.word) (c ∷ t)) (kind_after kind (60 ∷ word) t) b s h c t (letter-no_open c l) (letter-no_reference c l) (letter-no_null c l)
       (sym (kind_after-more kind (60 ∷ old.word) c t) ∙ ap (λ w. kind_after kind (60 ∷ w) t) (sym e))
 
-  pub word-letter_told : (old new : Tokenizer K) (word : List ℕ) (c : ℕ) (result : Result (ProcessResult H) ParseFault) → IsAt old (state.ScriptDataEscapeStart script.DoubleEscaped) → Sink.is_sound (Sink.view old.sink) → is_ascii_alphabetic c ≡ true → word ≡ old.word ++ c ∷ [] → TakesAs Sink nothing (CharacterTokens (c ∷ [])) (record old { word = word }) new result → Keeps Sink old new c result
-  word-letter_told old new word c result from ok l e told = keeps_taken Sink nothing old (record old { word = word }) new c (state.ScriptDataEscapeStart script.DoubleEscaped) (state.ScriptDataEscapeStart script.DoubleEscaped) (CharacterTokens (c ∷ [])) result from (record { state = from.state; fresh = from.fresh }) refl refl ok told (word-letter old word c l e)
+  pub word-letter_told : (old new : Tokenizer K) (word : List ℕ) (c : ℕ) (result : Result (ProcessResult H) ParseFault) → IsAt old (state.ScriptDataEscapeStart script.DoubleEscaped) → Sink.is_sound (Sink.view old.sink) → is_ascii_alphabetic c ≡ true → word ≡ old.word ++ c ∷ [] → TakesAs Sink nothing_owed (CharacterTokens (c ∷ [])) (record old { word = word }) new result → Keeps Sink old new c result
+  word-letter_told old new word c result from ok l e told = keeps_taken Sink nothing_owed old (record old { word = word }) new c (state.ScriptDataEscapeStart script.DoubleEscaped) (state.ScriptDataEscapeStart script.DoubleEscaped) (CharacterTokens (c ∷ [])) result from (record { state = from.state; fresh = from.fresh }) refl refl ok told (word-letter old word c l e)
 
   word-other : (old : Tokenizer K) (kind : RawKind) (c : ℕ) → list_all is_ascii_alphabetic old.word ≡ true → is_ascii_alphabetic c ≡ false → kind ≡ raw.ScriptDataEscaped (if ends_script old.word c then script.DoubleEscaped else script.Escaped) → (b : ℕ) (s : Sink.State × Notes ℕ) (t : List ℕ)
       → at Sink (state.ScriptDataEscapeStart script.DoubleEscaped) old b s (c ∷ t) ≡ at Sink (state.RawData kind) (record old { state = state.RawData kind }) b s (c ∷ t)
@@ -143,15 +143,15 @@ module _ {K H : Type 0} (Sink : Ghosts K H) (laws : SinkLaws Sink.is_sound Sink.
   word-kept old new kind c result from w l e h = keeps_silent Sink old (record old { state = state.RawData kind }) new c (state.ScriptDataEscapeStart script.DoubleEscaped) (state.RawData kind) result from (record { state = refl; fresh = from.fresh }) refl refl (word-other old kind c w l e) h
 
   -- in the word behind "</" in text that is escaped twice
-  end_word-letter : (old : Tokenizer K) (word : List ℕ) (c : ℕ) → is_ascii_alphabetic c ≡ true → word ≡ old.word ++ c ∷ [] → Says Sink state.ScriptDataDoubleEscapeEnd old c nothing (CharacterTokens (c ∷ [])) (λ b s t. at Sink state.ScriptDataDoubleEscapeEnd (record old { word = word }) (b + line_break (nat_eq c 10)) s t)
+  end_word-letter : (old : Tokenizer K) (word : List ℕ) (c : ℕ) → is_ascii_alphabetic c ≡ true → word ≡ old.word ++ c ∷ [] → Says Sink state.ScriptDataDoubleEscapeEnd old c nothing_owed (CharacterTokens (c ∷ [])) (λ b s t. at Sink state.ScriptDataDoubleEscapeEnd (record old { word = word }) (b + line_break (nat_eq c 10)) s t)
   unfolding held_at
   end_word-letter old word c l e b s h t =
       let kind = raw.ScriptDataEscaped script.DoubleEscaped in
       char-says old (kind_after kind (60 ∷ 47 ∷ old.word) (c ∷ t)) (kind_after kind (60 ∷ 47 ∷ word) t) b s h c t (letter-no_open c l) (letter-no_reference c l) (letter-no_null c l)
       (sym (kind_after-more kind (60 ∷ 47 ∷ old.word) c t) ∙ ap (λ w. kind_after kind (60 ∷ 47 ∷ w) t) (sym e))
 
-  pub end_word-letter_told : (old new : Tokenizer K) (word : List ℕ) (c : ℕ) (result : Result (ProcessResult H) ParseFault) → IsAt old state.ScriptDataDoubleEscapeEnd → Sink.is_sound (Sink.view old.sink) → is_ascii_alphabetic c ≡ true → word ≡ old.word ++ c ∷ [] → TakesAs Sink nothing (CharacterTokens (c ∷ [])) (record old { word = word }) new result → Keeps Sink old new c result
-  end_word-letter_told old new word c result from ok l e told = keeps_taken Sink nothing old (record old { word = word }) new c state.ScriptDataDoubleEscapeEnd state.ScriptDataDoubleEscapeEnd (CharacterTokens (c ∷ [])) result from (record { state = from.state; fresh = from.fresh }) refl refl ok told (end_word-letter old word c l e)
+  pub end_word-letter_told : (old new : Tokenizer K) (word : List ℕ) (c : ℕ) (result : Result (ProcessResult H) ParseFault) → IsAt old state.ScriptDataDoubleEscapeEnd → Sink.is_sound (Sink.view old.sink) → is_ascii_alphabetic c ≡ true → word ≡ old.word ++ c ∷ [] → TakesAs Sink nothing_owed (CharacterTokens (c ∷ [])) (record old { word = word }) new result → Keeps Sink old new c result
+  end_word-letter_told old new word c result from ok l e told = keeps_taken Sink nothing_owed old (record old { word = word }) new c state.ScriptDataDoubleEscapeEnd state.ScriptDataDoubleEscapeEnd (CharacterTokens (c ∷ [])) result from (record { state = from.state; fresh = from.fresh }) refl refl ok told (end_word-letter old word c l e)
 
   end_word-other : (old : Tokenizer K) (kind : RawKind) (c : ℕ) → list_all is_ascii_alphabetic old.word ≡ true → is_ascii_alphabetic c ≡ false → kind ≡ raw.ScriptDataEscaped (if ends_script old.word c then script.Escaped else script.DoubleEscaped) → (b : ℕ) (s : Sink.State × Notes ℕ) (t : List ℕ)
       → at Sink state.ScriptDataDoubleEscapeEnd old b s (c ∷ t) ≡ at Sink (state.RawData kind) (record old { state = state.RawData kind }) b s (c ∷ t)

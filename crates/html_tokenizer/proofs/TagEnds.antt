@@ -17,7 +17,7 @@ use Rattle.html_tokens.specs.Sink.{Step, numbered}
 use Rattle.html_tokens.specs.Tags.{last_name, behind_tag, is_faulty_tag}
 use Rattle.html_tokenizer.specs.declared.tokenizer.Tokenizer.{Tokenizer}
 use Rattle.html_tokenizer.specs.Rest.{rows_of, standing, held_at}
-use Rattle.html_tokenizer.specs.Steps.{owed_for, IsAt, PausesAt, more, noted_by, Rises, state_behind, answer_to, Fails, Erred, EndedTag, EndsTag, nothing, owed_by, hearing, reads}
+use Rattle.html_tokenizer.specs.Steps.{owed_for, IsAt, PausesAt, more, noted_by, Rises, state_behind, answer_to, Fails, Erred, EndedTag, EndsTag, nothing_owed, owed_by, and_heard, reads}
 use Rattle.html_tokenizer.proofs.Glue.{at, fits-at, now-at}
 use Rattle.html_tokenizer.proofs.Rises.{heard-more, rises-heard}
 use Rattle.html_tokenizer.proofs.Lawful.{erred-more}
@@ -39,7 +39,7 @@ module _ {K H : Type 0} (Sink : Ghosts K H) where
   -- what is read behind a tag is what the machine reads where the reply has it
   reads-behind : (k : Tokenizer K) (reply : TokenSinkResult H) (b : ℕ) (s : Sink.State) (notes : Notes ℕ) (t : List ℕ)
       → reads Sink (rows_of k) (next_stand (standing k InData) (numbered Sink.number reply)) b (s, record notes { pauses = paused notes.pauses (numbered Sink.number reply) }) t
-      ≡ at Sink (state_behind reply) k b (s, noted_by Sink.number nothing notes (answer_to reply)) t
+      ≡ at Sink (state_behind reply) k b (s, noted_by Sink.number nothing_owed notes (answer_to reply)) t
   unfolding held_at
   reads-behind k reply.Continue b s notes t = refl
   reads-behind k (reply.Script handle) b s notes t = refl
@@ -83,7 +83,7 @@ module _ {K H : Type 0} (Sink : Ghosts K H) where
   -- The tag was told behind its error, if it has one.
   pub tag-ended : (old mid new : Tokenizer K) (after : K) (last : Option (List ℕ)) (left tag : Tag) (line : ℕ) (reply : TokenSinkResult H) (result : ProcessResult H) → old.char_ref ≡ None → Erred Sink (owed_for (grave_if (is_faulty_tag old.tag))) old mid
       → last ≡ last_name old.tag.kind old.tag.name old.last_start_tag → tag ≡ mid.tag → line ≡ line_number mid.stream.breaks
-      → Sink.step (Sink.view mid.sink) (TagToken tag) line ≡ Ok (Sink.view after, numbered Sink.number reply) → Sink.is_sound (Sink.view after) → Sink.has_failed after ≡ false → Rises Sink.errors (hearing (Sink.is_quiet (Sink.view mid.sink) (TagToken tag)) nothing) mid.sink after
+      → Sink.step (Sink.view mid.sink) (TagToken tag) line ≡ Ok (Sink.view after, numbered Sink.number reply) → Sink.is_sound (Sink.view after) → Sink.has_failed after ≡ false → Rises Sink.errors (and_heard (Sink.is_quiet (Sink.view mid.sink) (TagToken tag)) nothing_owed) mid.sink after
       → new ≡ record mid { sink = after; state = state_behind reply; last_start_tag = last; tag = left } → result ≡ answer_to reply
       → EndedTag Sink old new result
   tag-ended old mid new after last left tag line reply result fresh erred is_last is_tag is_line gives ok works rises is answer =
@@ -97,4 +97,4 @@ module _ {K H : Type 0} (Sink : Ghosts K H) where
       ap (λ x. Sink.is_quiet (Sink.view mid.sink) (TagToken x)) is_tag ∙ (ap (λ (k : Tokenizer K). Sink.is_quiet (Sink.view mid.sink) (TagToken k.tag)) erred.changed ∙ ap (λ s. Sink.is_quiet s (TagToken old.tag)) erred.sink) in
       rw (is, answer) (ended old (record mid { sink = after; state = state_behind reply; last_start_tag = last; tag = left }) reply
       (record { state = refl; fresh = ap (λ (k : Tokenizer K). k.char_ref) erred.changed ∙ fresh })
-      (ap (λ (k : Tokenizer K). k.stream) erred.changed) is_last gives' ok works (subst (λ q. Rises Sink.errors (hearing q (owed_for (grave_if (is_faulty_tag old.tag)))) old.sink after) same_quiet (rises-heard Sink.errors (Sink.is_quiet (Sink.view mid.sink) (TagToken tag)) old.sink mid.sink after erred.rises rises)))
+      (ap (λ (k : Tokenizer K). k.stream) erred.changed) is_last gives' ok works (subst (λ q. Rises Sink.errors (and_heard q (owed_for (grave_if (is_faulty_tag old.tag)))) old.sink after) same_quiet (rises-heard Sink.errors (Sink.is_quiet (Sink.view mid.sink) (TagToken tag)) old.sink mid.sink after erred.rises rises)))

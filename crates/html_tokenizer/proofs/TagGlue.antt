@@ -12,7 +12,7 @@ use Rattle.html_tokens.specs.declared.sink.TokenSink.{Ghosts}
 use Rattle.html_tokens.specs.Sink.{Step, Refusal}
 use Rattle.html_tokenizer.specs.CharRefs.{may_hold}
 use Rattle.html_tokenizer.specs.declared.tokenizer.Tokenizer.{Tokenizer}
-use Rattle.html_tokenizer.specs.Steps.{IsAt, Took, Keeps, nothing}
+use Rattle.html_tokenizer.specs.Steps.{IsAt, Took, Keeps, nothing_owed}
 use Rattle.html_tokenizer.proofs.Glue.{no-break, at, now-at, took, noted_marked, keeps_marked, Absorbs}
 use Rattle.html_tokenizer.proofs.Lawful.{erred-more}
 use Rattle.html_tokenizer.proofs.Readings.{sum-zero}
@@ -34,7 +34,7 @@ module _ {K H : Type 0} (Sink : Ghosts K H) where
   took_reference old st from fits ok same =
       let new = record old { char_ref = Some [] } in
       record {
-        owed = nothing;
+        owed = nothing_owed;
         rises = rises-same Sink.errors old.sink old.sink refl;
         same = λ notes t.
             now-at Sink old st old.stream.breaks (Sink.view old.sink, notes) (38 ∷ t) from

@@ -15,7 +15,7 @@ use Rattle.html_tokenizer.specs.Calls.{counted, Passed, Passes, owed_for_char}
 use Rattle.html_tokenizer.specs.declared.tokenizer.Stream.{Stream}
 use Rattle.html_tokenizer.specs.declared.tokenizer.Tokenizer.{Tokenizer}
 use Rattle.html_tokenizer.specs.Rest.{pending}
-use Rattle.html_tokenizer.specs.Steps.{Owed, now, noted_by, PausesAt, Erred, Errs, Took, Keeps, nothing}
+use Rattle.html_tokenizer.specs.Steps.{Owed, now, noted_by, PausesAt, Erred, Errs, Took, Keeps, nothing_owed}
 use Rattle.html_tokenizer.proofs.Glue.{held-other, erred-now, fails-along, fails-before}
 use Rattle.html_tokenizer.proofs.Rises.{rises-then}
 use Rattle.html_tokenizer.proofs.HeldRefused.{held-refused}
@@ -78,7 +78,7 @@ module _ {K H : Type 0} (Sink : Ghosts K H) where
       rw (p.1, p.2) (λ notes t. fails-along Sink old.sink _ _ fault (erred-same old erred notes (c ∷ t) e) (fails-before Sink erred.sink old.sink _ fault e.works (h notes t)))
 
   -- The error of the character could not be told, so nothing could.
-  pub error-refused : (old mid : Tokenizer K) (c : ℕ) (fault : ParseFault) (result : Result (ProcessResult H) ParseFault) → Errs Sink nothing old mid (Err fault)
+  pub error-refused : (old mid : Tokenizer K) (c : ℕ) (fault : ParseFault) (result : Result (ProcessResult H) ParseFault) → Errs Sink nothing_owed old mid (Err fault)
       → IsErrAnd result (λ y. y ≡ fault) → Passes Sink old mid c result
   error-refused old mid c fault result fails is =
       let p = err_from_is_err_and result is in

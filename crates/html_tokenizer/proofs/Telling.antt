@@ -14,7 +14,7 @@ use Rattle.html_tokens.specs.Sink.{Step, Refusal}
 use Rattle.html_tokenizer.specs.CharRefs.{fits_in, may_hold}
 use Rattle.html_tokenizer.specs.declared.tokenizer.Tokenizer.{Tokenizer}
 use Rattle.html_tokenizer.specs.Rest.{pending, held_at}
-use Rattle.html_tokenizer.specs.Steps.{Owed, IsAt, more, Fails, Told, TakesAs, Took, Keeps, now, nothing}
+use Rattle.html_tokenizer.specs.Steps.{Owed, IsAt, more, Fails, Told, TakesAs, Took, Keeps, now, nothing_owed}
 use Rattle.html_tokenizer.proofs.Rises.{rises-same}
 use Rattle.html_tokenizer.proofs.Glue.{at, now-at, Says, took_told, keeps_told, token-fails, no-break}
 
@@ -81,7 +81,7 @@ module _ {K H : Type 0} (Sink : Ghosts K H) where
       → ((b : ℕ) (s : Sink.State × Notes ℕ) (t : List ℕ) → at Sink st old b s (c ∷ t) ≡ at Sink st new b s (38 ∷ t))
       → Took Sink old new c flow.Continue
   took_reference old new c st from fits unbroken state held stream same ok law = record {
-    owed = nothing;
+    owed = nothing_owed;
     rises = rises-same Sink.errors old.sink new.sink same;
     same = λ notes t.
         now-at Sink old st old.stream.breaks (Sink.view old.sink, notes) (c ∷ t) from

@@ -32,7 +32,7 @@ use Rattle.html_tokenizer.specs.CharRefs.{fits_in}
 use Rattle.html_tokenizer.specs.declared.tokenizer.Tokenizer.{Tokenizer}
 use Rattle.html_tokenizer.specs.Quotes.{quote_of}
 use Rattle.html_tokenizer.specs.Rest.{rows_of, standing, held_at}
-use Rattle.html_tokenizer.specs.Steps.{Owed, Erred, IsAt, more, Tells, Took, how_many, now, nothing, owed_for_each, hearing, together, reads}
+use Rattle.html_tokenizer.specs.Steps.{Owed, Erred, IsAt, more, Tells, Took, how_many, now, nothing_owed, owed_for_each, and_heard, together, reads}
 use Rattle.html_tokenizer.specs.Stops.{with_breaks, raw_stops, value_stops, state_stops, IsRunAt}
 use Rattle.html_tokenizer.proofs.AttributeValues.{quoted-more, unquoted-held}
 use Rattle.html_tokenizer.proofs.Comments.{bogus-push, comment-push}
@@ -143,17 +143,17 @@ module _ {K H : Type 0} (Sink : Ghosts K H) where
   abbrev RunSays : State → Tokenizer K → List ℕ → Type 0
   RunSays st old run = (b : ℕ) (s : Sink.State × Notes ℕ) → Sink.is_sound s.0 → (t : List ℕ) → at Sink st old b s (run ++ t) ≡ (noting Sink.step Sink.is_quiet s (CharacterTokens run) (line_number b) >>= λ p. at Sink st old b p.0 t)
 
-  run-kept : (old new : Tokenizer K) (run : List ℕ) (st : State) (result : Result (Unit {0}) ParseFault) → IsAt old st → Sink.is_sound (Sink.view old.sink) → Tells Sink nothing (CharacterTokens run) old new result → RunSays st old run
+  run-kept : (old new : Tokenizer K) (run : List ℕ) (st : State) (result : Result (Unit {0}) ParseFault) → IsAt old st → Sink.is_sound (Sink.view old.sink) → Tells Sink nothing_owed (CharacterTokens run) old new result → RunSays st old run
       → KeepsRun Sink old new run result
   run-kept old new run st (Ok x) from ok told law = record {
-    owed = hearing (Sink.is_quiet (Sink.view old.sink) (CharacterTokens run)) nothing;
+    owed = and_heard (Sink.is_quiet (Sink.view old.sink) (CharacterTokens run)) nothing_owed;
     rises = told.rises;
     same = λ notes t.
         now-at Sink old st old.stream.breaks (Sink.view old.sink, notes) (run ++ t) from
         ∙ law old.stream.breaks (Sink.view old.sink, notes) ok t
-        ∙ told-next Sink nothing old new (CharacterTokens run) notes (λ s. at Sink st old old.stream.breaks s t) told
-        ∙ sym (now-target Sink old new.sink st old.stream.breaks (Sink.view new.sink, more (hearing (Sink.is_quiet (Sink.view old.sink) (CharacterTokens run)) nothing) notes) t from)
-        ∙ sym (ap (λ k. now Sink k old.stream.breaks (Sink.view new.sink, more (hearing (Sink.is_quiet (Sink.view old.sink) (CharacterTokens run)) nothing) notes) t) told.changed);
+        ∙ told-next Sink nothing_owed old new (CharacterTokens run) notes (λ s. at Sink st old old.stream.breaks s t) told
+        ∙ sym (now-target Sink old new.sink st old.stream.breaks (Sink.view new.sink, more (and_heard (Sink.is_quiet (Sink.view old.sink) (CharacterTokens run)) nothing_owed) notes) t from)
+        ∙ sym (ap (λ k. now Sink k old.stream.breaks (Sink.view new.sink, more (and_heard (Sink.is_quiet (Sink.view old.sink) (CharacterTokens run)) nothing_owed) notes) t) told.changed);
     stream = ap (λ k. k.stream) told.changed;
     sound = told.sound;
     fits = ap (λ k. fits_in k.char_ref k.state) told.changed ∙ fits-at old st from;
@@ -199,7 +199,7 @@ module _ {K H : Type 0} (Sink : Ghosts K H) where
     unfolding took-then
     run-noted front [] lacking =
         let none : (took : TookRun Sink (machine front) (machine front) []) × (took.owed.is_quiet ≡ true → how_many odd [] ≡ 0) =
-        (record { owed = nothing; rises = rises-same Sink.errors (machine front).sink (machine front).sink refl; same = λ notes t. refl; stream = refl; sound = ok front; fits = fits front; works = λ h. h }, λ h. refl) in
+        (record { owed = nothing_owed; rises = rises-same Sink.errors (machine front).sink (machine front).sink refl; same = λ notes t. refl; stream = refl; sound = ok front; fits = fits front; works = λ h. h }, λ h. refl) in
         rw (append-nil front) none
     run-noted front (c ∷ run) lacking =
         let lacks = All-head (λ c. has bits c ≡ false) c run lacking in
@@ -318,7 +318,7 @@ module _ {K H : Type 0} (Sink : Ghosts K H) (laws : SinkLaws Sink.is_sound Sink.
 
   -- a run was told as text
   pub text_run-kept : (old new : Tokenizer K) (run : List ℕ) (result : Result (Unit {0}) ParseFault) → IsRunAt old run → Sink.is_sound (Sink.view old.sink) → ((kind : AttrValueKind) → old.state ≢ state.AttributeValue kind) → old.state ≢ state.BogusComment → old.state ≢ state.Comment
-      → Tells Sink nothing (CharacterTokens run) old new result → KeepsRun Sink old new run result
+      → Tells Sink nothing_owed (CharacterTokens run) old new result → KeepsRun Sink old new run result
   text_run-kept old new run result runs ok e f g told =
       let from = run-at old run runs in
       run-kept Sink old new run old.state result from.0 ok told (text-says old old.state runs.stops run from.1 e f g runs.filled runs.lacking)

@@ -15,7 +15,7 @@ use Rattle.html_tokens.specs.Reading.{line_number, line_break, reading}
 use Rattle.html_tokens.specs.Sink.{Step, SinkLaws}
 use Rattle.html_tokenizer.specs.declared.tokenizer.Tokenizer.{Tokenizer}
 use Rattle.html_tokenizer.specs.Rest.{rows_of, standing, held_at}
-use Rattle.html_tokenizer.specs.Steps.{IsAt, TakesAs, Took, Keeps, nothing, a_fault, owed_for, reads}
+use Rattle.html_tokenizer.specs.Steps.{IsAt, TakesAs, Took, Keeps, nothing_owed, a_fault, owed_for, reads}
 use Rattle.html_tokenizer.proofs.Lawful.{noting-lawful}
 use Rattle.html_tokenizer.proofs.Readings.{reading-char, sum-zero}
 use Rattle.html_tokenizer.proofs.Runs.{reading-token}
@@ -33,7 +33,7 @@ module _ {K H : Type 0} (Sink : Ghosts K H) (laws : SinkLaws Sink.is_sound Sink.
   pub plaintext-kept : (old new : Tokenizer K) (c : ℕ) (result : Result (ProcessResult H) ParseFault) → IsAt old state.Plaintext → Sink.is_sound (Sink.view old.sink) → TakesAs Sink (owed_for (grave_if (nat_eq c 0))) (CharacterTokens (shown c ∷ [])) old new result → Keeps Sink old new c result
   plaintext-kept old new c result from ok told = keeps_taken Sink (owed_for (grave_if (nat_eq c 0))) old old new c state.Plaintext state.Plaintext (CharacterTokens (shown c ∷ [])) result from from refl refl ok told (plaintext-says old c)
 
-  data-char : (old : Tokenizer K) (c : ℕ) → nat_eq c 60 ≡ false → nat_eq c 38 ≡ false → nat_eq c 0 ≡ false → Says Sink state.Data old c nothing (CharacterTokens (c ∷ [])) (λ b s t. at Sink state.Data old (b + line_break (nat_eq c 10)) s t)
+  data-char : (old : Tokenizer K) (c : ℕ) → nat_eq c 60 ≡ false → nat_eq c 38 ≡ false → nat_eq c 0 ≡ false → Says Sink state.Data old c nothing_owed (CharacterTokens (c ∷ [])) (λ b s t. at Sink state.Data old (b + line_break (nat_eq c 10)) s t)
   unfolding held_at
   data-char old c f g z b s h t =
       let plain = standing old InData in
@@ -46,8 +46,8 @@ module _ {K H : Type 0} (Sink : Ghosts K H) (laws : SinkLaws Sink.is_sound Sink.
       reading-token (λ p. Sink.is_sound p.0) (noting Sink.step Sink.is_quiet) noting_error (noting_cdata Sink.asks_cdata) (noting_end Sink.ended) (rows_of old) (noting-lawful Sink.is_sound Sink.step Sink.ended Sink.is_quiet laws) (Some Grave) plain plain b s h 0 t NullCharacterToken tt refl refl
 
   -- a character of text was taken
-  pub data-kept : (old new : Tokenizer K) (c : ℕ) (result : Result (ProcessResult H) ParseFault) → IsAt old state.Data → Sink.is_sound (Sink.view old.sink) → (c ≡ 60 → ⊥) → (c ≡ 38 → ⊥) → (c ≡ 0 → ⊥) → TakesAs Sink nothing (CharacterTokens (c ∷ [])) old new result → Keeps Sink old new c result
-  data-kept old new c result from ok f g z told = keeps_taken Sink nothing old old new c state.Data state.Data (CharacterTokens (c ∷ [])) result from from refl refl ok told (data-char old c (ne_eqb c 60 f) (ne_eqb c 38 g) (ne_eqb c 0 z))
+  pub data-kept : (old new : Tokenizer K) (c : ℕ) (result : Result (ProcessResult H) ParseFault) → IsAt old state.Data → Sink.is_sound (Sink.view old.sink) → (c ≡ 60 → ⊥) → (c ≡ 38 → ⊥) → (c ≡ 0 → ⊥) → TakesAs Sink nothing_owed (CharacterTokens (c ∷ [])) old new result → Keeps Sink old new c result
+  data-kept old new c result from ok f g z told = keeps_taken Sink nothing_owed old old new c state.Data state.Data (CharacterTokens (c ∷ [])) result from from refl refl ok told (data-char old c (ne_eqb c 60 f) (ne_eqb c 38 g) (ne_eqb c 0 z))
 
   -- U+0000 was handed out
   pub data-null_kept : (old new : Tokenizer K) (c : ℕ) (result : Result (ProcessResult H) ParseFault) → IsAt old state.Data → Sink.is_sound (Sink.view old.sink) → c ≡ 0 → TakesAs Sink a_fault NullCharacterToken old new result → Keeps Sink old new c result

@@ -31,7 +31,7 @@ use Rattle.html_tokenizer.specs.Pieces.{ComesAsRun}
 use Rattle.html_tokenizer.specs.Stops.{stops_of}
 use Rattle.html_queue.specs.declared.set.SmallCharSet.{SmallCharSet}
 use Rattle.html_tokenizer.specs.Rest.{rest, rows_of, standing, coming}
-use Rattle.html_tokenizer.specs.Steps.{IsAt, PausesAt, Owed, nothing, owed_for, owed_for_each, together, more, noted_by, Rises, now, Fails, reads}
+use Rattle.html_tokenizer.specs.Steps.{IsAt, PausesAt, Owed, nothing_owed, owed_for, owed_for_each, together, more, noted_by, Rises, now, Fails, reads}
 
 -- the pauses so far, and the one with which a call of `feed` hands back control
 abbrev pub paused_with : {H : Type 0} → (H → ℕ) → List Reply → TokenizerResult H → List Reply
@@ -49,7 +49,7 @@ owed_for_char exact c = owed_for (grave_if (exact && is_forbidden c))
 
 -- what the characters of a text owe on their own, where these are told
 abbrev pub owed_for_text : Bool → List ℕ → Owed
-owed_for_text false t = nothing
+owed_for_text false t = nothing_owed
 owed_for_text true t = owed_for_each is_forbidden t
 
 -- a number of line breaks behind one character more: at u64::MAX it stays

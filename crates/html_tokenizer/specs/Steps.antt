@@ -51,12 +51,12 @@ pub record Owed : Type 0 where
   pub faults : ℕ
   pub is_quiet : Bool
 
-abbrev pub nothing : Owed
-nothing = record { faults = 0; is_quiet = true }
+abbrev pub nothing_owed : Owed
+nothing_owed = record { faults = 0; is_quiet = true }
 
 -- what a fault owes, if there is one
 abbrev pub owed_for : Option Fault → Owed
-owed_for None = nothing
+owed_for None = nothing_owed
 owed_for (Some Grave) = record { faults = 1; is_quiet = false }
 owed_for (Some Slight) = record { faults = 0; is_quiet = false }
 
@@ -65,8 +65,8 @@ abbrev pub a_fault : Owed
 a_fault = owed_for (Some Grave)
 
 -- what is owed, and what a token owes that is quiet or is not
-abbrev pub hearing : Bool → Owed → Owed
-hearing heard owed = record owed { is_quiet = owed.is_quiet && heard }
+abbrev pub and_heard : Bool → Owed → Owed
+and_heard heard owed = record owed { is_quiet = owed.is_quiet && heard }
 
 -- what characters owe, and those before them
 abbrev pub together : Owed → Owed → Owed
@@ -97,7 +97,7 @@ noted_by number owed notes result = record (more owed notes) { pauses = paused_b
 -- The number of errors rose by so many at least, or is at u64::MAX; where nothing is owed it did not rise.
 pub record Rises {K : Type 0} (errors : K → ℕ) (owed : Owed) (before after : K) : Type 0 where
   pub enough : min (errors before + owed.faults) 0xffff_ffff_ffff_ffff ≤ errors after
-  pub none : owed.is_quiet ≡ true → errors after ≡ errors before
+  pub stays : owed.is_quiet ≡ true → errors after ≡ errors before
 
 -- where the machine goes by the reply to a tag
 abbrev pub state_behind : {H : Type 0} → TokenSinkResult H → State
@@ -150,7 +150,7 @@ module _ {K H : Type 0} (Sink : Ghosts K H) where
     pub changed : new ≡ record old { sink = new.sink }
     pub sound : Sink.is_sound (Sink.view new.sink)
     pub works : Sink.has_failed new.sink ≡ false
-    pub rises : Rises Sink.errors (hearing (Sink.is_quiet (Sink.view old.sink) token) owed) old.sink new.sink
+    pub rises : Rises Sink.errors (and_heard (Sink.is_quiet (Sink.view old.sink) token) owed) old.sink new.sink
 
   abbrev pub Tells : Owed → Token → Tokenizer K → Tokenizer K → Result (Unit {0}) ParseFault → Type 0
   Tells owed token old new (Ok x) = Told owed token old new
@@ -190,7 +190,7 @@ module _ {K H : Type 0} (Sink : Ghosts K H) where
 
   -- what a tag owes
   abbrev pub owed_by : Tokenizer K → Owed
-  owed_by k = hearing (Sink.is_quiet (Sink.view k.sink) (TagToken k.tag)) (owed_for (grave_if (is_faulty_tag k.tag)))
+  owed_by k = and_heard (Sink.is_quiet (Sink.view k.sink) (TagToken k.tag)) (owed_for (grave_if (is_faulty_tag k.tag)))
 
   -- The tag has gone to the sink behind its error, if it has one, and the machine is where the reply has it.
   pub record EndedTag (old new : Tokenizer K) (result : ProcessResult H) : Type 0 where

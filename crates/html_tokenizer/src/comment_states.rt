@@ -2,7 +2,7 @@
 ghost use Rattle.std.specs.Prelude.{◌≡◌, []};
 ghost use Rattle.html_tokens.specs.declared.states.State.TheVariants as state;
 ghost use Rattle.html_tokens.specs.declared.token.Token.TheVariants.{CommentToken};
-ghost use Rattle.html_tokenizer.specs.Steps.{IsAt, Tells, Keeps, nothing, a_fault};
+ghost use Rattle.html_tokenizer.specs.Steps.{IsAt, Tells, Keeps, nothing_owed, a_fault};
 
 use crate::characters::shown;
 use crate::tell::empty;
@@ -17,7 +17,7 @@ impl<Sink: TokenSink> Tokenizer<Sink> {
     /// Hands out the comment. What follows is data.
     fn emit_comment(&mut self) -> Result<(), ParseFault>
         requires sound { Sink.is_sound (Sink.view self.old.sink) }
-        ensures { Tells Sink.TokenSink nothing (CommentToken self.old.comment) (record self.old { comment = []; state = state.Data }) self.new result }
+        ensures { Tells Sink.TokenSink nothing_owed (CommentToken self.old.comment) (record self.old { comment = []; state = state.Data }) self.new result }
     {
         let comment = mem::replace(&mut self.comment, empty(self.stream.alloc));
         self.state = State::Data;

@@ -1,6 +1,6 @@
 //! Laws over the calls of a tokenizer. Each function's contract is one law.
 ghost use Rattle.html_tokenizer.specs.Laws.{IsAnyPieces, IsCleanTextQuiet, IsEachFaultTold, IsOwing, IsSameRoad};
-ghost use Rattle.html_tokenizer.specs.Steps.{nothing};
+ghost use Rattle.html_tokenizer.specs.Steps.{nothing_owed};
 
 use html_tokens::sink::TokenSink;
 

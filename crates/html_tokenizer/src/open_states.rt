@@ -3,7 +3,7 @@ ghost use Rattle.std.specs.Prelude.{◌≡◌, ◌∷◌, [], true, Some};
 ghost use Rattle.std.specs.Char.{is_ascii_alphabetic};
 ghost use Rattle.html_tokens.specs.declared.states.State.TheVariants as state;
 ghost use Rattle.html_tokens.specs.declared.token.Token.TheVariants.{CharacterTokens};
-ghost use Rattle.html_tokenizer.specs.Steps.{IsAt, Tells, Keeps, nothing, owed_for};
+ghost use Rattle.html_tokenizer.specs.Steps.{IsAt, Tells, Keeps, nothing_owed, owed_for};
 ghost use Rattle.html_tokens.specs.Item.{Slight};
 
 use crate::keyword::Keyword;

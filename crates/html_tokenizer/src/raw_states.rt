@@ -7,7 +7,7 @@ ghost use Rattle.html_tokens.specs.declared.states.RawKind.TheVariants as raw;
 ghost use Rattle.html_tokens.specs.declared.states.ScriptEscapeKind.TheVariants as script;
 ghost use Rattle.html_tokens.specs.declared.token.Token.TheVariants.{CharacterTokens};
 ghost use Rattle.html_tokens.specs.RawText.{ends_at_tag, has_references};
-ghost use Rattle.html_tokenizer.specs.Steps.{IsAt, Tells, Keeps, nothing};
+ghost use Rattle.html_tokenizer.specs.Steps.{IsAt, Tells, Keeps, nothing_owed};
 ghost use Rattle.html_tokenizer.specs.Words.{ends_raw_text, may_escape};
 
 use crate::characters::ends_tag_name;
@@ -293,7 +293,7 @@ impl<Sink: TokenSink> Tokenizer<Sink> {
     /// Hands out the end tag that is held, which was text.
     pub(crate) fn tell_end_tag(&mut self) -> Result<(), ParseFault>
         requires sound { Sink.is_sound (Sink.view self.old.sink) }
-        ensures is { Tells Sink.TokenSink nothing (CharacterTokens (60 ∷ 47 ∷ self.old.word)) self.old self.new result }
+        ensures is { Tells Sink.TokenSink nothing_owed (CharacterTokens (60 ∷ 47 ∷ self.old.word)) self.old self.new result }
         ensures letters { list_all is_ascii_alphabetic self.old.word ≡ true }
     {
         let mut text = empty(self.stream.alloc);

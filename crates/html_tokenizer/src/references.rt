@@ -8,7 +8,7 @@ ghost use Rattle.html_references.specs.References.{IsCheckedTable, has_values, i
 ghost use Rattle.markup.specs.declared.fault.ParseFault.TheVariants.{Memory};
 ghost use Rattle.html_tokenizer.specs.CharRefs;
 ghost use Rattle.html_tokens.specs.Table.{values};
-ghost use Rattle.html_tokenizer.specs.Steps.{nothing};
+ghost use Rattle.html_tokenizer.specs.Steps.{nothing_owed};
 
 use crate::held_reference::HeldReference;
 use crate::numbers::{self, Found};

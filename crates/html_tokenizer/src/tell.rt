@@ -3,7 +3,7 @@ ghost use Rattle.std.specs.Prelude.{◌≡◌, ◌∷◌, [], nat_eq, is_some};
 ghost use Rattle.html_tokens.specs.declared.token.Token.TheVariants.{CharacterTokens, CommentToken};
 ghost use Rattle.html_tokens.specs.Characters.{shown};
 ghost use Rattle.html_tokens.specs.Reading.{line_number};
-ghost use Rattle.html_tokenizer.specs.Steps.{IsNoTag, Tells, Errs, EndsTag, nothing, a_fault, owed_for};
+ghost use Rattle.html_tokenizer.specs.Steps.{IsNoTag, Tells, Errs, EndsTag, nothing_owed, a_fault, owed_for};
 ghost use Rattle.html_tokens.specs.Item.{grave_if};
 
 use crate::tokenizer::Tokenizer;
@@ -34,7 +34,7 @@ impl<Sink: TokenSink> Tokenizer<Sink> {
     pub(crate) fn tell(&mut self, token: Token) -> Result<(), ParseFault>
         requires no_tag { IsNoTag token }
         requires sound { Sink.is_sound (Sink.view self.old.sink) }
-        ensures { Tells Sink.TokenSink nothing token self.old self.new result }
+        ensures { Tells Sink.TokenSink nothing_owed token self.old self.new result }
     {
         let line = self.line();
         let _reply = self.sink.process_token(token, line)?;
@@ -90,7 +90,7 @@ impl<Sink: TokenSink> Tokenizer<Sink> {
     /// Hands out a character as text.
     pub(crate) fn tell_char(&mut self, c: char) -> Result<(), ParseFault>
         requires sound { Sink.is_sound (Sink.view self.old.sink) }
-        ensures { Tells Sink.TokenSink nothing (CharacterTokens (c ∷ [])) self.old self.new result }
+        ensures { Tells Sink.TokenSink nothing_owed (CharacterTokens (c ∷ [])) self.old self.new result }
     {
         let mut text = empty(self.stream.alloc);
         text.push(c)?;

@@ -3,7 +3,7 @@ ghost use Rattle.std.specs.Prelude.{◌∷◌, [], nat_eq};
 ghost use Rattle.html_tokens.specs.declared.states.State.TheVariants as state;
 ghost use Rattle.html_tokens.specs.declared.token.Token.TheVariants.{CharacterTokens, NullCharacterToken};
 ghost use Rattle.html_tokens.specs.Characters.{shown};
-ghost use Rattle.html_tokenizer.specs.Steps.{IsAt, Tells, TakesAs, Keeps, nothing, a_fault, owed_for};
+ghost use Rattle.html_tokenizer.specs.Steps.{IsAt, Tells, TakesAs, Keeps, nothing_owed, a_fault, owed_for};
 ghost use Rattle.html_tokens.specs.Item.{grave_if};
 
 use crate::held_reference::HeldReference;
@@ -50,7 +50,7 @@ impl<Sink: TokenSink> Tokenizer<Sink> {
     /// Hands out a character of text, and goes on.
     pub(crate) fn take_char(&mut self, c: char) -> Result<ProcessResult<Sink::Handle>, ParseFault>
         requires sound { Sink.is_sound (Sink.view self.old.sink) }
-        ensures { TakesAs Sink.TokenSink nothing (CharacterTokens (c ∷ [])) self.old self.new result }
+        ensures { TakesAs Sink.TokenSink nothing_owed (CharacterTokens (c ∷ [])) self.old self.new result }
     {
         self.tell_char(c)?;
         Ok(ProcessResult::Continue)
@@ -77,7 +77,7 @@ impl<Sink: TokenSink> Tokenizer<Sink> {
     /// Hands out two characters as text.
     pub(crate) fn tell_two(&mut self, first: char, second: char) -> Result<(), ParseFault>
         requires sound { Sink.is_sound (Sink.view self.old.sink) }
-        ensures { Tells Sink.TokenSink nothing (CharacterTokens (first ∷ second ∷ [])) self.old self.new result }
+        ensures { Tells Sink.TokenSink nothing_owed (CharacterTokens (first ∷ second ∷ [])) self.old self.new result }
     {
         let mut text = empty(self.stream.alloc);
         text.push(first)?;
@@ -92,7 +92,7 @@ impl<Sink: TokenSink> Tokenizer<Sink> {
         second: char,
     ) -> Result<ProcessResult<Sink::Handle>, ParseFault>
         requires sound { Sink.is_sound (Sink.view self.old.sink) }
-        ensures { TakesAs Sink.TokenSink nothing (CharacterTokens (first ∷ second ∷ [])) self.old self.new result }
+        ensures { TakesAs Sink.TokenSink nothing_owed (CharacterTokens (first ∷ second ∷ [])) self.old self.new result }
     {
         self.tell_two(first, second)?;
         Ok(ProcessResult::Continue)
