@@ -7,22 +7,20 @@ use Rattle.html_tokens.specs.declared.replies.ProcessResult.{ProcessResult}
 use Rattle.html_tokens.specs.declared.replies.ProcessResult.TheVariants as flow
 use Rattle.html_tokens.specs.declared.states.State.{State}
 use Rattle.html_tokens.specs.declared.states.State.TheVariants as state
-use Rattle.html_tokens.specs.declared.token.Token.{Token}
 use Rattle.html_tokens.specs.declared.sink.TokenSink.{Ghosts}
 use Rattle.html_tokens.specs.Characters.{is_white_space, ends_attribute_name, lowered}
 use Rattle.html_tokens.specs.Item.{slight_if, InData, InTag, silent}
 use Rattle.html_tokens.specs.Notes.{Notes, noting, noting_error, noting_cdata, noting_end}
-use Rattle.html_tokens.specs.Reading.{erred_by, line_break, play}
-use Rattle.html_tokens.specs.Sink.{Step}
+use Rattle.html_tokens.specs.Reading.{erred_by, line_break}
 use Rattle.html_tokens.specs.Tags.{behind_tag, with_attribute, attribute_after, is_odd_in_name, is_odd_first}
 use Rattle.html_tokenizer.specs.declared.tokenizer.Tokenizer.{Tokenizer}
 use Rattle.html_tokenizer.specs.Rest.{rows_of, standing, held_at}
 use Rattle.html_tokenizer.specs.Steps.{IsAt, Took, Keeps, EndsTag, plays}
 use Rattle.html_tokenizer.proofs.TagEnds.{noted-tag}
-use Rattle.html_tokenizer.proofs.Glue.{at, took, took_tag, keeps_silent, Absorbs}
+use Rattle.html_tokenizer.proofs.Glue.{at, took, took_tag, took_odd, keeps_odd, keeps_silent, Absorbs}
 use Rattle.html_tokenizer.proofs.Lawful.{slight-absorbed}
 use Rattle.html_tokenizer.proofs.Readings.{play-nothing}
-use Rattle.html_tokenizer.proofs.TagGlue.{took_here, took_odd, keeps_odd, absorbs_odd}
+use Rattle.html_tokenizer.proofs.TagGlue.{took_here, absorbs_odd}
 use Rattle.html_tokenizer.proofs.AttributeReadings.{name-goes_on, name-ends, equals-space, equals-sign, equals-none}
 use Rattle.html_tokenizer.proofs.TagReadings.{tag-space, tag-end, tag-attribute}
 

@@ -1,5 +1,5 @@
 -- Before an attribute's value, in it and behind it.
-use Rattle.std.proofs.Common.{◌≡◌, ◌≢◌, ◌∙◌, ℕ, ◌+◌, nat_eq, Bool, true, false, List, [], ◌∷◌, ◌++◌, Option, Some, Result, refl, sym, ap, arith}
+use Rattle.std.proofs.Common.{◌≡◌, ◌≢◌, ◌∙◌, ℕ, ◌+◌, nat_eq, true, false, List, [], ◌∷◌, ◌++◌, Option, Some, Result, refl, sym, ap, arith}
 use Rattle.std.specs.Prelude.{not}
 use Rattle.std.proofs.lemmas.Bool.Decides.{nat_tests}
 use Rattle.std.proofs.lemmas.Bool.{ne_eqb, eq-eqb, eqb-true}
@@ -9,22 +9,20 @@ use Rattle.html_tokens.specs.declared.replies.ProcessResult.TheVariants as flow
 use Rattle.html_tokens.specs.declared.states.AttrValueKind.{AttrValueKind}
 use Rattle.html_tokens.specs.declared.states.AttrValueKind.TheVariants as value
 use Rattle.html_tokens.specs.declared.states.State.TheVariants as state
-use Rattle.html_tokens.specs.declared.token.Token.{Token}
 use Rattle.html_tokens.specs.declared.sink.TokenSink.{Ghosts}
 use Rattle.html_tokens.specs.Characters.{is_white_space, ends_word, ends_tag_name, shown, is_null}
 use Rattle.html_tokens.specs.Item.{Slight, slight_if, InData, InTag}
 use Rattle.html_tokens.specs.Notes.{Notes, noting, noting_error, noting_cdata, noting_end}
-use Rattle.html_tokens.specs.Reading.{erred_by, line_break, reading, play}
-use Rattle.html_tokens.specs.Sink.{Step}
+use Rattle.html_tokens.specs.Reading.{erred_by, line_break}
 use Rattle.html_tokens.specs.Tags.{opening, opened_by, Other, quoted_after, unquoted_after, no_value, is_odd_unquoted}
 use Rattle.html_tokenizer.specs.declared.tokenizer.Tokenizer.{Tokenizer}
 use Rattle.html_tokenizer.specs.Quotes.{quote_of}
 use Rattle.html_tokenizer.specs.Rest.{rows_of, standing, held_at}
 use Rattle.html_tokenizer.specs.Steps.{IsAt, Took, Keeps, reads, plays}
-use Rattle.html_tokenizer.proofs.Glue.{at, took, keeps_silent, Absorbs}
+use Rattle.html_tokenizer.proofs.Glue.{at, took, took_odd, noted_odd, keeps_odd, keeps_silent, Absorbs}
 use Rattle.html_tokenizer.proofs.Lawful.{slight-absorbed}
 use Rattle.html_tokenizer.proofs.Readings.{play-marked}
-use Rattle.html_tokenizer.proofs.TagGlue.{took_reference, took_odd, noted_odd, keeps_odd, absorbs_odd}
+use Rattle.html_tokenizer.proofs.TagGlue.{took_reference, absorbs_odd}
 use Rattle.html_tokenizer.proofs.AttributeNames.{finished, finish-odd, finish-before}
 use Rattle.html_tokenizer.proofs.AttributeReadings.{value-opens, value-space, value-quote, value-apostrophe, quoted-goes_on, quoted-closes, unquoted-ends, unquoted-goes_on}
 

@@ -1,18 +1,17 @@
 -- CDATA sections.
-use Rattle.std.proofs.Common.{◌≡◌, ℕ, ◌+◌, Bool, false, nat_eq, [], ◌∷◌, Some, Result, refl, sym, ap}
+use Rattle.std.proofs.Common.{◌≡◌, ℕ, ◌+◌, false, nat_eq, [], ◌∷◌, Some, Result, refl, sym, ap}
 use Rattle.std.proofs.lemmas.Bool.{ne_eqb}
 use Rattle.std.specs.Result.{IsErrAnd}
 use Rattle.markup.specs.declared.fault.ParseFault.{ParseFault}
 use Rattle.html_tokens.specs.declared.replies.ProcessResult.{ProcessResult}
 use Rattle.html_tokens.specs.declared.replies.ProcessResult.TheVariants as flow
 use Rattle.html_tokens.specs.declared.states.State.TheVariants as state
-use Rattle.html_tokens.specs.declared.token.Token.{Token}
 use Rattle.html_tokens.specs.declared.token.Token.TheVariants.{CharacterTokens, NullCharacterToken}
 use Rattle.html_tokens.specs.declared.sink.TokenSink.{Ghosts}
 use Rattle.html_tokens.specs.Notes.{noting, noting_error, noting_cdata, noting_end}
 use Rattle.html_tokens.specs.Item.{Grave, InCdata}
-use Rattle.html_tokens.specs.Reading.{line_number, line_break, reading}
-use Rattle.html_tokens.specs.Sink.{Step, SinkLaws}
+use Rattle.html_tokens.specs.Reading.{line_number, line_break}
+use Rattle.html_tokens.specs.Sink.{SinkLaws}
 use Rattle.html_tokens.proofs.Readings.{reading-item}
 use Rattle.html_tokenizer.specs.declared.tokenizer.Tokenizer.{Tokenizer}
 use Rattle.html_tokenizer.specs.Rest.{rows_of, standing, held_at}

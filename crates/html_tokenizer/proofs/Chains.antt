@@ -2,7 +2,6 @@
 use Rattle.std.proofs.Common.{◌≡◌, ◌∙◌, ℕ, ◌+◌, ◌≤◌, Bool, List, [], ◌∷◌, ◌++◌, Result, Ok, Err, sym, ap, subst, append_assoc, append-nil, arith, refl, true, false}
 use Rattle.std.specs.Prelude.{◌&&◌, min}
 use Rattle.std.proofs.lemmas.Bool.{and_parts, and_from}
-use Rattle.html_tokens.specs.declared.token.Token.{Token}
 use Rattle.html_tokens.specs.Notes.{Notes, no_notes, errors_of, was_quiet, noted_reading}
 use Rattle.html_tokens.specs.declared.options.TokenizerOpts.{TokenizerOpts}
 use Rattle.html_tokens.specs.declared.sink.TokenSink.{Ghosts}
@@ -10,7 +9,7 @@ use Rattle.html_tokens.specs.NormalText.{newlines_behind, without_mark}
 use Rattle.html_tokens.specs.Reading.{first_stand}
 use Rattle.html_tokens.specs.Table.{Row}
 use Rattle.html_tokens.proofs.CleanItems.{reading-clean}
-use Rattle.html_tokens.specs.Sink.{Step, Refusal}
+use Rattle.html_tokens.specs.Sink.{Refusal}
 use Rattle.html_tokenizer.specs.declared.tokenizer.Tokenizer.{Tokenizer}
 use Rattle.html_tokenizer.specs.Calls.{to_come, noted_with, HasEnded, IsNew, owed_for_text}
 use Rattle.html_tokenizer.specs.Steps.{Owed, more, together, Rises}

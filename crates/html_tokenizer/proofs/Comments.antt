@@ -7,22 +7,21 @@ use Rattle.html_tokens.specs.declared.replies.ProcessResult.{ProcessResult}
 use Rattle.html_tokens.specs.declared.replies.ProcessResult.TheVariants as flow
 use Rattle.html_tokens.specs.declared.states.State.{State}
 use Rattle.html_tokens.specs.declared.states.State.TheVariants as state
-use Rattle.html_tokens.specs.declared.token.Token.{Token}
 use Rattle.html_tokens.specs.declared.token.Token.TheVariants.{CommentToken}
 use Rattle.html_tokens.specs.declared.sink.TokenSink.{Ghosts}
 use Rattle.html_tokens.specs.Characters.{shown, begins}
 use Rattle.html_tokens.specs.Comments.{comment_end, comment_by, empty_by, comment_at, comment_after, bogus_by, bogus_comment_after}
 use Rattle.html_tokens.specs.Item.{Stand, Item, InData, behind, told_as, Fault, Grave, Slight}
 use Rattle.html_tokens.specs.Notes.{Notes, noting, noting_error, noting_cdata, noting_end}
-use Rattle.html_tokens.specs.Reading.{line_number, line_break, line_breaks, reading, play}
-use Rattle.html_tokens.specs.Sink.{◌>>=◌, Step, SinkLaws}
+use Rattle.html_tokens.specs.Reading.{line_number, line_break, line_breaks}
+use Rattle.html_tokens.specs.Sink.{◌>>=◌, SinkLaws}
 use Rattle.html_tokenizer.specs.declared.tokenizer.Tokenizer.{Tokenizer}
 use Rattle.html_tokenizer.specs.Rest.{rows_of, standing, held_at}
 use Rattle.html_tokenizer.specs.Steps.{owed_for, Owed, IsAt, more, Fails, Told, Took, Keeps, nothing_owed, a_fault, reads, plays}
 use Rattle.html_tokenizer.proofs.Readings.{play-is}
-use Rattle.html_tokenizer.proofs.Ends.{EndSays, end-says, emitted-took, emitted-failed, same-text, behind-one, item-absorbs, state-absorbs}
+use Rattle.html_tokenizer.proofs.Ends.{EndSays, end-says, emitted-took, emitted-failed, same-text, behind-one, item-absorbs}
 use Rattle.html_tokenizer.proofs.Errors.{tells-less}
-use Rattle.html_tokenizer.proofs.Glue.{Absorbs, at, took, keeps_silent}
+use Rattle.html_tokenizer.proofs.Glue.{Absorbs, at, took, keeps_silent, state-absorbs}
 use Rattle.html_tokenizer.proofs.Rises.{slighted-no-more}
 
 -- ITEMS
@@ -160,15 +159,15 @@ module _ {K H : Type 0} (Sink : Ghosts K H) (laws : SinkLaws Sink.is_sound Sink.
   module _ (old : Tokenizer K) (c : ℕ) where
     pub bogus-absorbs : IsAt old state.BogusComment → Absorbs Sink old c
     unfolding held_at
-    bogus-absorbs from = state-absorbs Sink laws old c state.BogusComment from (λ b s t. item-absorbs Sink laws old (bogus_comment_after (standing old InData) old.comment (c ∷ t)) b s (c ∷ t) (bogus-fault (standing old InData) old.comment (c ∷ t)))
+    bogus-absorbs from = state-absorbs Sink old c state.BogusComment from (λ b s t. item-absorbs Sink laws old (bogus_comment_after (standing old InData) old.comment (c ∷ t)) b s (c ∷ t) (bogus-fault (standing old InData) old.comment (c ∷ t)))
 
     pub comment-absorbs : IsAt old state.Comment → Absorbs Sink old c
     unfolding held_at
-    comment-absorbs from = state-absorbs Sink laws old c state.Comment from (λ b s t. item-absorbs Sink laws old (comment_after (standing old InData) old.comment (c ∷ t)) b s (c ∷ t) (comment-fault (standing old InData) old.comment (c ∷ t)))
+    comment-absorbs from = state-absorbs Sink old c state.Comment from (λ b s t. item-absorbs Sink laws old (comment_after (standing old InData) old.comment (c ∷ t)) b s (c ∷ t) (comment-fault (standing old InData) old.comment (c ∷ t)))
 
     pub end-absorbs : IsAt old state.CommentEnd → Absorbs Sink old c
     unfolding held_at
-    end-absorbs from = state-absorbs Sink laws old c state.CommentEnd from (λ b s t. item-absorbs Sink laws old (comment_after (standing old InData) old.comment (45 ∷ 45 ∷ c ∷ t)) b s (45 ∷ 45 ∷ c ∷ t) (comment-fault (standing old InData) old.comment (45 ∷ 45 ∷ c ∷ t)))
+    end-absorbs from = state-absorbs Sink old c state.CommentEnd from (λ b s t. item-absorbs Sink laws old (comment_after (standing old InData) old.comment (45 ∷ 45 ∷ c ∷ t)) b s (45 ∷ 45 ∷ c ∷ t) (comment-fault (standing old InData) old.comment (45 ∷ 45 ∷ c ∷ t)))
 
   -- A character more of the comment is held, or of what may end it.
   module _ (old : Tokenizer K) (c : ℕ) (ok : Sink.is_sound (Sink.view old.sink)) where

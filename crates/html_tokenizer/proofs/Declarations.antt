@@ -6,7 +6,6 @@ use Rattle.markup.specs.declared.fault.ParseFault.{ParseFault}
 use Rattle.html_tokens.specs.declared.replies.ProcessResult.{ProcessResult}
 use Rattle.html_tokens.specs.declared.replies.ProcessResult.TheVariants as flow
 use Rattle.html_tokens.specs.declared.states.State.TheVariants as state
-use Rattle.html_tokens.specs.declared.token.Token.{Token}
 use Rattle.html_tokens.specs.declared.sink.TokenSink.{Ghosts}
 use Rattle.html_tokens.specs.Characters.{begins, begins_any_case}
 use Rattle.html_tokens.specs.Comments.{comment_at, bogus_comment_after}
@@ -14,8 +13,8 @@ use Rattle.html_tokens.specs.Doctypes.{doctype_at}
 use Rattle.html_tokens.specs.Item.{Stand, Item, InData, InCdata, moved, behind, behind_all, silent}
 use Rattle.html_tokens.specs.Items.{declaration_at, declaration_by}
 use Rattle.html_tokens.specs.Notes.{Notes, noting, noting_error, noting_cdata, noting_end}
-use Rattle.html_tokens.specs.Reading.{line_break, reading, play}
-use Rattle.html_tokens.specs.Sink.{Step, SinkLaws}
+use Rattle.html_tokens.specs.Reading.{line_break}
+use Rattle.html_tokens.specs.Sink.{SinkLaws}
 use Rattle.html_tokenizer.specs.declared.keyword.Word.{Word}
 use Rattle.html_tokenizer.specs.declared.keyword.Word.TheVariants as word
 use Rattle.html_tokenizer.specs.declared.tokenizer.Tokenizer.{Tokenizer}

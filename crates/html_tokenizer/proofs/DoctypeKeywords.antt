@@ -9,14 +9,13 @@ use Rattle.html_tokens.specs.declared.replies.ProcessResult.TheVariants as flow
 use Rattle.html_tokens.specs.declared.states.DoctypeIdKind.TheVariants as id
 use Rattle.html_tokens.specs.declared.states.State.TheVariants as state
 use Rattle.html_tokens.specs.declared.token.Doctype.{Doctype}
-use Rattle.html_tokens.specs.declared.token.Token.{Token}
 use Rattle.html_tokens.specs.declared.sink.TokenSink.{Ghosts}
 use Rattle.html_tokens.specs.Characters.{is_white_space, ends_word, begins_any_case}
 use Rattle.html_tokens.specs.Doctypes.{forced, given, after_name, keyword_at, keyword_by, after_public_keyword, after_system_keyword, junk_after}
 use Rattle.html_tokens.specs.Item.{Stand, Item, InData, behind_all}
-use Rattle.html_tokens.specs.Notes.{Notes, noting, noting_error, noting_cdata, noting_end}
-use Rattle.html_tokens.specs.Reading.{line_break, play}
-use Rattle.html_tokens.specs.Sink.{Step, SinkLaws}
+use Rattle.html_tokens.specs.Notes.{Notes}
+use Rattle.html_tokens.specs.Reading.{line_break}
+use Rattle.html_tokens.specs.Sink.{SinkLaws}
 use Rattle.html_tokenizer.specs.declared.keyword.Word.{Word}
 use Rattle.html_tokenizer.specs.declared.keyword.Word.TheVariants as word
 use Rattle.html_tokenizer.specs.declared.tokenizer.Tokenizer.{Tokenizer}

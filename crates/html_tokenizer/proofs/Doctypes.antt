@@ -11,22 +11,22 @@ use Rattle.html_tokens.specs.declared.states.DoctypeIdKind.TheVariants as id
 use Rattle.html_tokens.specs.declared.states.State.{State}
 use Rattle.html_tokens.specs.declared.states.State.TheVariants as state
 use Rattle.html_tokens.specs.declared.token.Doctype.{Doctype}
-use Rattle.html_tokens.specs.declared.token.Token.{Token}
 use Rattle.html_tokens.specs.declared.token.Token.TheVariants.{DoctypeToken}
 use Rattle.html_tokens.specs.declared.sink.TokenSink.{Ghosts}
 use Rattle.html_tokens.specs.Characters.{shown, has_null, lowered, all_lowered, is_white_space, ends_word, run, white}
 use Rattle.html_tokens.specs.Doctypes.{no_doctype, forced, given, given_more, junk_by, closed_by, identifier_end, identifier, shown_all, Opening, Quote, doctype_at, doctype_behind, doctype_name_after, after_name, after_public_keyword, after_system_keyword, name_by, doctype_name_at, keyword_at, public_at, system_at, behind_public, behind_system, public_by, system_by, second_by, opening, Close, Junk, public_after, system_after, after_public, after_system, junk_after}
 use Rattle.html_tokens.specs.Item.{Stand, Item, InData, behind, behind_all, marked, Fault, grave_if, and_slight, and_slight_if}
 use Rattle.html_tokens.specs.Notes.{Notes, noting, noting_error, noting_cdata, noting_end}
-use Rattle.html_tokens.specs.Reading.{line_number, line_break, reading, play}
-use Rattle.html_tokens.specs.Sink.{◌>>=◌, Step, SinkLaws}
+use Rattle.html_tokens.specs.Reading.{line_number, line_break}
+use Rattle.html_tokens.specs.Sink.{◌>>=◌, SinkLaws}
 use Rattle.html_tokenizer.specs.declared.tokenizer.Tokenizer.{Tokenizer}
 use Rattle.html_tokenizer.specs.Rest.{rows_of, standing, with_identifier, held_at}
 use Rattle.html_tokenizer.specs.Steps.{owed_for, IsAt, more, Fails, Told, Took, Keeps, reads, plays}
-use Rattle.html_tokenizer.proofs.Ends.{EndSays, end-says, emitted-took, emitted-failed, behind-any, item-absorbs, state-absorbs, item-marked, behind-odd}
+use Rattle.html_tokenizer.proofs.Ends.{EndSays, end-says, emitted-took, emitted-failed, behind-any, item-absorbs}
 use Rattle.html_tokenizer.proofs.Errors.{tells-less}
-use Rattle.html_tokenizer.proofs.Glue.{Absorbs, at, took, took_marked, keeps_marked, keeps_silent}
-use Rattle.html_tokenizer.proofs.Readings.{marked-both}
+use Rattle.html_tokenizer.proofs.Glue.{Absorbs, at, took, took_odd, keeps_odd, keeps_silent, state-absorbs}
+use Rattle.html_tokenizer.proofs.Lawful.{slight-absorbed}
+use Rattle.html_tokenizer.proofs.Readings.{marked-both, play-marked, play-odd}
 use Rattle.html_tokenizer.proofs.Rises.{slighted-no-more}
 
 -- ITEMS
@@ -231,35 +231,35 @@ module _ {K H : Type 0} (Sink : Ghosts K H) (laws : SinkLaws Sink.is_sound Sink.
   module _ (old : Tokenizer K) (c : ℕ) where
     pub doctype-absorbs : IsAt old state.Doctype → not (ends_word c) ≡ true → Absorbs Sink old c
     unfolding held_at
-    doctype-absorbs from h = state-absorbs Sink laws old c state.Doctype from (λ b s t. item-absorbs Sink laws old (doctype_at (standing old InData) (c ∷ t)) b s (c ∷ t) (doctype-odd (standing old InData) c t h))
+    doctype-absorbs from h = state-absorbs Sink old c state.Doctype from (λ b s t. item-absorbs Sink laws old (doctype_at (standing old InData) (c ∷ t)) b s (c ∷ t) (doctype-odd (standing old InData) c t h))
 
     pub name-absorbs : IsAt old state.DoctypeName → nat_eq c 0 ≡ true → Absorbs Sink old c
     unfolding held_at
-    name-absorbs from h = state-absorbs Sink laws old c state.DoctypeName from (λ b s t. item-absorbs Sink laws old (doctype_name_after (standing old InData) old.temporary (c ∷ t)) b s (c ∷ t) (name-odd (standing old InData) old.temporary c t h))
+    name-absorbs from h = state-absorbs Sink old c state.DoctypeName from (λ b s t. item-absorbs Sink laws old (doctype_name_after (standing old InData) old.temporary (c ∷ t)) b s (c ∷ t) (name-odd (standing old InData) old.temporary c t h))
 
     pub keyword-absorbs : (kind : DoctypeIdKind) → IsAt old (state.AfterDoctypeKeyword kind) → Absorbs Sink old c
     unfolding held_at
-    keyword-absorbs id.Public from = state-absorbs Sink laws old c (state.AfterDoctypeKeyword id.Public) from (λ b s t. item-absorbs Sink laws old (after_public_keyword (standing old InData) old.doctype (c ∷ t)) b s (c ∷ t) (public_keyword-fault (standing old InData) old.doctype (c ∷ t)))
-    keyword-absorbs id.System from = state-absorbs Sink laws old c (state.AfterDoctypeKeyword id.System) from (λ b s t. item-absorbs Sink laws old (after_system_keyword (standing old InData) old.doctype (c ∷ t)) b s (c ∷ t) (system_keyword-fault (standing old InData) old.doctype (c ∷ t)))
+    keyword-absorbs id.Public from = state-absorbs Sink old c (state.AfterDoctypeKeyword id.Public) from (λ b s t. item-absorbs Sink laws old (after_public_keyword (standing old InData) old.doctype (c ∷ t)) b s (c ∷ t) (public_keyword-fault (standing old InData) old.doctype (c ∷ t)))
+    keyword-absorbs id.System from = state-absorbs Sink old c (state.AfterDoctypeKeyword id.System) from (λ b s t. item-absorbs Sink laws old (after_system_keyword (standing old InData) old.doctype (c ∷ t)) b s (c ∷ t) (system_keyword-fault (standing old InData) old.doctype (c ∷ t)))
 
     pub double-absorbs : (kind : DoctypeIdKind) → IsAt old (state.DoctypeIdentifierDoubleQuoted kind) → Absorbs Sink old c
     unfolding held_at
-    double-absorbs id.Public from = state-absorbs Sink laws old c (state.DoctypeIdentifierDoubleQuoted id.Public) from (λ b s t. item-absorbs Sink laws old (public_after 34 (standing old InData) old.doctype old.temporary (c ∷ t)) b s (c ∷ t) (public-fault 34 (standing old InData) old.doctype old.temporary (c ∷ t)))
-    double-absorbs id.System from = state-absorbs Sink laws old c (state.DoctypeIdentifierDoubleQuoted id.System) from (λ b s t. item-absorbs Sink laws old (system_after 34 (standing old InData) old.doctype old.temporary (c ∷ t)) b s (c ∷ t) (system-fault 34 (standing old InData) old.doctype old.temporary (c ∷ t)))
+    double-absorbs id.Public from = state-absorbs Sink old c (state.DoctypeIdentifierDoubleQuoted id.Public) from (λ b s t. item-absorbs Sink laws old (public_after 34 (standing old InData) old.doctype old.temporary (c ∷ t)) b s (c ∷ t) (public-fault 34 (standing old InData) old.doctype old.temporary (c ∷ t)))
+    double-absorbs id.System from = state-absorbs Sink old c (state.DoctypeIdentifierDoubleQuoted id.System) from (λ b s t. item-absorbs Sink laws old (system_after 34 (standing old InData) old.doctype old.temporary (c ∷ t)) b s (c ∷ t) (system-fault 34 (standing old InData) old.doctype old.temporary (c ∷ t)))
 
     pub single-absorbs : (kind : DoctypeIdKind) → IsAt old (state.DoctypeIdentifierSingleQuoted kind) → Absorbs Sink old c
     unfolding held_at
-    single-absorbs id.Public from = state-absorbs Sink laws old c (state.DoctypeIdentifierSingleQuoted id.Public) from (λ b s t. item-absorbs Sink laws old (public_after 39 (standing old InData) old.doctype old.temporary (c ∷ t)) b s (c ∷ t) (public-fault 39 (standing old InData) old.doctype old.temporary (c ∷ t)))
-    single-absorbs id.System from = state-absorbs Sink laws old c (state.DoctypeIdentifierSingleQuoted id.System) from (λ b s t. item-absorbs Sink laws old (system_after 39 (standing old InData) old.doctype old.temporary (c ∷ t)) b s (c ∷ t) (system-fault 39 (standing old InData) old.doctype old.temporary (c ∷ t)))
+    single-absorbs id.Public from = state-absorbs Sink old c (state.DoctypeIdentifierSingleQuoted id.Public) from (λ b s t. item-absorbs Sink laws old (public_after 39 (standing old InData) old.doctype old.temporary (c ∷ t)) b s (c ∷ t) (public-fault 39 (standing old InData) old.doctype old.temporary (c ∷ t)))
+    single-absorbs id.System from = state-absorbs Sink old c (state.DoctypeIdentifierSingleQuoted id.System) from (λ b s t. item-absorbs Sink laws old (system_after 39 (standing old InData) old.doctype old.temporary (c ∷ t)) b s (c ∷ t) (system-fault 39 (standing old InData) old.doctype old.temporary (c ∷ t)))
 
     pub identifier-absorbs : (kind : DoctypeIdKind) → IsAt old (state.AfterDoctypeIdentifier kind) → Absorbs Sink old c
     unfolding held_at
-    identifier-absorbs id.Public from = state-absorbs Sink laws old c (state.AfterDoctypeIdentifier id.Public) from (λ b s t. item-absorbs Sink laws old (after_public (standing old InData) old.doctype (c ∷ t)) b s (c ∷ t) (after_public-fault (standing old InData) old.doctype (c ∷ t)))
-    identifier-absorbs id.System from = state-absorbs Sink laws old c (state.AfterDoctypeIdentifier id.System) from (λ b s t. item-absorbs Sink laws old (after_system (standing old InData) old.doctype (c ∷ t)) b s (c ∷ t) (after_system-fault (standing old InData) old.doctype (c ∷ t)))
+    identifier-absorbs id.Public from = state-absorbs Sink old c (state.AfterDoctypeIdentifier id.Public) from (λ b s t. item-absorbs Sink laws old (after_public (standing old InData) old.doctype (c ∷ t)) b s (c ∷ t) (after_public-fault (standing old InData) old.doctype (c ∷ t)))
+    identifier-absorbs id.System from = state-absorbs Sink old c (state.AfterDoctypeIdentifier id.System) from (λ b s t. item-absorbs Sink laws old (after_system (standing old InData) old.doctype (c ∷ t)) b s (c ∷ t) (after_system-fault (standing old InData) old.doctype (c ∷ t)))
 
     pub bogus-absorbs : IsAt old state.BogusDoctype → Absorbs Sink old c
     unfolding held_at
-    bogus-absorbs from = state-absorbs Sink laws old c state.BogusDoctype from (λ b s t. item-absorbs Sink laws old (junk_after (standing old InData) old.doctype (c ∷ t)) b s (c ∷ t) (junk-fault (standing old InData) old.doctype (c ∷ t)))
+    bogus-absorbs from = state-absorbs Sink old c state.BogusDoctype from (λ b s t. item-absorbs Sink laws old (junk_after (standing old InData) old.doctype (c ∷ t)) b s (c ∷ t) (junk-fault (standing old InData) old.doctype (c ∷ t)))
 
   -- The machine moves on by a character that ends no doctype.
   module _ (old : Tokenizer K) (c : ℕ) (ok : Sink.is_sound (Sink.view old.sink)) where
@@ -307,8 +307,8 @@ module _ {K H : Type 0} (Sink : Ghosts K H) (laws : SinkLaws Sink.is_sound Sink.
     -- characters of a name or an identifier, and junk
     pub name-push : (front : List ℕ) → IsAt old state.DoctypeName → is_white_space c ≡ false → nat_eq c 62 ≡ false → front ≡ old.temporary ++ lowered c ∷ [] → Took Sink old (record old { temporary = front }) c flow.Continue
     unfolding held_at
-    name-push front from e f is = rw is (took_marked Sink (nat_eq c 0) old (record old { temporary = old.temporary ++ lowered c ∷ [] }) c state.DoctypeName state.DoctypeName from (record { state = from.state; fresh = from.fresh }) refl refl ok
-        (λ b s t. behind-odd Sink laws (nat_eq c 0) old _ _ b s c t (name-goes_on (standing old InData) old.temporary c t (word-other c e f))))
+    name-push front from e f is = rw is (took_odd Sink (nat_eq c 0) old (record old { temporary = old.temporary ++ lowered c ∷ [] }) c state.DoctypeName state.DoctypeName from (record { state = from.state; fresh = from.fresh }) refl refl ok
+        (λ b s t. play-odd (noting Sink.step Sink.is_quiet) noting_error (noting_cdata Sink.asks_cdata) (noting_end Sink.ended) (rows_of old) slight-absorbed (nat_eq c 0) _ _ b s c t (name-goes_on (standing old InData) old.temporary c t (word-other c e f))))
 
     pub double-push : (kind : DoctypeIdKind) (front : List ℕ) → IsAt old (state.DoctypeIdentifierDoubleQuoted kind) → nat_eq c 34 ≡ false → nat_eq c 62 ≡ false → front ≡ old.temporary ++ shown c ∷ [] → Took Sink old (record old { temporary = front }) c flow.Continue
     unfolding held_at
@@ -407,5 +407,5 @@ module _ {K H : Type 0} (Sink : Ghosts K H) (laws : SinkLaws Sink.is_sound Sink.
     pub doctype-other : IsAt old state.Doctype
         → Keeps Sink (record old { state = state.BeforeDoctypeName }) new c result → Keeps Sink old new c result
     unfolding held_at
-    doctype-other from keeps = keeps_marked Sink (not (ends_word c)) old (record old { state = state.BeforeDoctypeName }) new c state.Doctype state.BeforeDoctypeName result from (record { state = refl; fresh = from.fresh }) refl refl
-        (λ b s t. item-marked Sink laws (not (ends_word c)) old (doctype_behind (standing old InData) (c ∷ t)) b s (c ∷ t)) keeps
+    doctype-other from keeps = keeps_odd Sink (not (ends_word c)) old (record old { state = state.BeforeDoctypeName }) new c state.Doctype state.BeforeDoctypeName result from (record { state = refl; fresh = from.fresh }) refl refl
+        (λ b s t. play-marked (noting Sink.step Sink.is_quiet) noting_error (noting_cdata Sink.asks_cdata) (noting_end Sink.ended) (rows_of old) slight-absorbed (not (ends_word c)) (doctype_behind (standing old InData) (c ∷ t)) b s (c ∷ t)) keeps

@@ -16,9 +16,9 @@ use Rattle.html_tokens.specs.Comments.{comment_at, bogus_comment_after}
 use Rattle.html_tokens.specs.Doctypes.{no_doctype, forced, given, doctype_at, doctype_behind, doctype_name_after, after_name, keyword_at, keyword_by, public_after, system_after, junk_after}
 use Rattle.html_tokens.specs.Item.{Stand, Item, InData, behind, behind_all, marked, told_as, Grave, grave_if, and_slight, and_slight_if}
 use Rattle.html_tokens.specs.Items.{declaration_at, declaration_by}
-use Rattle.html_tokens.specs.Notes.{Notes, noting, noting_error, noting_cdata, noting_end}
-use Rattle.html_tokens.specs.Reading.{line_number, line_breaks, reading, play}
-use Rattle.html_tokens.specs.Sink.{◌>>=◌, Step, SinkLaws}
+use Rattle.html_tokens.specs.Notes.{Notes, noting}
+use Rattle.html_tokens.specs.Reading.{line_number, line_breaks}
+use Rattle.html_tokens.specs.Sink.{◌>>=◌, SinkLaws}
 use Rattle.html_tokenizer.specs.Calls.{at_end, Closes}
 use Rattle.html_tokenizer.specs.EndStates.{is_comment_part, is_doctype_part}
 use Rattle.html_tokenizer.specs.declared.keyword.Word.TheVariants as word

@@ -1,5 +1,5 @@
 -- How the end of the input is told: what is still to come over no further text.
-use Rattle.std.proofs.Common.{◌≡◌, ◌∙◌, ℕ, Bool, List, [], Option, Result, Ok, Err, refl, sym, ap}
+use Rattle.std.proofs.Common.{◌≡◌, ◌∙◌, ℕ, List, [], Option, Result, Ok, Err, refl, sym, ap}
 use Rattle.std.specs.Result.{IsErrAnd}
 use Rattle.std.proofs.lemmas.Result.{err_from_is_err_and}
 use Rattle.markup.specs.declared.fault.ParseFault.{ParseFault}
@@ -9,7 +9,6 @@ use Rattle.html_tokens.specs.declared.token.Token.TheVariants.{EOFToken}
 use Rattle.html_tokens.specs.declared.sink.TokenSink.{Ghosts}
 use Rattle.html_tokens.specs.Notes.{Notes, noting, noting_error}
 use Rattle.html_tokens.specs.Reading.{◌>>=◌, line_number, erred_by}
-use Rattle.html_tokens.specs.Sink.{Step}
 use Rattle.html_tokenizer.specs.Calls.{at_end, Closes}
 use Rattle.html_tokenizer.specs.declared.tokenizer.Tokenizer.{Tokenizer}
 use Rattle.html_tokenizer.specs.Steps.{Owed, IsAt, more, Tells, Errs, now, nothing_owed, Told, owed_for, and_heard, together}

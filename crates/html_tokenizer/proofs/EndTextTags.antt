@@ -1,7 +1,6 @@
 -- The end of the input in a tag, which is not told.
-use Rattle.std.proofs.Common.{◌≡◌, ℕ, ◌+◌, Bool, true, None, Result, refl, ap, Some}
+use Rattle.std.proofs.Common.{◌≡◌, ℕ, ◌+◌, true, None, Result, refl, ap, Some}
 use Rattle.markup.specs.declared.fault.ParseFault.{ParseFault}
-use Rattle.html_tokens.specs.declared.token.Token.{Token}
 use Rattle.html_tokens.specs.Notes.{Notes, noting_error}
 use Rattle.html_tokens.specs.declared.states.AttrValueKind.TheVariants as value
 use Rattle.html_tokens.specs.declared.states.State.{State}
@@ -9,7 +8,6 @@ use Rattle.html_tokens.specs.declared.states.State.TheVariants as state
 use Rattle.html_tokens.specs.declared.sink.TokenSink.{Ghosts}
 use Rattle.html_tokens.specs.Reading.{reading_from}
 use Rattle.html_tokens.specs.Tags.{value_from}
-use Rattle.html_tokens.specs.Sink.{Step}
 use Rattle.html_tokenizer.specs.Calls.{at_end, Closes}
 use Rattle.html_tokenizer.specs.EndText.{is_tag_part}
 use Rattle.html_tokenizer.specs.declared.tokenizer.Tokenizer.{Tokenizer}

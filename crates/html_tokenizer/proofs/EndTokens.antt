@@ -1,5 +1,5 @@
 -- What the end of the input makes of a token that is told there.
-use Rattle.std.proofs.Common.{◌≡◌, ◌∙◌, ℕ, Bool, List, [], take, drop, Result, Ok, Err, sym, ap, Option}
+use Rattle.std.proofs.Common.{◌≡◌, ◌∙◌, ℕ, List, [], take, drop, Result, Ok, Err, sym, ap, Option}
 use Rattle.markup.specs.declared.fault.ParseFault.{ParseFault}
 use Rattle.html_tokens.specs.declared.replies.TokenSinkResult.TheVariants as reply
 use Rattle.html_tokens.specs.declared.states.State.{State}
@@ -7,8 +7,8 @@ use Rattle.html_tokens.specs.declared.token.Token.{Token}
 use Rattle.html_tokens.specs.declared.sink.TokenSink.{Ghosts}
 use Rattle.html_tokens.specs.Item.{Item, InData, told_as, Fault}
 use Rattle.html_tokens.specs.Notes.{Notes, noted, noting, noting_error, noting_cdata, noting_end, heard}
-use Rattle.html_tokens.specs.Reading.{erred_by, line_number, line_breaks, reading_from, reading, play}
-use Rattle.html_tokens.specs.Sink.{◌>>=◌, Step, SinkLaws}
+use Rattle.html_tokens.specs.Reading.{erred_by, line_number, line_breaks, reading_from}
+use Rattle.html_tokens.specs.Sink.{◌>>=◌, SinkLaws}
 use Rattle.html_tokenizer.specs.Calls.{at_end, Closes}
 use Rattle.html_tokenizer.specs.declared.tokenizer.Tokenizer.{Tokenizer}
 use Rattle.html_tokenizer.specs.Rest.{rows_of, standing}

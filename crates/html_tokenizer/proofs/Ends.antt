@@ -1,5 +1,5 @@
 -- How an item that is a token but no tag ends, and how the machine moves on within one.
-use Rattle.std.proofs.Common.{◌≡◌, ◌∙◌, ℕ, ◌+◌, Bool, true, false, nat_eq, List, ◌∷◌, take, drop, Result, sym, ap, Option, Some}
+use Rattle.std.proofs.Common.{◌≡◌, ◌∙◌, ℕ, ◌+◌, true, false, nat_eq, List, ◌∷◌, take, drop, Result, sym, ap, Option, Some}
 use Rattle.std.specs.Prelude.{is_some}
 use Rattle.std.specs.Result.{IsErrAnd}
 use Rattle.markup.specs.declared.fault.ParseFault.{ParseFault}
@@ -9,16 +9,16 @@ use Rattle.html_tokens.specs.declared.states.State.{State}
 use Rattle.html_tokens.specs.declared.states.State.TheVariants as state
 use Rattle.html_tokens.specs.declared.token.Token.{Token}
 use Rattle.html_tokens.specs.declared.sink.TokenSink.{Ghosts}
-use Rattle.html_tokens.specs.Item.{Item, InData, behind, told_as, Fault, Slight, slight_if, marked}
+use Rattle.html_tokens.specs.Item.{Item, InData, behind, told_as, Fault, Slight}
 use Rattle.html_tokens.specs.Notes.{Notes, noting, noting_error, noting_cdata, noting_end}
-use Rattle.html_tokens.specs.Reading.{line_number, line_break, line_breaks, reading, play}
-use Rattle.html_tokens.specs.Sink.{◌>>=◌, Step, SinkLaws}
+use Rattle.html_tokens.specs.Reading.{line_number, line_break, line_breaks}
+use Rattle.html_tokens.specs.Sink.{◌>>=◌, SinkLaws}
 use Rattle.html_tokenizer.specs.declared.tokenizer.Tokenizer.{Tokenizer}
 use Rattle.html_tokenizer.specs.Rest.{rows_of, standing}
 use Rattle.html_tokenizer.specs.Steps.{owed_for, Owed, IsAt, more, IsNoTag, Fails, Told, Took, Keeps, reads, plays}
 use Rattle.html_tokenizer.proofs.Lawful.{noting-lawful, erred-sound, erred-more, slight-absorbed}
-use Rattle.html_tokenizer.proofs.Readings.{play-is, play-end, sum-zero, play-absorbs, play-marked, play-odd}
-use Rattle.html_tokenizer.proofs.Glue.{Says, Absorbs, at, now-at, took_emitted, failed, no-break}
+use Rattle.html_tokenizer.proofs.Readings.{play-is, play-end, sum-zero, play-absorbs}
+use Rattle.html_tokenizer.proofs.Glue.{Says, at, took_emitted, failed, no-break}
 
 module _ {K H : Type 0} (Sink : Ghosts K H) (laws : SinkLaws Sink.is_sound Sink.step Sink.ended Sink.is_quiet) where
   -- A token is told next, which ">" ends, and then the machine is this one, in data.
@@ -58,18 +58,3 @@ module _ {K H : Type 0} (Sink : Ghosts K H) (laws : SinkLaws Sink.is_sound Sink.
   -- what is slight before an item with a fault changes nothing
   pub item-absorbs : (old : Tokenizer K) (i : Item) (b : ℕ) (s : Sink.State × Notes ℕ) (u : List ℕ) → is_some i.fault ≡ true → plays Sink (rows_of old) i b s u ≡ plays Sink (rows_of old) i b (s.0, more (owed_for (Some Slight)) s.1) u
   item-absorbs old i b s u h = play-absorbs (noting Sink.step Sink.is_quiet) noting_error (noting_cdata Sink.asks_cdata) (noting_end Sink.ended) (rows_of old) slight-absorbed i b s u h ∙ ap (λ q. plays Sink (rows_of old) i b q u) (erred-more (Some Slight) s)
-
-  -- so it does in a state that reads such an item
-  pub state-absorbs : (old : Tokenizer K) (c : ℕ) (st : State) → IsAt old st → ((b : ℕ) (s : Sink.State × Notes ℕ) (t : List ℕ) → at Sink st old b s (c ∷ t) ≡ at Sink st old b (s.0, more (owed_for (Some Slight)) s.1) (c ∷ t)) → Absorbs Sink old c
-  state-absorbs old c st from law b s t =
-      now-at Sink old st b s (c ∷ t) from
-      ∙ law b s t
-      ∙ sym (now-at Sink old st b (s.0, more (owed_for (Some Slight)) s.1) (c ∷ t) from)
-
-  -- an item in which something may be odd
-  pub item-marked : (odd : Bool) (old : Tokenizer K) (i : Item) (b : ℕ) (s : Sink.State × Notes ℕ) (u : List ℕ) → plays Sink (rows_of old) (marked odd i) b s u ≡ plays Sink (rows_of old) i b (s.0, more (owed_for (slight_if odd)) s.1) u
-  item-marked odd old i b s u = play-marked (noting Sink.step Sink.is_quiet) noting_error (noting_cdata Sink.asks_cdata) (noting_end Sink.ended) (rows_of old) slight-absorbed odd i b s u ∙ ap (λ q. plays Sink (rows_of old) i b q u) (erred-more (slight_if odd) s)
-
-  -- the same of an item behind one character more
-  pub behind-odd : (odd : Bool) (old : Tokenizer K) (i j : Item) (b : ℕ) (s : Sink.State × Notes ℕ) (c : ℕ) (t : List ℕ) → i ≡ marked odd (behind j) → plays Sink (rows_of old) i b s (c ∷ t) ≡ plays Sink (rows_of old) j (b + line_break (nat_eq c 10)) (s.0, more (owed_for (slight_if odd)) s.1) t
-  behind-odd odd old i j b s c t is = play-odd (noting Sink.step Sink.is_quiet) noting_error (noting_cdata Sink.asks_cdata) (noting_end Sink.ended) (rows_of old) slight-absorbed odd i j b s c t is ∙ ap (λ q. plays Sink (rows_of old) j (b + line_break (nat_eq c 10)) q t) (erred-more (slight_if odd) s)

@@ -1,5 +1,5 @@
 -- What a refused error says of every token.
-use Rattle.std.proofs.Common.{◌≡◌, ◌∙◌, ℕ, Bool, false, Result, Ok, Err, refl, ap, sym, subst}
+use Rattle.std.proofs.Common.{◌≡◌, ◌∙◌, ℕ, false, Result, Ok, Err, refl, ap, sym, subst}
 use Rattle.std.specs.Prelude.{is_err, IfOk}
 use Rattle.std.specs.Result.{IsErrAnd}
 use Rattle.std.proofs.lemmas.Result.{err_from_is_err_and}
@@ -8,7 +8,7 @@ use Rattle.markup.specs.declared.fault.ParseFault.TheVariants.{Memory, TokenInTe
 use Rattle.html_tokens.specs.declared.replies.TokenSinkResult.{TokenSinkResult}
 use Rattle.html_tokens.specs.declared.token.Token.{Token}
 use Rattle.html_tokens.specs.Reading.{line_number}
-use Rattle.html_tokens.specs.Sink.{Step, Reply, Gives, Counts, IsIdle, IsReplyTo, SinkLaws, tells_failed, numbered}
+use Rattle.html_tokens.specs.Sink.{Reply, Gives, Counts, IsIdle, IsReplyTo, SinkLaws, tells_failed, numbered}
 use Rattle.html_tokens.specs.declared.replies.TokenSinkResult.TheVariants as reply
 use Rattle.html_tokens.specs.declared.sink.TokenSink.{Ghosts}
 use Rattle.html_tokenizer.specs.declared.tokenizer.Tokenizer.{Tokenizer}

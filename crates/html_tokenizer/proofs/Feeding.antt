@@ -9,9 +9,8 @@ use Rattle.markup.specs.declared.tokenizer_result.TokenizerResult.TheVariants as
 use Rattle.html_queue.specs.Queue.{Queue, Takes}
 use Rattle.html_tokens.specs.declared.replies.ProcessResult.{ProcessResult}
 use Rattle.html_tokens.specs.declared.replies.ProcessResult.TheVariants as flow
-use Rattle.html_tokens.specs.declared.token.Token.{Token}
 use Rattle.html_tokens.specs.Notes.{Notes, noting, noting_error, noting_cdata, noting_end}
-use Rattle.html_tokens.specs.Sink.{Step, Reply}
+use Rattle.html_tokens.specs.Sink.{Reply}
 use Rattle.html_tokenizer.specs.Calls.{ComesAsRunAt, to_come, paused_with, IsReady, Passes, KeepsRun, KeepsText, Leaves, Moved, Moves, Fed, Runs, Rests, owed_for_text}
 use Rattle.html_tokenizer.specs.Input.{coming_in, newline_for, last_of, ComesAs, Vanishes}
 use Rattle.html_tokenizer.specs.declared.tokenizer.Stream.{Stream}

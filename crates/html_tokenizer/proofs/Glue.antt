@@ -12,8 +12,8 @@ use Rattle.html_tokens.specs.declared.token.Token.{Token}
 use Rattle.html_tokens.specs.declared.token.Token.TheVariants.{TagToken}
 use Rattle.html_tokens.specs.Item.{Fault, Slight, grave_if, slight_if, InData}
 use Rattle.html_tokens.specs.Notes.{Notes, NotedStep, heard, noted, noting, noting_error, noting_cdata, noting_end}
-use Rattle.html_tokens.specs.Reading.{◌>>=◌, line_break, line_number, next_stand, reading}
-use Rattle.html_tokens.specs.Sink.{Step, Reply, Refusal}
+use Rattle.html_tokens.specs.Reading.{◌>>=◌, erred_by, line_break, line_number, next_stand}
+use Rattle.html_tokens.specs.Sink.{Reply, Refusal}
 use Rattle.html_tokens.specs.Tags.{behind_tag, is_faulty_tag}
 use Rattle.html_tokens.specs.declared.states.RawKind.TheVariants as raw
 use Rattle.html_tokens.specs.declared.states.ScriptEscapeKind.TheVariants as script
@@ -25,6 +25,7 @@ use Rattle.html_tokenizer.specs.CharRefs.{fits_in}
 use Rattle.html_tokenizer.specs.declared.tokenizer.Stream.{Stream}
 use Rattle.html_tokenizer.specs.declared.tokenizer.Tokenizer.{Tokenizer}
 use Rattle.html_tokenizer.specs.Rest.{rows_of, standing, pending, held_at}
+use Rattle.html_tokenizer.proofs.Lawful.{erred-more}
 use Rattle.html_tokenizer.proofs.Readings.{sum-zero}
 use Rattle.html_tokenizer.specs.Steps.{Owed, nothing_owed, owed_for, and_heard, together, owed_by, IsAt, paused_by, more, noted_by, Rises, now, Fails, Told, Erred, Took, Keeps, EndsTag, reads}
 use Rattle.html_tokenizer.proofs.Rises.{more-more, heard-more, rises-slight, rises-then, rises-less}
@@ -66,16 +67,17 @@ module _ {K H : Type 0} (Sink : Ghosts K H) where
   now-at k st b s t h = ap (λ r. held_at (noting Sink.step Sink.is_quiet) noting_error (noting_cdata Sink.asks_cdata) (noting_end Sink.ended) k.state k b s (pending r ++ t)) h.fresh ∙ ap (λ x. held_at (noting Sink.step Sink.is_quiet) noting_error (noting_cdata Sink.asks_cdata) (noting_end Sink.ended) x k b s t) h.state
 
   -- The character is taken, which may be odd, and the machine stands in st'; it is quiet only where it is not odd.
-  pub noted_marked : (odd : Bool) (old new : Tokenizer K) (c : ℕ) (st st' : State) → IsAt old st → IsAt new st' → new.stream ≡ old.stream → new.sink ≡ old.sink → Sink.is_sound (Sink.view old.sink)
-      → ((b : ℕ) (s : Sink.State × Notes ℕ) (t : List ℕ) → at st old b s (c ∷ t) ≡ at st' new (b + line_break (nat_eq c 10)) (s.0, more (owed_for (slight_if odd)) s.1) t)
+  pub noted_odd : (odd : Bool) (old new : Tokenizer K) (c : ℕ) (st st' : State) → IsAt old st → IsAt new st' → new.stream ≡ old.stream → new.sink ≡ old.sink → Sink.is_sound (Sink.view old.sink)
+      → ((b : ℕ) (s : Sink.State × Notes ℕ) (t : List ℕ) → at st old b s (c ∷ t) ≡ at st' new (b + line_break (nat_eq c 10)) (erred_by noting_error (slight_if odd) s) t)
       → (took : Took Sink old new c flow.Continue) × (took.owed.is_quiet ≡ true → odd ≡ false)
-  noted_marked odd old new c st st' from to stream same ok law = (
+  noted_odd odd old new c st st' from to stream same ok law = (
     record {
       owed = owed_for (slight_if odd);
       rises = rises-slight Sink.errors odd old.sink new.sink same;
       same = λ notes t.
           now-at old st old.stream.breaks (Sink.view old.sink, notes) (c ∷ t) from
           ∙ law old.stream.breaks (Sink.view old.sink, notes) t
+          ∙ ap (λ s. at st' new (old.stream.breaks + line_break (nat_eq c 10)) s t) (erred-more (slight_if odd) (Sink.view old.sink, notes))
           ∙ sym (now-at new st' (old.stream.breaks + line_break (nat_eq c 10)) (Sink.view old.sink, more (owed_for (slight_if odd)) notes) t to)
           ∙ ap (λ k. now Sink new (old.stream.breaks + line_break (nat_eq c 10)) (Sink.view k, more (owed_for (slight_if odd)) notes) t) (sym same);
       stream = stream;
@@ -88,16 +90,16 @@ module _ {K H : Type 0} (Sink : Ghosts K H) where
   )
 
   -- the same, where nothing is said of that
-  pub took_marked : (odd : Bool) (old new : Tokenizer K) (c : ℕ) (st st' : State) → IsAt old st → IsAt new st' → new.stream ≡ old.stream → new.sink ≡ old.sink → Sink.is_sound (Sink.view old.sink)
-      → ((b : ℕ) (s : Sink.State × Notes ℕ) (t : List ℕ) → at st old b s (c ∷ t) ≡ at st' new (b + line_break (nat_eq c 10)) (s.0, more (owed_for (slight_if odd)) s.1) t)
+  pub took_odd : (odd : Bool) (old new : Tokenizer K) (c : ℕ) (st st' : State) → IsAt old st → IsAt new st' → new.stream ≡ old.stream → new.sink ≡ old.sink → Sink.is_sound (Sink.view old.sink)
+      → ((b : ℕ) (s : Sink.State × Notes ℕ) (t : List ℕ) → at st old b s (c ∷ t) ≡ at st' new (b + line_break (nat_eq c 10)) (erred_by noting_error (slight_if odd) s) t)
       → Took Sink old new c flow.Continue
-  took_marked odd old new c st st' from to stream same ok law = (noted_marked odd old new c st st' from to stream same ok law).0
+  took_odd odd old new c st st' from to stream same ok law = (noted_odd odd old new c st st' from to stream same ok law).0
 
   -- The character is taken, and the machine stands in st'.
   pub took : (old new : Tokenizer K) (c : ℕ) (st st' : State) → IsAt old st → IsAt new st' → new.stream ≡ old.stream → new.sink ≡ old.sink → Sink.is_sound (Sink.view old.sink)
       → ((b : ℕ) (s : Sink.State × Notes ℕ) (t : List ℕ) → at st old b s (c ∷ t) ≡ at st' new (b + line_break (nat_eq c 10)) s t)
       → Took Sink old new c flow.Continue
-  took old new c st st' from to stream same ok law = took_marked false old new c st st' from to stream same ok law
+  took old new c st st' from to stream same ok law = took_odd false old new c st st' from to stream same ok law
 
   -- What a failed call was to give comes first in this.
   pub fails-first : (sink : K) {A B F G : Type 0} (r : Result A F) (given : Result B G) (fault : ParseFault) → (IsErr r → IsErr given) → Fails Sink sink r fault → Fails Sink sink given fault
@@ -284,13 +286,14 @@ module _ {K H : Type 0} (Sink : Ghosts K H) where
   keeps-along old mid new c result stream works rises e h = keeps-behind nothing_owed old mid new c result stream works rises e h
 
   -- The character, which may be odd here, is taken by another state, which nothing led to but the machine's own fields.
-  pub keeps_marked : (odd : Bool) (old mid new : Tokenizer K) (c : ℕ) (st st' : State) (result : Result (ProcessResult H) ParseFault) → IsAt old st → IsAt mid st' → mid.stream ≡ old.stream → mid.sink ≡ old.sink
-      → ((b : ℕ) (s : Sink.State × Notes ℕ) (t : List ℕ) → at Sink st old b s (c ∷ t) ≡ at Sink st' mid b (s.0, more (owed_for (slight_if odd)) s.1) (c ∷ t))
+  pub keeps_odd : (odd : Bool) (old mid new : Tokenizer K) (c : ℕ) (st st' : State) (result : Result (ProcessResult H) ParseFault) → IsAt old st → IsAt mid st' → mid.stream ≡ old.stream → mid.sink ≡ old.sink
+      → ((b : ℕ) (s : Sink.State × Notes ℕ) (t : List ℕ) → at Sink st old b s (c ∷ t) ≡ at Sink st' mid b (erred_by noting_error (slight_if odd) s) (c ∷ t))
       → Keeps Sink mid new c result → Keeps Sink old new c result
-  keeps_marked odd old mid new c st st' result from to stream same law h =
+  keeps_odd odd old mid new c st st' result from to stream same law h =
       keeps-behind (owed_for (slight_if odd)) old mid new c result stream (λ h. ap Sink.has_failed (sym same) ∙ h) (rises-slight Sink.errors odd old.sink mid.sink same) (λ notes t.
       now-at Sink old st old.stream.breaks (Sink.view old.sink, notes) (c ∷ t) from
       ∙ law old.stream.breaks (Sink.view old.sink, notes) t
+      ∙ ap (λ s. at Sink st' mid old.stream.breaks s (c ∷ t)) (erred-more (slight_if odd) (Sink.view old.sink, notes))
       ∙ sym (now-at Sink mid st' old.stream.breaks (Sink.view old.sink, more (owed_for (slight_if odd)) notes) (c ∷ t) to)
       ∙ ap (λ k. now Sink mid old.stream.breaks (Sink.view k, more (owed_for (slight_if odd)) notes) (c ∷ t)) (sym same)) h
 
@@ -298,7 +301,7 @@ module _ {K H : Type 0} (Sink : Ghosts K H) where
   pub keeps_silent : (old mid new : Tokenizer K) (c : ℕ) (st st' : State) (result : Result (ProcessResult H) ParseFault) → IsAt old st → IsAt mid st' → mid.stream ≡ old.stream → mid.sink ≡ old.sink
       → ((b : ℕ) (s : Sink.State × Notes ℕ) (t : List ℕ) → at Sink st old b s (c ∷ t) ≡ at Sink st' mid b s (c ∷ t))
       → Keeps Sink mid new c result → Keeps Sink old new c result
-  keeps_silent old mid new c st st' result from to stream same law h = keeps_marked false old mid new c st st' result from to stream same law h
+  keeps_silent old mid new c st st' result from to stream same law h = keeps_odd false old mid new c st st' result from to stream same law h
 
   -- A token was told, and then the character is taken by another state.
   pub keeps_told : {owed : Owed} (old mid on new target : Tokenizer K) (c : ℕ) (st st' : State) (token : Token) (result : Result (ProcessResult H) ParseFault) → IsAt old st → Sink.is_sound (Sink.view old.sink) → Told Sink owed token old mid
@@ -352,6 +355,13 @@ module _ {K H : Type 0} (Sink : Ghosts K H) where
   -- What is to come where the machine reads this character is the same where something slight was noted before.
   abbrev pub Absorbs : Tokenizer K → ℕ → Type 0
   Absorbs k c = (b : ℕ) (s : Sink.State × Notes ℕ) (t : List ℕ) → now Sink k b s (c ∷ t) ≡ now Sink k b (s.0, more (owed_for (Some Slight)) s.1) (c ∷ t)
+
+  -- It is so where the state reads it so.
+  pub state-absorbs : (old : Tokenizer K) (c : ℕ) (st : State) → IsAt old st → ((b : ℕ) (s : Sink.State × Notes ℕ) (t : List ℕ) → at Sink st old b s (c ∷ t) ≡ at Sink st old b (s.0, more (owed_for (Some Slight)) s.1) (c ∷ t)) → Absorbs old c
+  state-absorbs old c st from law b s t =
+      now-at Sink old st b s (c ∷ t) from
+      ∙ law b s t
+      ∙ sym (now-at Sink old st b (s.0, more (owed_for (Some Slight)) s.1) (c ∷ t) from)
 
   -- An error of an odd character was told, and then the character is taken, whose reading notes that it is odd.
   pub keeps_erred : (odd : Bool) (old mid new : Tokenizer K) (c : ℕ) (result : Result (ProcessResult H) ParseFault) → Erred Sink (owed_for (grave_if odd)) old mid → (odd ≡ true → Absorbs old c) → Keeps Sink mid new c result → Keeps Sink old new c result

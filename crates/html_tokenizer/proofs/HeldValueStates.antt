@@ -7,12 +7,10 @@ use Rattle.html_tokens.specs.declared.replies.ProcessResult.{ProcessResult}
 use Rattle.html_tokens.specs.declared.states.AttrValueKind.{AttrValueKind}
 use Rattle.html_tokens.specs.declared.states.AttrValueKind.TheVariants as value
 use Rattle.html_tokens.specs.declared.states.State.TheVariants as state
-use Rattle.html_tokens.specs.declared.token.Token.{Token}
 use Rattle.html_tokens.specs.declared.sink.TokenSink.{Ghosts}
 use Rattle.html_tokens.specs.Item.{Slight, grave_if, slight_if, InData}
 use Rattle.html_tokens.specs.Notes.{Notes, noting, noting_error, noting_cdata, noting_end}
 use Rattle.html_tokens.specs.Reference.{Reference, fault_of_reference, goes_on_at, reference_at}
-use Rattle.html_tokens.specs.Sink.{Step}
 use Rattle.html_tokens.specs.Table.{Row}
 use Rattle.html_tokenizer.specs.CharRefs.{IsDecided, decided, is_faulty, is_held, resolved, resolved_by}
 use Rattle.html_tokenizer.specs.declared.tokenizer.Tokenizer.{Tokenizer}

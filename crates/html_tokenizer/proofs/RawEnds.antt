@@ -10,14 +10,12 @@ use Rattle.html_tokens.specs.declared.states.RawKind.{RawKind}
 use Rattle.html_tokens.specs.declared.states.State.TheVariants as state
 use Rattle.html_tokens.specs.declared.tags.Tag.{Tag}
 use Rattle.html_tokens.specs.declared.tags.TagKind.TheVariants.{EndTag}
-use Rattle.html_tokens.specs.declared.token.Token.{Token}
 use Rattle.html_tokens.specs.declared.sink.TokenSink.{Ghosts}
 use Rattle.html_tokens.specs.Characters.{lowered}
 use Rattle.html_tokens.specs.Notes.{NotedStep, Notes, noting, noting_error, noting_cdata, noting_end}
 use Rattle.html_tokens.specs.Item.{Fault, slight_if, InRaw, Stand, behind}
 use Rattle.html_tokens.specs.RawText.{is_fitting_end, ends_at_tag}
 use Rattle.html_tokens.specs.Reading.{erred_by, line_break, reading, play}
-use Rattle.html_tokens.specs.Sink.{Step}
 use Rattle.html_tokens.specs.Table.{Row}
 use Rattle.html_tokens.specs.Tags.{named, name_after}
 use Rattle.html_tokenizer.specs.declared.tokenizer.Tokenizer.{Tokenizer}

@@ -11,7 +11,6 @@ use Rattle.html_tokens.specs.declared.states.RawKind.{RawKind}
 use Rattle.html_tokens.specs.declared.states.RawKind.TheVariants as raw
 use Rattle.html_tokens.specs.declared.states.ScriptEscapeKind.TheVariants as script
 use Rattle.html_tokens.specs.declared.states.State.TheVariants as state
-use Rattle.html_tokens.specs.declared.token.Token.{Token}
 use Rattle.html_tokens.specs.declared.token.Token.TheVariants.{CharacterTokens}
 use Rattle.html_tokens.specs.declared.sink.TokenSink.{Ghosts}
 use Rattle.html_tokens.specs.Notes.{Notes, noting, noting_error, noting_cdata, noting_end}
@@ -19,7 +18,7 @@ use Rattle.html_tokens.specs.Item.{InRaw, character}
 use Rattle.html_tokens.specs.Items.{item}
 use Rattle.html_tokens.specs.RawText.{is_fitting_end, ends_at_tag, kind_behind}
 use Rattle.html_tokens.specs.Reading.{◌>>=◌, line_number, line_break}
-use Rattle.html_tokens.specs.Sink.{Step, SinkLaws}
+use Rattle.html_tokens.specs.Sink.{SinkLaws}
 use Rattle.html_tokenizer.specs.declared.tokenizer.Tokenizer.{Tokenizer}
 use Rattle.html_tokenizer.specs.Rest.{rows_of, standing, held_at}
 use Rattle.html_tokenizer.specs.Steps.{IsAt, Fails, Told, Took, Keeps, nothing_owed}

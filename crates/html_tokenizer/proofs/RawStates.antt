@@ -10,7 +10,6 @@ use Rattle.html_tokens.specs.declared.states.RawKind.TheVariants as raw
 use Rattle.html_tokens.specs.declared.states.ScriptEscapeKind.{ScriptEscapeKind}
 use Rattle.html_tokens.specs.declared.states.ScriptEscapeKind.TheVariants as script
 use Rattle.html_tokens.specs.declared.states.State.TheVariants as state
-use Rattle.html_tokens.specs.declared.token.Token.{Token}
 use Rattle.html_tokens.specs.declared.token.Token.TheVariants.{CharacterTokens}
 use Rattle.html_tokens.specs.declared.sink.TokenSink.{Ghosts}
 use Rattle.html_tokens.specs.Characters.{shown}
@@ -18,8 +17,8 @@ use Rattle.html_tokens.specs.Notes.{Notes, noting, noting_error, noting_cdata, n
 use Rattle.html_tokens.specs.Item.{grave_if, InRaw, character, shown_character}
 use Rattle.html_tokens.specs.Items.{item}
 use Rattle.html_tokens.specs.RawText.{is_fitting_end, ends_at_tag, has_references, kind_behind}
-use Rattle.html_tokens.specs.Reading.{◌>>=◌, line_number, line_break, reading}
-use Rattle.html_tokens.specs.Sink.{Step, Refusal, SinkLaws}
+use Rattle.html_tokens.specs.Reading.{◌>>=◌, line_number, line_break}
+use Rattle.html_tokens.specs.Sink.{Refusal, SinkLaws}
 use Rattle.html_tokenizer.specs.CharRefs.{may_hold}
 use Rattle.html_tokenizer.specs.declared.tokenizer.Tokenizer.{Tokenizer}
 use Rattle.html_tokenizer.specs.Rest.{rows_of, standing, held_at}

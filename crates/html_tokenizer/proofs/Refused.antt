@@ -15,7 +15,7 @@ use Rattle.html_tokens.specs.Item.{Fault, Stand, fault_at_end}
 use Rattle.html_tokens.specs.Items.{item}
 use Rattle.html_tokens.specs.Notes.{Notes, NotedStep, noting, noting_error, heard}
 use Rattle.html_tokens.specs.Reading.{erred_by, said, next_stand, line_breaks, reading_from}
-use Rattle.html_tokens.specs.Sink.{◌>>=◌, Step, Reply, Refusal}
+use Rattle.html_tokens.specs.Sink.{◌>>=◌, Reply, Refusal}
 use Rattle.html_tokens.specs.Table.{Row}
 use Rattle.html_tokenizer.specs.declared.tokenizer.Tokenizer.{Tokenizer}
 use Rattle.html_tokenizer.specs.Steps.{IsAt, Fails, Keeps}

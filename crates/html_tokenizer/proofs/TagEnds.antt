@@ -1,5 +1,5 @@
 -- A tag that was read is told, and the machine goes where the reply has it.
-use Rattle.std.proofs.Common.{◌≡◌, ◌∙◌, ℕ, Bool, false, List, Option, None, Result, Ok, refl, sym, ap, subst}
+use Rattle.std.proofs.Common.{◌≡◌, ◌∙◌, ℕ, false, List, Option, None, Result, Ok, refl, sym, ap, subst}
 use Rattle.std.specs.Result.{IsErrAnd}
 use Rattle.std.proofs.lemmas.Result.{err_from_is_err_and}
 use Rattle.markup.specs.declared.fault.ParseFault.{ParseFault}
@@ -11,9 +11,9 @@ use Rattle.html_tokens.specs.declared.token.Token.{Token}
 use Rattle.html_tokens.specs.declared.token.Token.TheVariants.{TagToken}
 use Rattle.html_tokens.specs.declared.sink.TokenSink.{Ghosts}
 use Rattle.html_tokens.specs.Item.{grave_if, InData, Stand}
-use Rattle.html_tokens.specs.Notes.{Notes, noted, paused, noting, noting_error, noting_cdata, noting_end, heard}
-use Rattle.html_tokens.specs.Reading.{◌>>=◌, erred_by, line_number, next_stand, reading}
-use Rattle.html_tokens.specs.Sink.{Step, numbered}
+use Rattle.html_tokens.specs.Notes.{Notes, noted, paused, noting, noting_error, heard}
+use Rattle.html_tokens.specs.Reading.{◌>>=◌, erred_by, line_number, next_stand}
+use Rattle.html_tokens.specs.Sink.{numbered}
 use Rattle.html_tokens.specs.Tags.{last_name, behind_tag, is_faulty_tag}
 use Rattle.html_tokenizer.specs.declared.tokenizer.Tokenizer.{Tokenizer}
 use Rattle.html_tokenizer.specs.Rest.{rows_of, standing, held_at}

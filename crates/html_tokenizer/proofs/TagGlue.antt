@@ -1,20 +1,16 @@
 -- How a state's function keeps what is to come: characters that end no line, odd ones, and references in values.
-use Rattle.std.proofs.Common.{◌≡◌, ◌∙◌, ℕ, ◌+◌, Bool, true, false, nat_eq, List, [], ◌∷◌, Result, Some, refl, sym, ap}
-use Rattle.markup.specs.declared.fault.ParseFault.{ParseFault}
-use Rattle.html_tokens.specs.declared.token.Token.{Token}
+use Rattle.std.proofs.Common.{◌≡◌, ◌∙◌, ℕ, Bool, true, false, nat_eq, List, [], ◌∷◌, Result, Some, refl, sym, ap}
 use Rattle.html_tokens.specs.Item.{Slight, slight_if}
 use Rattle.html_tokens.specs.Notes.{Notes, noting_error}
-use Rattle.html_tokens.specs.Reading.{erred_by, line_break}
-use Rattle.html_tokens.specs.declared.replies.ProcessResult.{ProcessResult}
+use Rattle.html_tokens.specs.Reading.{erred_by}
 use Rattle.html_tokens.specs.declared.replies.ProcessResult.TheVariants as flow
 use Rattle.html_tokens.specs.declared.states.State.{State}
 use Rattle.html_tokens.specs.declared.sink.TokenSink.{Ghosts}
-use Rattle.html_tokens.specs.Sink.{Step, Refusal}
+use Rattle.html_tokens.specs.Sink.{Refusal}
 use Rattle.html_tokenizer.specs.CharRefs.{may_hold}
 use Rattle.html_tokenizer.specs.declared.tokenizer.Tokenizer.{Tokenizer}
-use Rattle.html_tokenizer.specs.Steps.{IsAt, Took, Keeps, nothing_owed}
-use Rattle.html_tokenizer.proofs.Glue.{no-break, at, now-at, took, noted_marked, keeps_marked, Absorbs}
-use Rattle.html_tokenizer.proofs.Lawful.{erred-more}
+use Rattle.html_tokenizer.specs.Steps.{IsAt, Took, nothing_owed}
+use Rattle.html_tokenizer.proofs.Glue.{no-break, at, now-at, took, state-absorbs, Absorbs}
 use Rattle.html_tokenizer.proofs.Readings.{sum-zero}
 use Rattle.html_tokenizer.proofs.Rises.{rises-same}
 
@@ -48,37 +44,12 @@ module _ {K H : Type 0} (Sink : Ghosts K H) where
         paused = tt;
       }
 
-  -- The character is taken, which may be odd, and the machine stands in st', behind what is noted of it; it is quiet only where it
-  -- is not odd.
-  pub noted_odd : (odd : Bool) (old new : Tokenizer K) (c : ℕ) (st st' : State) → IsAt old st → IsAt new st' → new.stream ≡ old.stream → new.sink ≡ old.sink → Sink.is_sound (Sink.view old.sink)
-      → ((b : ℕ) (s : Sink.State × Notes ℕ) (t : List ℕ) → at Sink st old b s (c ∷ t) ≡ at Sink st' new (b + line_break (nat_eq c 10)) (erred_by noting_error (slight_if odd) s) t)
-      → (took : Took Sink old new c flow.Continue) × (took.owed.is_quiet ≡ true → odd ≡ false)
-  noted_odd odd old new c st st' from to stream same ok law =
-      noted_marked Sink odd old new c st st' from to stream same ok
-      (λ b s t. law b s t ∙ ap (λ s. at Sink st' new (b + line_break (nat_eq c 10)) s t) (erred-more (slight_if odd) s))
-
-  -- the same, where nothing is said of that
-  pub took_odd : (odd : Bool) (old new : Tokenizer K) (c : ℕ) (st st' : State) → IsAt old st → IsAt new st' → new.stream ≡ old.stream → new.sink ≡ old.sink → Sink.is_sound (Sink.view old.sink)
-      → ((b : ℕ) (s : Sink.State × Notes ℕ) (t : List ℕ) → at Sink st old b s (c ∷ t) ≡ at Sink st' new (b + line_break (nat_eq c 10)) (erred_by noting_error (slight_if odd) s) t)
-      → Took Sink old new c flow.Continue
-  took_odd odd old new c st st' from to stream same ok law = (noted_odd odd old new c st st' from to stream same ok law).0
-
-  -- The character, which may be odd here, is taken by another state, behind what is noted of it.
-  pub keeps_odd : (odd : Bool) (old mid new : Tokenizer K) (c : ℕ) (st st' : State) (result : Result (ProcessResult H) ParseFault) → IsAt old st → IsAt mid st' → mid.stream ≡ old.stream → mid.sink ≡ old.sink
-      → ((b : ℕ) (s : Sink.State × Notes ℕ) (t : List ℕ) → at Sink st old b s (c ∷ t) ≡ at Sink st' mid b (erred_by noting_error (slight_if odd) s) (c ∷ t))
-      → Keeps Sink mid new c result → Keeps Sink old new c result
-  keeps_odd odd old mid new c st st' result from to stream same law h =
-      keeps_marked Sink odd old mid new c st st' result from to stream same
-      (λ b s t. law b s t ∙ ap (λ s. at Sink st' mid b s (c ∷ t)) (erred-more (slight_if odd) s)) h
-
   -- What is noted of a character that is odd here is the same where something slight was noted before.
   pub absorbs_odd : (old : Tokenizer K) (c : ℕ) (st : State) (odd : Bool) (next : ℕ → Sink.State × Notes ℕ → List ℕ → Result (Sink.State × Notes ℕ) (Refusal × ℕ)) → IsAt old st → odd ≡ true
       → ((b : ℕ) (s : Sink.State × Notes ℕ) (t : List ℕ) → at Sink st old b s (c ∷ t) ≡ next b (erred_by noting_error (slight_if odd) s) t)
       → Absorbs Sink old c
-  absorbs_odd old c st odd next from is law b s t =
-      now-at Sink old st b s (c ∷ t) from
-      ∙ law b s t
+  absorbs_odd old c st odd next from is law = state-absorbs Sink old c st from (λ b s t.
+      law b s t
       ∙ ap (λ odd. next b (erred_by noting_error (slight_if odd) s) t) is
       ∙ ap (λ odd. next b (erred_by noting_error (slight_if odd) (noting_error Slight s)) t) (sym is)
-      ∙ sym (law b (noting_error Slight s) t)
-      ∙ sym (now-at Sink old st b (noting_error Slight s) (c ∷ t) from)
+      ∙ sym (law b (noting_error Slight s) t))

@@ -1,5 +1,5 @@
 -- A tag's name, and "/" in a tag.
-use Rattle.std.proofs.Common.{◌≡◌, ◌≢◌, ◌∙◌, ℕ, ◌+◌, nat_eq, Bool, true, false, List, [], ◌∷◌, ◌++◌, Result, refl, sym, arith}
+use Rattle.std.proofs.Common.{◌≡◌, ◌≢◌, ◌∙◌, ℕ, ◌+◌, nat_eq, true, false, List, [], ◌∷◌, ◌++◌, Result, refl, sym, arith}
 use Rattle.std.specs.Prelude.{not}
 use Rattle.std.proofs.lemmas.Bool.{ne_eqb}
 use Rattle.std.proofs.lemmas.Bool.Decides.{nat_tests}
@@ -7,20 +7,18 @@ use Rattle.markup.specs.declared.fault.ParseFault.{ParseFault}
 use Rattle.html_tokens.specs.declared.replies.ProcessResult.{ProcessResult}
 use Rattle.html_tokens.specs.declared.replies.ProcessResult.TheVariants as flow
 use Rattle.html_tokens.specs.declared.states.State.TheVariants as state
-use Rattle.html_tokens.specs.declared.token.Token.{Token}
 use Rattle.html_tokens.specs.declared.sink.TokenSink.{Ghosts}
 use Rattle.html_tokens.specs.Characters.{is_white_space, ends_tag_name, lowered, is_null}
 use Rattle.html_tokens.specs.Item.{InData, InTag, moved}
 use Rattle.html_tokens.specs.Notes.{Notes, noting, noting_error, noting_cdata, noting_end}
-use Rattle.html_tokens.specs.Reading.{line_break, reading, play}
-use Rattle.html_tokens.specs.Sink.{Step}
+use Rattle.html_tokens.specs.Reading.{line_break}
 use Rattle.html_tokens.specs.Tags.{behind_tag, name_after}
 use Rattle.html_tokenizer.specs.declared.tokenizer.Tokenizer.{Tokenizer}
 use Rattle.html_tokenizer.specs.Rest.{rows_of, standing, held_at}
 use Rattle.html_tokenizer.specs.Steps.{IsAt, Took, Keeps, EndsTag, reads, plays}
 use Rattle.html_tokenizer.proofs.TagEnds.{noted-tag}
-use Rattle.html_tokenizer.proofs.Glue.{took, took_tag, keeps_silent, Absorbs}
-use Rattle.html_tokenizer.proofs.TagGlue.{took_here, took_odd, keeps_odd, absorbs_odd}
+use Rattle.html_tokenizer.proofs.Glue.{took, took_tag, took_odd, keeps_odd, keeps_silent, Absorbs}
+use Rattle.html_tokenizer.proofs.TagGlue.{took_here, absorbs_odd}
 use Rattle.html_tokenizer.proofs.Lawful.{slight-absorbed}
 use Rattle.html_tokenizer.proofs.TagReadings.{name-more, name-end, tag-space, tag-slash, tag-end, tag-slash_end}
 

@@ -15,7 +15,6 @@ use Rattle.html_tokens.specs.declared.states.RawKind.TheVariants as raw
 use Rattle.html_tokens.specs.declared.states.ScriptEscapeKind.TheVariants as script
 use Rattle.html_tokens.specs.declared.states.State.{State}
 use Rattle.html_tokens.specs.declared.states.State.TheVariants as state
-use Rattle.html_tokens.specs.declared.token.Token.{Token}
 use Rattle.html_tokens.specs.declared.token.Token.TheVariants.{CharacterTokens}
 use Rattle.html_tokens.specs.declared.sink.TokenSink.{Ghosts}
 use Rattle.html_tokens.specs.Characters.{ends_word, shown}
@@ -24,7 +23,7 @@ use Rattle.html_tokens.specs.Items.{item}
 use Rattle.html_tokens.specs.Notes.{NotedStep, Notes, noting, noting_error, noting_cdata, noting_end}
 use Rattle.html_tokens.specs.RawText.{has_references, kind_behind}
 use Rattle.html_tokens.specs.Reading.{◌>>=◌, line_number, reading}
-use Rattle.html_tokens.specs.Sink.{Step, SinkLaws}
+use Rattle.html_tokens.specs.Sink.{SinkLaws}
 use Rattle.html_tokens.specs.Table.{Row}
 use Rattle.html_tokens.specs.Tags.{is_odd_unquoted}
 use Rattle.html_tokenizer.specs.Calls.{TookRun, KeepsRun}

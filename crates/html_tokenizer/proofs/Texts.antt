@@ -4,11 +4,9 @@ use Rattle.std.specs.Prelude.{is_none}
 use Rattle.html_tokens.specs.declared.options.TokenizerOpts.{TokenizerOpts}
 use Rattle.html_tokens.specs.declared.states.State.{State}
 use Rattle.html_tokens.specs.declared.states.State.TheVariants as state
-use Rattle.html_tokens.specs.declared.token.Token.{Token}
 use Rattle.html_tokens.specs.declared.sink.TokenSink.{Ghosts}
 use Rattle.html_tokens.specs.Notes.{NotedStep, noting, noting_error, noting_cdata, noting_end}
 use Rattle.html_tokens.specs.Reading.{first_place, reading}
-use Rattle.html_tokens.specs.Sink.{Step}
 use Rattle.html_tokens.specs.TextState.{is_text_state}
 use Rattle.html_tokenizer.specs.Calls.{IsNew, ReadsAt}
 use Rattle.html_tokenizer.specs.declared.tokenizer.Tokenizer.{Tokenizer}

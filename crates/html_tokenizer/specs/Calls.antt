@@ -11,15 +11,14 @@ use Rattle.html_tokens.specs.declared.replies.TokenSinkResult.TheVariants as rep
 use Rattle.html_tokens.specs.declared.states.State.TheVariants as state
 use Rattle.html_tokens.specs.declared.token.Token.TheVariants.{EOFToken}
 use Rattle.html_tokens.specs.declared.options.TokenizerOpts.{TokenizerOpts}
-use Rattle.html_tokens.specs.declared.token.Token.{Token}
 use Rattle.html_tokens.specs.declared.sink.TokenSink.{Ghosts}
 use Rattle.html_tokens.specs.Item.{grave_if, Place}
 use Rattle.html_tokens.specs.NormalText.{normal_text}
 use Rattle.html_tokens.specs.Table.{Row}
 use Rattle.html_tokens.specs.TextState.{is_text_state}
 use Rattle.html_tokens.specs.Notes.{Notes, noting, noting_error, noting_cdata, noting_end}
-use Rattle.html_tokens.specs.Reading.{◌>>=◌, line_number, first_place, first_stand, reading}
-use Rattle.html_tokens.specs.Sink.{Step, Reply, Refusal}
+use Rattle.html_tokens.specs.Reading.{◌>>=◌, line_number, first_place, first_stand}
+use Rattle.html_tokens.specs.Sink.{Reply, Refusal}
 use Rattle.html_tokenizer.specs.CharRefs.{fits_in}
 use Rattle.html_tokenizer.specs.Forbidden.{is_forbidden}
 use Rattle.html_tokenizer.specs.declared.tokenizer.Stream.{Stream}

@@ -2,12 +2,11 @@
 use Rattle.std.specs.Prelude.{◌≡◌, ℕ, ◌+◌, ◌≤◌, min, Bool, true, List, [], ◌∷◌, ◌++◌, Result}
 use Rattle.markup.specs.declared.tokenizer_result.TokenizerResult.{TokenizerResult}
 use Rattle.html_queue.specs.Queue.{Queue}
-use Rattle.html_tokens.specs.declared.token.Token.{Token}
 use Rattle.html_tokens.specs.Notes.{Notes, no_notes, errors_of, owed}
 use Rattle.html_tokens.specs.Clean.{is_clean_reading}
 use Rattle.html_tokens.specs.declared.options.TokenizerOpts.{TokenizerOpts}
 use Rattle.html_tokens.specs.declared.sink.TokenSink.{Ghosts}
-use Rattle.html_tokens.specs.Sink.{Step, Refusal}
+use Rattle.html_tokens.specs.Sink.{Refusal}
 use Rattle.html_tokens.specs.Table.{Row}
 use Rattle.html_tokens.specs.NormalText.{normal_text}
 use Rattle.html_tokens.specs.Reading.{first_stand}
