@@ -1,5 +1,5 @@
 -- What an error in front of a character leaves.
-use Rattle.std.proofs.Common.{ℕ, Bool, List, [], ◌∷◌, ◌++◌, ◌≡◌, ◌∙◌, ap, Option, Result, Err}
+use Rattle.std.proofs.Common.{ℕ, Bool, List, [], ◌∷◌, ◌++◌, ◌≡◌, ◌∙◌, ap, Option, Result, Ok, Err}
 use Rattle.std.specs.Result.{IsErrAnd}
 use Rattle.std.proofs.lemmas.Result.{err_from_is_err_and}
 use Rattle.markup.specs.declared.fault.ParseFault.{ParseFault}
@@ -14,7 +14,7 @@ use Rattle.html_tokenizer.specs.Steps.{now, Owed, Erred, Errs, Keeps, nothing_ow
 use Rattle.html_tokenizer.proofs.Glue.{fails-before}
 use Rattle.html_tokenizer.proofs.HeldRefused.{held-refused}
 use Rattle.html_tokenizer.proofs.Refused.{noting-refused, noting-errs, every-fails}
-use Rattle.html_tokenizer.proofs.Rises.{rises-then, rises-less, each-more}
+use Rattle.html_tokenizer.proofs.Rises.{IsNoMore, rises-then, rises-less, each-more}
 
 module _ {K H : Type 0} (Sink : Ghosts K H) where
   -- An error could not be told, so nothing that is to come could, whatever reference was held.
@@ -53,6 +53,11 @@ module _ {K H : Type 0} (Sink : Ghosts K H) where
   erred-each passes front c old mid new h k =
       let both = erred-then old mid new h k in
       record { sink = both.sink; changed = both.changed; works = both.works; rises = rises-less Sink.errors old.sink new.sink (each-more passes front c) both.rises }
+
+  -- What was told tells what says no more.
+  pub errs-less : {m : Owed} (n : Owed) (old new : Tokenizer K) (result : Result (Unit {0}) ParseFault) → IsNoMore n m → Errs Sink m old new result → Errs Sink n old new result
+  errs-less n old new (Ok x) less h = record { sink = h.sink; changed = h.changed; works = h.works; rises = rises-less Sink.errors old.sink new.sink less h.rises }
+  errs-less n old new (Err fault) less h = h
 
   -- Errors were told, and then one could not be told.
   pub errs-behind : {m : Owed} (n : Owed) (old mid new : Tokenizer K) (fault : ParseFault) (result : Result (Unit {0}) ParseFault) → Erred Sink m old mid → Errs Sink nothing_owed mid new (Err fault)

@@ -17,7 +17,7 @@ use Rattle.html_tokenizer.specs.declared.tokenizer.Stream.{Stream}
 use Rattle.html_tokenizer.specs.declared.tokenizer.Tokenizer.{Tokenizer}
 use Rattle.html_tokenizer.specs.Rest.{pending, coming}
 use Rattle.html_tokenizer.specs.Steps.{Owed, PausesAt, paused_by, more, noted_by, Rises, now, nothing_owed, together}
-use Rattle.html_tokenizer.proofs.Rises.{more-more, char-no-more, text-no-more, none-no-more, rises-same, rises-less, rises-besides}
+use Rattle.html_tokenizer.proofs.Rises.{more-more, text-no-more, none-no-more, rises-same, rises-less, rises-besides}
 use Rattle.std.specs.Prelude.{if◌then◌else◌}
 use Rattle.html_tokenizer.proofs.InputChars.{takes-more}
 use Rattle.html_tokenizer.proofs.Glue.{held-other, fails-along, fails-before}
@@ -204,7 +204,7 @@ module _ {K H : Type 0} (Sink : Ghosts K H) where
     came = c ∷ [];
     comes = λ t. h.front t ∙ ap (λ s. c ∷ coming_in s t) (sym p.stream);
     owed = p.owed;
-    rises = from-mid old mid new p.owed (c ∷ []) is (ap (λ s. s.exact_errors) h.changed) (rises-less Sink.errors mid.sink new.sink (char-no-more mid.stream.exact_errors c p.owed) p.rises);
+    rises = from-mid old mid new p.owed (c ∷ []) is (ap (λ s. s.exact_errors) h.changed) p.rises;
     same = λ notes t.
         comes-to old mid (h.taken ++ t) (c ∷ coming_in mid.stream t) notes h.changed is (h.front t)
         ∙ p.same notes (coming_in mid.stream t)

@@ -8,7 +8,7 @@ use Rattle.html_tokens.specs.Notes.{Notes, one_if, heard, wronged}
 use Rattle.html_tokens.specs.Sink.{one_more, Counts, CountsOwn}
 use Rattle.html_tokens.specs.declared.token.Token.{Token}
 use Rattle.html_tokens.specs.declared.token.Token.TheVariants.{ParseError}
-use Rattle.html_tokenizer.specs.Calls.{owed_for_char, owed_for_text}
+use Rattle.html_tokenizer.specs.Calls.{owed_for_text}
 use Rattle.html_tokenizer.specs.Forbidden.{is_forbidden}
 use Rattle.html_tokenizer.specs.Steps.{IsNoTag, Owed, nothing_owed, owed_for, owed_for_each, how_many, and_heard, together, Rises, and_more, more}
 
@@ -132,14 +132,14 @@ both-no-more true m n a b = record {
       and_from (n.is_quiet && nat_eq (how_many is_forbidden b) 0) (m.is_quiet && nat_eq (how_many is_forbidden a) 0) (and_from n.is_quiet (nat_eq (how_many is_forbidden b) 0) p.0 r.1) (and_from m.is_quiet (nat_eq (how_many is_forbidden a) 0) p.1 r.0);
 }
 
-one-char : (told : Bool) (owed : Owed) → IsNoMore (together owed (record { faults = one_if told + 0; is_quiet = nat_eq (one_if told + 0) 0 })) (together owed (owed_for (grave_if told)))
-one-char true owed = record { faults = omega arith; quiet = λ e. e }
-one-char false owed = record { faults = omega arith; quiet = λ e. e }
+one-char : (told : Bool) → IsNoMore (record { faults = one_if told + 0; is_quiet = nat_eq (one_if told + 0) 0 }) (owed_for (grave_if told))
+one-char true = record { faults = omega arith; quiet = λ e. e }
+one-char false = record { faults = omega arith; quiet = λ e. e }
 
 -- what one character owes on its own, as a text
-pub char-no-more : (exact : Bool) (c : ℕ) (owed : Owed) → IsNoMore (together owed (owed_for_text exact (c ∷ []))) (together owed (owed_for_char exact c))
-char-no-more true c owed = one-char (is_forbidden c) owed
-char-no-more false c owed = no-more-same (together owed nothing_owed)
+pub char-no-more : (exact : Bool) (c : ℕ) → IsNoMore (owed_for_text exact (c ∷ [])) (owed_for (grave_if (exact && is_forbidden c)))
+char-no-more true c = one-char (is_forbidden c)
+char-no-more false c = no-more-same nothing_owed
 
 last-adds : (passes : Bool) (x y : ℕ) → x ≡ y + (one_if passes + 0) → IsNoMore (record { faults = x; is_quiet = nat_eq x 0 }) (together (owed_for (grave_if passes)) (record { faults = y; is_quiet = nat_eq y 0 }))
 last-adds true x y e = record { faults = omega (arith, e); quiet = λ h. absurd (grind (arith, nat_tests)) }

@@ -1,5 +1,5 @@
 -- A character is taken, and its line counted.
-use Rattle.std.proofs.Common.{◌≡◌, ◌∙◌, ℕ, ◌+◌, Bool, true, false, nat_eq, List, ◌∷◌, ◌++◌, Option, Result, Err, refl, sym, ap}
+use Rattle.std.proofs.Common.{[], ◌≡◌, ◌∙◌, ℕ, ◌+◌, Bool, true, false, nat_eq, List, ◌∷◌, ◌++◌, Option, Result, Err, refl, sym, ap}
 use Rattle.std.specs.Prelude.{min, if◌then◌else◌}
 use Rattle.std.specs.Result.{IsErrAnd}
 use Rattle.std.proofs.lemmas.Result.{err_from_is_err_and}
@@ -9,7 +9,7 @@ use Rattle.html_tokens.specs.declared.replies.ProcessResult.TheVariants as flow
 use Rattle.html_tokens.specs.declared.sink.TokenSink.{Ghosts}
 use Rattle.html_tokens.specs.Notes.{Notes, noting, noting_error, noting_cdata, noting_end}
 use Rattle.html_tokens.specs.Reading.{line_break}
-use Rattle.html_tokenizer.specs.Calls.{counted, Passed, Passes, owed_for_char}
+use Rattle.html_tokenizer.specs.Calls.{counted, Passed, Passes, owed_for_text}
 use Rattle.html_tokenizer.specs.declared.tokenizer.Stream.{Stream}
 use Rattle.html_tokenizer.specs.declared.tokenizer.Tokenizer.{Tokenizer}
 use Rattle.html_tokenizer.specs.Rest.{pending}
@@ -53,7 +53,7 @@ module _ {K H : Type 0} (Sink : Ghosts K H) where
   erred-same old erred notes t e = erred-now Sink old erred old.stream.breaks notes t e ∙ ap (λ (k : Tokenizer K). now Sink erred k.stream.breaks (Sink.view erred.sink, notes) t) (sym e.changed)
 
   -- The character was taken behind its own error, if it is told, and then its line was counted.
-  pub passed : (old erred mid : Tokenizer K) (stream : Stream) (c : ℕ) (result : ProcessResult H) → Erred Sink (owed_for_char old.stream.exact_errors c) old erred → Took Sink erred mid c result
+  pub passed : (old erred mid : Tokenizer K) (stream : Stream) (c : ℕ) (result : ProcessResult H) → Erred Sink (owed_for_text old.stream.exact_errors (c ∷ [])) old erred → Took Sink erred mid c result
       → stream ≡ record mid.stream { breaks = counted mid.stream.breaks c } → Passed Sink old (record mid { stream = stream }) c result
   passed old erred mid stream c result e h is = rw is (
       let same-stream = ap (λ (k : Tokenizer K). k.stream) e.changed in

@@ -12,7 +12,7 @@ use Rattle.html_tokens.specs.declared.states.State.TheVariants as state
 use Rattle.html_tokens.specs.declared.token.Token.TheVariants.{EOFToken}
 use Rattle.html_tokens.specs.declared.options.TokenizerOpts.{TokenizerOpts}
 use Rattle.html_tokens.specs.declared.sink.TokenSink.{Ghosts}
-use Rattle.html_tokens.specs.Item.{grave_if, Place}
+use Rattle.html_tokens.specs.Item.{Place}
 use Rattle.html_tokens.specs.NormalText.{normal_text}
 use Rattle.html_tokens.specs.Table.{Row}
 use Rattle.html_tokens.specs.TextState.{is_text_state}
@@ -30,7 +30,7 @@ use Rattle.html_tokenizer.specs.Pieces.{ComesAsRun}
 use Rattle.html_tokenizer.specs.Stops.{stops_of}
 use Rattle.html_queue.specs.declared.set.SmallCharSet.{SmallCharSet}
 use Rattle.html_tokenizer.specs.Rest.{rest, rows_of, standing, coming}
-use Rattle.html_tokenizer.specs.Steps.{IsAt, PausesAt, Owed, nothing_owed, owed_for, owed_for_each, together, more, noted_by, Rises, now, Fails, reads}
+use Rattle.html_tokenizer.specs.Steps.{IsAt, PausesAt, Owed, nothing_owed, owed_for_each, together, more, noted_by, Rises, now, Fails, reads}
 
 -- the pauses so far, and the one with which a call of `feed` hands back control
 abbrev pub paused_with : {H : Type 0} → (H → ℕ) → List Reply → TokenizerResult H → List Reply
@@ -41,10 +41,6 @@ paused_with number pauses (EncodingIndicator label) = pauses ++ reply.EncodingIn
 -- what was noted, with what is owed behind it and that pause
 abbrev pub noted_with : {H : Type 0} → (H → ℕ) → Owed → Notes ℕ → TokenizerResult H → Notes ℕ
 noted_with number owed notes result = record (more owed notes) { pauses = paused_with number notes.pauses result }
-
--- what a character owes on its own, where control characters and noncharacters are told
-abbrev pub owed_for_char : Bool → ℕ → Owed
-owed_for_char exact c = owed_for (grave_if (exact && is_forbidden c))
 
 -- what the characters of a text owe on their own, where these are told
 abbrev pub owed_for_text : Bool → List ℕ → Owed
@@ -110,7 +106,7 @@ module _ {K H : Type 0} (Sink : Ghosts K H) where
   -- which owed this.
   pub record Passed (old new : Tokenizer K) (c : ℕ) (result : ProcessResult H) : Type 0 where
     pub owed : Owed
-    pub rises : Rises Sink.errors (together owed (owed_for_char old.stream.exact_errors c)) old.sink new.sink
+    pub rises : Rises Sink.errors (together owed (owed_for_text old.stream.exact_errors (c ∷ []))) old.sink new.sink
     pub same : (notes : Notes ℕ) (t : List ℕ) → now Sink old old.stream.breaks (Sink.view old.sink, notes) (c ∷ t) ≡ now Sink new new.stream.breaks (Sink.view new.sink, noted_by Sink.number owed notes result) t
     pub stream : new.stream ≡ record old.stream { breaks = new.stream.breaks }
     pub sound : Sink.is_sound (Sink.view new.sink)

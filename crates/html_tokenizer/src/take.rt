@@ -1,7 +1,7 @@
 //! One character of the input, with its line and its own errors.
-ghost use Rattle.std.specs.Prelude.{◌≡◌, min, ◌+◌, true, nat_eq};
+ghost use Rattle.std.specs.Prelude.{◌≡◌, ◌∷◌, [], min, ◌+◌, true, nat_eq};
 ghost use Rattle.html_tokens.specs.Reading.{line_break};
-ghost use Rattle.html_tokenizer.specs.Calls.{Passes, counted, owed_for_char};
+ghost use Rattle.html_tokenizer.specs.Calls.{Passes, counted, owed_for_text};
 ghost use Rattle.html_tokenizer.specs.CharRefs.{fits_in};
 ghost use Rattle.html_tokenizer.specs.Steps.{Errs, Keeps};
 
@@ -26,7 +26,7 @@ impl<Sink: TokenSink> Tokenizer<Sink> {
     /// Tells of a control character or a noncharacter, where such are told.
     fn tell_forbidden(&mut self, c: char) -> Result<(), ParseFault>
         requires sound { Sink.is_sound (Sink.view self.old.sink) }
-        ensures { Errs Sink.TokenSink (owed_for_char self.old.stream.exact_errors c) self.old self.new result }
+        ensures { Errs Sink.TokenSink (owed_for_text self.old.stream.exact_errors (c ∷ [])) self.old self.new result }
     {
         self.tell_if(
             self.stream.exact_errors && is_forbidden(c),
