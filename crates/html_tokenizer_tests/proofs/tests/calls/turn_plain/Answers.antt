@@ -1,6 +1,5 @@
 use Rattle.std.proofs.Common.{◌≡◌, ◌∙◌, ℕ, Bool, true, false, List, Option, Some, None, refl, sym, rules}
 use Rattle.std.specs.Prelude.{◌&&◌, not, is_none}
-use Rattle.html_tokens.specs.Sink.{Step}
 use Rattle.html_tokens.specs.TextState.{is_text_state}
 use Rattle.html_tokens.specs.declared.states.State.{State}
 use Rattle.html_tokens.specs.declared.states.State.TheVariants as state
@@ -8,7 +7,6 @@ use Rattle.html_tokenizer.specs.Calls.{refused_by, refusal, is_nothing_pending, 
 use Rattle.html_tokenizer.specs.CharRefs.{fits_in}
 use Rattle.html_tokenizer.specs.declared.tokenizer.Tokenizer.{Tokenizer}
 use Rattle.html_tokenizer_tests.proofs.tests.calls.turn_plain.Goals as goal
-use Rattle.html_tokens.specs.declared.token.Token.{Token}
 use Rattle.html_tokens.specs.declared.sink.TokenSink.{Ghosts}
 
 -- the third of four facts
