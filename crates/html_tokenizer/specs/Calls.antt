@@ -30,7 +30,7 @@ use Rattle.html_tokenizer.specs.Pieces.{ComesAsRun}
 use Rattle.html_tokenizer.specs.Stops.{stops_of}
 use Rattle.html_queue.specs.declared.set.SmallCharSet.{SmallCharSet}
 use Rattle.html_tokenizer.specs.Rest.{rest, rows_of, standing, coming}
-use Rattle.html_tokenizer.specs.Steps.{IsAt, PausesAt, Owed, nothing_owed, owed_for_each, together, more, noted_by, Rises, now, Fails, reads}
+use Rattle.html_tokenizer.specs.Steps.{IsAt, PausesAt, Owed, nothing_owed, owed_for_each, together, more, paused_by, noted_by, Rises, now, Fails, reads}
 
 -- the pauses so far, and the one with which a call of `feed` hands back control
 abbrev pub paused_with : {H : Type 0} → (H → ℕ) → List Reply → TokenizerResult H → List Reply
@@ -165,22 +165,28 @@ module _ {K H : Type 0} (Sink : Ghosts K H) where
   Leaves (flow.Script handle) new taken to = (last_of taken ≡ 62) × IsAt new state.Data
   Leaves (flow.EncodingIndicator label) new taken to = (last_of taken ≡ 62) × IsAt new state.Data
 
-  -- The tokenizer took some characters: whatever follows them, what is to come is what was to come.
-  pub record Moved (old new : Tokenizer K) (from to : Queue) (result : ProcessResult H) : Type 0 where
+  -- Some characters were taken from the queue, each once, these pauses were added, and the tokenizer stands where this is so of the
+  -- characters taken.
+  pub record HasMoved (pauses_behind : List Reply → List Reply) (leaves : List ℕ → Type 0) (old new : Tokenizer K) (from to : Queue) : Type 0 where
     pub taken : List ℕ
     pub takes : Takes taken from to
-    -- the characters that came of them, and what these owed
+    -- the characters that came of them, and what the items that ended with these owed, besides what they owed on their own
     pub came : List ℕ
     pub comes : (t : List ℕ) → coming old (taken ++ t) ≡ came ++ coming new t
     pub owed : Owed
-    pub same : (notes : Notes ℕ) (t : List ℕ) → to_come old notes (taken ++ t) ≡ to_come new (noted_by Sink.number owed notes result) t
     pub rises : Rises Sink.errors (together owed (owed_for_text old.stream.exact_errors came)) old.sink new.sink
+    -- for each further text, what was to come over the characters taken and that text is what is now to come over that text
+    pub same : (notes : Notes ℕ) (t : List ℕ) → to_come old notes (taken ++ t) ≡ to_come new (record (more owed notes) { pauses = pauses_behind notes.pauses }) t
     pub ready : IsReady new
     pub works : Sink.has_failed new.sink ≡ true → Sink.has_failed old.sink ≡ true
     pub ended : new.stream.has_ended ≡ old.stream.has_ended
     pub failed : new.stream.has_failed ≡ old.stream.has_failed
     pub exact : new.stream.exact_errors ≡ old.stream.exact_errors
-    pub left : Leaves result new taken to
+    pub left : leaves taken
+
+  -- A step was made, which ends so.
+  abbrev pub Moved : Tokenizer K → Tokenizer K → Queue → Queue → ProcessResult H → Type 0
+  Moved old new from to result = HasMoved (λ pauses. paused_by Sink.number pauses result) (λ taken. Leaves result new taken to) old new from to
 
   abbrev pub Moves : Tokenizer K → Tokenizer K → Queue → Queue → Result (ProcessResult H) ParseFault → Type 0
   Moves old new from to (Ok result) = Moved old new from to result
@@ -192,23 +198,9 @@ module _ {K H : Type 0} (Sink : Ghosts K H) where
   Rests (Script handle) new taken to = (last_of taken ≡ 62) × IsAt new state.Data
   Rests (EncodingIndicator label) new taken to = (last_of taken ≡ 62) × IsAt new state.Data
 
-  -- The input was read, or read up to a pause: some characters were taken from the queue, each once.
-  pub record Fed (old new : Tokenizer K) (from to : Queue) (result : TokenizerResult H) : Type 0 where
-    pub taken : List ℕ
-    pub takes : Takes taken from to
-    -- the characters that came of them, and what these owed, besides what they owed on their own
-    pub came : List ℕ
-    pub comes : (t : List ℕ) → coming old (taken ++ t) ≡ came ++ coming new t
-    pub owed : Owed
-    pub rises : Rises Sink.errors (together owed (owed_for_text old.stream.exact_errors came)) old.sink new.sink
-    -- for each further text, what was to come over the characters taken and that text is what is now to come over that text
-    pub same : (notes : Notes ℕ) (t : List ℕ) → to_come old notes (taken ++ t) ≡ to_come new (noted_with Sink.number owed notes result) t
-    pub ready : IsReady new
-    pub works : Sink.has_failed new.sink ≡ true → Sink.has_failed old.sink ≡ true
-    pub ended : new.stream.has_ended ≡ old.stream.has_ended
-    pub failed : new.stream.has_failed ≡ old.stream.has_failed
-    pub exact : new.stream.exact_errors ≡ old.stream.exact_errors
-    pub left : Rests result new taken to
+  -- The input was read, or read up to a pause.
+  abbrev pub Fed : Tokenizer K → Tokenizer K → Queue → Queue → TokenizerResult H → Type 0
+  Fed old new from to result = HasMoved (λ pauses. paused_with Sink.number pauses result) (λ taken. Rests result new taken to) old new from to
 
   abbrev pub Runs : Tokenizer K → Tokenizer K → Queue → Queue → Result (TokenizerResult H) ParseFault → Type 0
   Runs old new from to (Ok result) = Fed old new from to result
