@@ -14,7 +14,7 @@ use Rattle.html_tokenizer.specs.declared.tokenizer.Tokenizer.{Tokenizer}
 use Rattle.html_tokenizer.specs.Calls.{to_come, noted_with, HasEnded, IsNew, owed_for_text}
 use Rattle.html_tokenizer.specs.Steps.{Owed, more, together, Rises}
 use Rattle.html_tokenizer.proofs.Rises.{more-sum, none-no-more, rises-same, rises-less, rises-besides}
-use Rattle.html_tokenizer.specs.Laws.{Call, text_of, IsChain, taken_by, noted_behind, IsAnyPieces, IsSameRoad, IsEachFaultTold, IsCleanTextQuiet}
+use Rattle.html_tokenizer.specs.Laws.{Call, text_of, IsChain, taken_by, noted_behind, AreCallsChained, IsAnyPieces, IsChainEnded, IsSameRoad, IsEachFaultTold, IsCleanTextQuiet}
 use Rattle.html_tokenizer.specs.Rest.{coming}
 
 -- two values that are given as one
@@ -53,9 +53,7 @@ nothing-comes : {K : Type 0} (k : Tokenizer K) → coming k [] ≡ []
 nothing-comes k = no-text k.stream.ignore_lf k.stream.discard_bom
 
 module _ {K H : Type 0} (Sink : Ghosts K H) where
-  -- what was to come over all that was taken, and any text, is what is to come over the text
-  chain : (k new : Tokenizer K) (cs : List (Call Sink)) (notes : Notes ℕ) (t : List ℕ) → IsChain Sink k cs new
-      → to_come Sink k notes (taken_by Sink cs ++ t) ≡ to_come Sink new (noted_behind Sink notes cs) t
+  pub chain : AreCallsChained Sink
   chain k new [] notes t h = ap (λ x. to_come Sink x notes t) h
   chain k new (c ∷ cs) notes t h =
       ap (λ u. to_come Sink k notes u) (append_assoc c.fed.taken (taken_by Sink cs) t)
@@ -63,9 +61,7 @@ module _ {K H : Type 0} (Sink : Ghosts K H) where
       ∙ c.fed.same notes (taken_by Sink cs ++ t)
       ∙ chain c.after new cs (noted_with Sink.number c.fed.owed notes c.result) t h.1
 
-  -- what the whole text makes of the sink
-  chain-ended : (k new ended : Tokenizer K) (cs : List (Call Sink)) → IsChain Sink k cs new → (e : HasEnded Sink new ended)
-      → to_come Sink k no_notes (taken_by Sink cs) ≡ Ok (Sink.view ended.sink, more e.owed (noted_behind Sink no_notes cs))
+  pub chain-ended : IsChainEnded Sink
   chain-ended k new ended cs h e =
       ap (λ u. to_come Sink k no_notes u) (sym (append-nil (taken_by Sink cs)))
       ∙ chain k new cs no_notes [] h

@@ -1,5 +1,5 @@
 -- What the calls of a tokenizer come to, in whatever pieces the text came.
-use Rattle.std.specs.Prelude.{◌≡◌, ℕ, ◌+◌, ◌≤◌, min, Bool, true, List, [], ◌∷◌, ◌++◌, Result}
+use Rattle.std.specs.Prelude.{◌≡◌, ℕ, ◌+◌, ◌≤◌, min, Bool, true, List, [], ◌∷◌, ◌++◌, Result, Ok}
 use Rattle.markup.specs.declared.tokenizer_result.TokenizerResult.{TokenizerResult}
 use Rattle.html_queue.specs.Queue.{Queue}
 use Rattle.html_tokens.specs.Notes.{Notes, no_notes, errors_of, owed}
@@ -12,6 +12,7 @@ use Rattle.html_tokens.specs.NormalText.{normal_text}
 use Rattle.html_tokens.specs.Reading.{first_stand}
 use Rattle.html_tokenizer.specs.declared.tokenizer.Tokenizer.{Tokenizer}
 use Rattle.html_tokenizer.specs.Calls.{to_come, noted_with, owed_for_text, Fed, HasEnded, IsNew}
+use Rattle.html_tokenizer.specs.Steps.{more}
 
 module _ {K H : Type 0} (Sink : Ghosts K H) where
   -- a call of `feed` that succeeded, over whatever queue
@@ -60,6 +61,16 @@ module _ {K H : Type 0} (Sink : Ghosts K H) where
   -- how many errors a tokenizer owes for a further text: as many as what is to come has faulty items, up to a refusal
   abbrev pub owes : Tokenizer K → List ℕ → ℕ
   owes k t = errors_of (noted_to_come k t)
+
+  -- Whatever follows, what was to come over all that the calls took is what is to come behind them.
+  abbrev pub AreCallsChained : Type 0
+  AreCallsChained = (k new : Tokenizer K) (cs : List Call) (notes : Notes ℕ) (t : List ℕ) → IsChain k cs new
+      → to_come Sink k notes (taken_by cs ++ t) ≡ to_come Sink new (noted_behind notes cs) t
+
+  -- What was to come over all that the calls took, and no more, is what the end leaves.
+  abbrev pub IsChainEnded : Type 0
+  IsChainEnded = (k new ended : Tokenizer K) (cs : List Call) → IsChain k cs new → (e : HasEnded Sink new ended)
+      → noted_to_come k (taken_by cs) ≡ Ok (Sink.view ended.sink, more e.owed (noted_behind no_notes cs))
 
   -- Two tokenizers that make the same of whatever follows, and that take the same text, in whatever pieces, put in at pauses too,
   -- leave the same state of the sink behind their ends, and the same pauses.

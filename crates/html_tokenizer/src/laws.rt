@@ -1,8 +1,19 @@
 //! Laws over the calls of a tokenizer. Each function's contract is one law.
-ghost use Rattle.html_tokenizer.specs.Laws.{IsAnyPieces, IsCleanTextQuiet, IsEachFaultTold, IsOwing, IsSameRoad};
+ghost use Rattle.html_tokenizer.specs.Laws.{AreCallsChained, IsAnyPieces, IsChainEnded, IsCleanTextQuiet, IsEachFaultTold, IsOwing, IsSameRoad};
 ghost use Rattle.html_tokenizer.specs.Steps.{nothing_owed};
 
 use html_tokens::sink::TokenSink;
+
+/// Calls of one tokenizer, one after the other, make of the text that they take what the first was to make of it, whatever
+/// follows.
+pub fn calls_are_chained<Sink: TokenSink>()
+    ensures { AreCallsChained Sink.TokenSink }
+{}
+
+/// Calls of one tokenizer and its end leave the sink as the first was to make it of the text that they took.
+pub fn chains_are_ended<Sink: TokenSink>()
+    ensures { IsChainEnded Sink.TokenSink }
+{}
 
 /// In whatever pieces a text is fed to a tokenizer, put in at pauses too, and with control characters told or not: the
 /// sink is left in one state, and the pauses are the same.

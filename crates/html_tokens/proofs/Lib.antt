@@ -3,6 +3,7 @@ pub mod CleanTags
 pub mod Lengths
 pub mod ListingLaws
 pub mod NewlineLaws
+pub mod NotedReadings
 pub mod Permutations
 pub mod Readings
 pub mod ReferenceNames

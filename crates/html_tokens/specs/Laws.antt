@@ -13,7 +13,7 @@ use Rattle.html_tokens.specs.declared.token.Token.TheVariants.{DoctypeToken, Tag
 use Rattle.html_tokens.specs.Item.{Fault, Place, InData, InRaw, InPlaintext, InCdata, InTag, Stand, Item}
 use Rattle.html_tokens.specs.Items.{item}
 use Rattle.html_tokens.specs.Clean.{is_clean_reading}
-use Rattle.html_tokens.specs.Notes.{owed, is_quiet_reading}
+use Rattle.html_tokens.specs.Notes.{Notes, noted_reading, owed, is_quiet_reading, without_notes}
 use Rattle.html_tokens.specs.NormalText.{newlines_behind}
 use Rattle.html_tokens.specs.Reading.{◌>>=◌, reading, reading_from, play, line_breaks}
 use Rattle.html_tokens.specs.Reference.{reference_at}
@@ -100,6 +100,12 @@ abbrev pub IsCleanQuiet : {S H F : Type 0} → (S → Token → ℕ → Result (
 IsCleanQuiet {S} step quiet cdata ends =
     (rows : List Row) (st : Stand) (breaks : ℕ) (s : S) (t : List ℕ) → is_clean_reading step quiet cdata rows st breaks s t ≡ true
     → (owed step quiet cdata ends rows st breaks s t ≡ 0) × (is_quiet_reading step quiet cdata ends rows st breaks s t ≡ true)
+
+-- a reading of which something is noted is the reading, without what was noted
+abbrev pub IsNotedReadAlike : {S H F : Type 0} → (S → Token → ℕ → Result (S × TokenSinkResult H) F) → (S → Token → Bool) → (S → Bool) → (S → S) → Type 0
+IsNotedReadAlike {S} {H} step quiet cdata ends =
+    (rows : List Row) (st : Stand) (breaks : ℕ) (s : S) (notes : Notes H) (t : List ℕ)
+    → without_notes (noted_reading step quiet cdata ends rows st breaks (s, notes) t) ≡ reading step (λ fault s. s) cdata ends rows st breaks s t
 
 -- the references that escaping writes are read by a table as their characters
 pub record ReadsEscapes (rows : List Row) : Type 0 where

@@ -62,6 +62,11 @@ noting_end ends s = (ends s.0, s.1)
 abbrev pub NotedStep : Type 0 → Type 0
 NotedStep T = T → Token → ℕ → Result (T × Reply) (Refusal × ℕ)
 
+-- what is given, without what was noted
+abbrev pub without_notes : {S N F : Type 0} → Result (S × N) (F × ℕ) → Result S F
+without_notes (Ok p) = Ok p.0
+without_notes (Err e) = Err e.0
+
 abbrev pub pauses_of : {S H F : Type 0} → Result (S × Notes H) F → Result (List (TokenSinkResult H)) F
 pauses_of (Ok p) = Ok p.1.pauses
 pauses_of (Err e) = Err e

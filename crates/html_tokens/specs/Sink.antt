@@ -1,7 +1,8 @@
 -- What a sink of tokens stands for, what each token makes of that, and what every sink keeps.
-use Rattle.std.specs.Prelude.{◌≡◌, ℕ, ◌+◌, ◌-◌, ◌^◌, ◌≤◌, nat_lt, if◌then◌else◌, Bool, true, false, ◌&&◌, List, [], ◌++◌, Result, Ok, Err, IfOk, IsOk, IsErr}
+use Rattle.std.specs.Prelude.{◌≡◌, ℕ, ◌≤◌, Bool, true, false, ◌&&◌, List, [], ◌++◌, Result, Ok, Err, IfOk, IsOk, IsErr}
 use Rattle.markup.specs.declared.fault.ParseFault.{ParseFault}
 use Rattle.markup.specs.declared.fault.ParseFault.TheVariants.{Memory, TokenInText, Ended, Shape, Failed}
+pub use Rattle.markup.specs.Forest.{one_more}
 use Rattle.html_tokens.specs.TextState.{is_text_state}
 use Rattle.html_tokens.specs.declared.states.State.TheVariants.{RawData as RawText}
 use Rattle.html_tokens.specs.declared.replies.TokenSinkResult.{TokenSinkResult}
@@ -69,10 +70,6 @@ abbrev pub OnRefused : {R : Type 0} → Result R ParseFault → Type 0 → Type 
 OnRefused (Ok _) P = Unit {0}
 OnRefused (Err Memory) P = Unit {0}
 OnRefused (Err _) P = P
-
--- a number of errors after one more: at u64::MAX it stays
-abbrev pub one_more : ℕ → ℕ
-one_more n = if nat_lt n (2 ^ 64 - 1) then n + 1 else n
 
 -- from old to new, a number of errors as a token leaves it that is quiet or is not
 abbrev pub CountsOwn : Bool → ℕ → ℕ → Type 0

@@ -1,6 +1,6 @@
 //! Laws over the definitions of tokenizing. Each function's contract is one law.
 ghost use Rattle.std.specs.Prelude.{⊤};
-ghost use Rattle.html_tokens.specs.Laws.{IsCleanQuiet, IsItemInText, IsReadByItems, IsSkipped, AreNewlinesJoined, IsCutAnywhere, IsRunOneText, IsEscapeRead, IsOwnNormalText, IsFirstKept, IsEachTokenSound, ReadsEscapes, AreLinesCounted, JoinsText};
+ghost use Rattle.html_tokens.specs.Laws.{IsCleanQuiet, IsItemInText, IsReadByItems, IsSkipped, AreNewlinesJoined, IsCutAnywhere, IsNotedReadAlike, IsRunOneText, IsEscapeRead, IsOwnNormalText, IsFirstKept, IsEachTokenSound, ReadsEscapes, AreLinesCounted, JoinsText};
 ghost use Rattle.html_tokens.specs.RowForms.{five, raw_text};
 ghost use Rattle.html_tokens.specs.Listing;
 ghost use Rattle.html_tokens.specs.TagEquality.{IsTagEquivalence};
@@ -60,6 +60,11 @@ pub fn tokens_are_sound()
 /// A text that is read without anything that is not clean owes no error, and is quiet.
 pub fn clean_texts_are_quiet<S: TokenSink>()
     ensures { IsCleanQuiet S.step S.is_quiet S.asks_cdata S.ended }
+{}
+
+/// What is noted of a reading changes nothing of it.
+pub fn notes_change_nothing<S: TokenSink>()
+    ensures { IsNotedReadAlike S.step S.is_quiet S.asks_cdata S.ended }
 {}
 
 /// The table of five names reads what escaping writes.

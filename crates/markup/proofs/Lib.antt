@@ -8,3 +8,5 @@ pub mod Reparented
 pub mod PutTexts
 pub mod TemplateContents
 pub mod Trees
+pub mod ErrorsApart
+pub mod TextPieces

@@ -1,6 +1,7 @@
 -- The tree that a sink has built so far (DOM Standard, section 4.2). Nodes are named by numbers, in the order in which they were made.
 -- The document is 0. The contents of a template are a node of their own, whose number follows the template's.
-use Rattle.std.specs.Prelude.{◌≡◌, ◌==◌, ◌+◌, ◌-◌, ◌<◌, ℕ, suc, Bool, true, false, cond, List, [], ◌∷◌, ◌++◌, Option, Some, None, length, slice_index_or, slice_set, filter, not, min}
+use Rattle.std.specs.Prelude.{◌≡◌, ◌==◌, ◌+◌, ◌-◌, ◌<◌, ℕ, suc, Bool, true, false, cond, List, [], ◌∷◌, ◌++◌, Option, Some, None, length, slice_index_or, slice_set, filter, not}
+pub use Rattle.devices.specs.Devices.{one_more}
 use Rattle.markup.specs.Names.{has_attribute}
 use Rattle.markup.specs.declared.names.QualName.{QualName}
 use Rattle.markup.specs.declared.attributes.Attribute.{Attribute}
@@ -176,9 +177,9 @@ MayPut node f place (AppendText characters) = Unit {0}
 abbrev pub empty_forest : Forest
 empty_forest = record { nodes = record { about = Document; children = [] } ∷ []; quirks = NoQuirks; errors = 0 }
 
--- at most as many errors are counted as a 64 bit number has room for
+-- at u64::MAX the number of errors stays
 abbrev pub add_error : Forest → Forest
-add_error f = record f { errors = min (f.errors + 1) 18446744073709551615 }
+add_error f = record f { errors = one_more f.errors }
 
 abbrev pub set_quirks : Forest → QuirksMode → Forest
 set_quirks f mode = record f { quirks = mode }

@@ -3,3 +3,4 @@ pub mod Plain
 pub mod Names
 pub mod Forest
 pub mod Named
+pub mod TreeLaws

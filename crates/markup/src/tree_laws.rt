@@ -6,6 +6,7 @@ ghost use Rattle.markup.specs.Named.{IsTree};
 ghost use Rattle.markup.specs.Forest.{Above, IsNode, IsParent, MayPut, above_of, add_attributes, add_error, children_of, create_element, is_among, node_count, parent_of, place_before, place_near, put_child, put_new, remove, reparent_children, set_quirks, with_node};
 ghost use Rattle.markup.specs.Forest.NodeData.{Comment, Doctype, ProcessingInstruction};
 ghost use Rattle.markup.specs.Forest.Place.{Last};
+ghost use Rattle.markup.specs.TreeLaws.{AreErrorsApart, AreTextsJoined};
 
 use crate::attributes::Attributes;
 use crate::fault::ParseFault;
@@ -237,3 +238,13 @@ pub fn reparent_children_keeps_tree<S: TreeSink>(
 {
     sink.reparent_children(from, to)
 }
+
+/// Two texts put at one place, one after the other, are as one.
+pub fn texts_are_joined()
+    ensures { AreTextsJoined }
+{}
+
+/// No change of a tree but that of a parse error looks at the number of errors, or moves it.
+pub fn errors_stand_apart()
+    ensures { AreErrorsApart }
+{}
