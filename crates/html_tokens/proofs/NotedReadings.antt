@@ -1,5 +1,5 @@
 -- What a text makes of a sink does not depend on what is noted of it.
-use Rattle.std.proofs.Common.{◌≡◌, ℕ, ◌+◌, ◌-◌, ◌∙◌, zero, suc, Bool, List, [], ◌∷◌, take, Option, Some, None, Result, Ok, Err, refl, sym, ap}
+use Rattle.std.proofs.Common.{◌≡◌, ℕ, ◌+◌, ◌-◌, zero, suc, Bool, List, [], ◌∷◌, take, Option, Some, None, Result, Ok, Err, refl}
 use Rattle.html_tokens.specs.declared.replies.TokenSinkResult.{TokenSinkResult}
 use Rattle.html_tokens.specs.declared.replies.TokenSinkResult.TheVariants as reply
 use Rattle.html_tokens.specs.declared.token.Token.{Token}
@@ -7,7 +7,7 @@ use Rattle.html_tokens.specs.declared.token.Token.TheVariants.{EOFToken}
 use Rattle.html_tokens.specs.Item.{Fault, Stand, fault_at_end}
 use Rattle.html_tokens.specs.Items.{item}
 use Rattle.html_tokens.specs.Notes.{Notes, without_notes, noted, heard, noting, noting_error, noting_cdata, noting_end, wronged, paused}
-use Rattle.html_tokens.specs.Reading.{◌>>=◌, said, erred_by, next_stand, line_breaks, line_number, reading_from}
+use Rattle.html_tokens.specs.Reading.{◌>>=◌, said, next_stand, line_breaks, line_number, reading_from}
 use Rattle.html_tokens.specs.Table.{Row}
 
 module _ {S H F : Type 0} (step : S → Token → ℕ → Result (S × TokenSinkResult H) F) (quiet : S → Token → Bool) (cdata : S → Bool) (ends : S → S) (rows : List Row) where

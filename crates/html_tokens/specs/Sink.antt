@@ -76,11 +76,12 @@ abbrev pub CountsOwn : Bool → ℕ → ℕ → Type 0
 CountsOwn true old new = new ≡ old
 CountsOwn false old new = one_more old ≤ new
 
--- An error raises the number of errors by one, any other token does so exactly if it is not quiet, and nothing lowers it.
+-- An error raises the number of errors by one, any other token does so exactly if it is not quiet. Of a sink that failed or
+-- refused a token nothing is said here.
 abbrev pub Counts : {R : Type 0} → Bool → Token → Result R ParseFault → ℕ → ℕ → Type 0
 Counts quiet (ParseError _) (Ok _) old new = new ≡ one_more old
 Counts quiet _ (Ok _) old new = CountsOwn quiet old new
-Counts quiet _ (Err _) old new = old ≤ new
+Counts quiet _ (Err _) old new = Unit {0}
 
 -- a reply that may be given to a tag: raw text that follows is that of one of the text states
 abbrev pub IsTagReply : Reply → Type 0

@@ -1,5 +1,5 @@
 //! What follows for every sink from what every sink keeps: text in any pieces is as in one, and an error changes nothing.
-ghost use Rattle.std.specs.Prelude.{◌≡◌, ◌<◌, ℕ, Ok, IfErr, OnOk, IsErr, vec_len};
+ghost use Rattle.std.specs.Prelude.{◌≡◌, ◌<◌, ℕ, Ok, IfErr, OnOk, IsErr, false, vec_len};
 ghost use Rattle.html_tokens.specs.Pieces.{joined, Refuses};
 ghost use Rattle.html_tokens.specs.Sink.{tells_failed, fails, OnRefused, IsRefusal, one_more};
 ghost use Rattle.html_tokens.specs.declared.replies.TokenSinkResult.TheVariants.{Continue};
@@ -22,7 +22,7 @@ where
     ensures refused { (line : ℕ) → IfErr result (λ fault. Refuses (S.step (S.view sink.old) (CharacterTokens (joined pieces.items)) line) fault) }
     ensures failed_before { tells_failed result ≡ S.has_failed sink.old }
     ensures failed_after { S.has_failed sink.new ≡ fails result }
-    ensures sound { S.is_sound (S.view sink.new) }
+    ensures sound { S.has_failed sink.new ≡ false → S.is_sound (S.view sink.new) }
 {
     for (text, line) in pieces {
         drop(sink.process_token(Token::CharacterTokens(text), line)?);
@@ -46,7 +46,7 @@ where
     ensures refused_same { OnRefused result (S.view sink.new ≡ S.view sink.old) }
     ensures failed_before { tells_failed result ≡ S.has_failed sink.old }
     ensures failed_after { S.has_failed sink.new ≡ fails result }
-    ensures sound { S.is_sound (S.view sink.new) }
+    ensures sound { S.has_failed sink.new ≡ false → S.is_sound (S.view sink.new) }
 {
     drop(sink.process_token(Token::ParseError(words), line_number)?);
     Ok(())

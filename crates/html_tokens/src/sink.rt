@@ -1,5 +1,5 @@
 //! What takes tokens.
-ghost use Rattle.std.specs.Prelude.{◌≡◌, ◌≤◌, ℕ, Bool, List, [], ◌∷◌};
+ghost use Rattle.std.specs.Prelude.{◌≡◌, ◌≤◌, ℕ, Bool, false, List, [], ◌∷◌};
 ghost use Rattle.html_tokens.specs.declared.token.Token.{Token};
 ghost use Rattle.html_tokens.specs.Sink.{Step, Gives, tells_failed, fails, OnRefused, Counts, SinkLaws};
 
@@ -21,7 +21,7 @@ pub trait TokenSink {
 
     ghost view: { Self → State };
 
-    // The states in which a sink may be used. Each call asks for one and leaves one.
+    // The states in which a sink may be used. While want of memory has not broken it, each call asks for one and leaves one.
     ghost is_sound: { State → Type 0 };
 
     // What a token makes of a state. Its line counts for tokens other than text and errors.
@@ -62,30 +62,30 @@ pub trait TokenSink {
         token: Token,
         line_number: u64,
     ) -> Result<TokenSinkResult<Self::Handle>, ParseFault>
-        requires { is_sound (view self.old) }
+        requires { has_failed self.old ≡ false → is_sound (view self.old) }
         ensures gives { Gives number (step (view self.old) token line_number) result (view self.new) }
         ensures failed_before { tells_failed result ≡ has_failed self.old }
         ensures failed_after { has_failed self.new ≡ fails result }
         ensures unchanged { OnRefused result (view self.new ≡ view self.old) }
         ensures same_errors { OnRefused result (errors self.new ≡ errors self.old) }
         ensures counts { Counts (is_quiet (view self.old) token) token result (errors self.old) (errors self.new) }
-        ensures sound { is_sound (view self.new) }
+        ensures sound { has_failed self.new ≡ false → is_sound (view self.new) }
         ensures same_references { references self.new ≡ references self.old };
 
     /// Called once all tokens were told.
     fn end(&mut self)
-        requires { is_sound (view self.old) }
+        requires { has_failed self.old ≡ false → is_sound (view self.old) }
         ensures ends { view self.new ≡ ended (view self.old) }
         ensures same_failed { has_failed self.new ≡ has_failed self.old }
         ensures counts { errors self.new ≡ errors_ended (view self.old) (errors self.old) }
         ensures no_fewer_errors { errors self.old ≤ errors self.new }
-        ensures sound { is_sound (view self.new) }
+        ensures sound { has_failed self.new ≡ false → is_sound (view self.new) }
         ensures same_references { references self.new ≡ references self.old };
 
     /// Whether there is an adjusted current node that is no HTML element, so that `<![CDATA[` opens a section
     /// (HTML Standard, section 13.2.5.42).
     fn adjusted_current_node_present_but_not_in_html_namespace(&self) -> bool
-        requires { is_sound (view self.now) }
+        requires { has_failed self.now ≡ false → is_sound (view self.now) }
         ensures { result ≡ asks_cdata (view self.now) };
 
     ghost laws: { SinkLaws is_sound step ended is_quiet };

@@ -12,5 +12,5 @@ returns g c =
     let m = g.Sink.TokenSink in
     tag-ended m c.args.self.now c.tell_faulty_tag.new.self c.follow.new.self c.process_token.new.self
     c.in_ok-last_start_tag.last_start_tag c.replace-tag.new.dest c.replace-tag.result c.line-line.result c.in_ok-reply.reply c.follow.result c.requires.fresh c.in_ok-tell_faulty_tag.ensures
-    c.in_ok-last_start_tag.ensures.ok c.replace-tag.ensures.value c.line-line.ensures c.in_ok-reply.ensures.gives c.in_ok-reply.ensures.sound c.in_ok-reply.ensures.failed_after
+    c.in_ok-last_start_tag.ensures.ok c.replace-tag.ensures.value c.line-line.ensures c.in_ok-reply.ensures.gives (c.in_ok-reply.ensures.sound c.in_ok-reply.ensures.failed_after) c.in_ok-reply.ensures.failed_after
     (rises-own m.errors _ _ _ c.in_ok-reply.ensures.counts) c.follow.ensures.moved c.follow.ensures.answer
