@@ -1,0 +1,13 @@
+pub mod Adoption
+pub mod Choice
+pub mod Doctypes
+pub mod Encodings
+pub mod ForeignContent
+pub mod Formatting
+pub mod Names
+pub mod Places
+pub mod Renames
+pub mod Reset
+pub mod Sets
+pub mod Stack
+pub mod State

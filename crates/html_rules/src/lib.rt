@@ -1,0 +1,9 @@
+//! What tree construction means: the sets of names, the state of the rules and the steps that they are made of
+//! (HTML Standard, sections 13.2.4 and 13.2.6).
+#![tactic(auto)]
+
+pub mod insertion_mode;
+pub mod tag_set;
+
+pub use insertion_mode::InsertionMode;
+pub use tag_set::TagSet;
