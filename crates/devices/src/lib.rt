@@ -6,8 +6,6 @@ mod mem_reader;
 mod mem_writer;
 mod schedule;
 mod standard;
-#[cfg(test)]
-mod tests;
 mod traits;
 
 pub use loops::write_whole;

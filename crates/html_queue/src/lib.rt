@@ -9,8 +9,6 @@ mod cursor;
 mod queue;
 mod set;
 mod taken;
-#[cfg(test)]
-mod tests;
 
 pub use queue::BufferQueue;
 pub use set::{SetResult, SmallCharSet};

@@ -128,6 +128,3 @@ impl References {
         }
     }
 }
-
-#[cfg(test)]
-mod tests;

@@ -12,8 +12,6 @@ pub mod sink;
 pub mod states;
 pub mod table;
 pub mod tags;
-#[cfg(test)]
-mod tests;
 pub mod token;
 
 pub use counting::Counting;

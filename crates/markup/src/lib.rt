@@ -26,6 +26,3 @@ pub use quirks::QuirksMode;
 pub use text::Text;
 pub use tokenizer_result::TokenizerResult;
 pub use tree_sink::TreeSink;
-
-#[cfg(test)]
-mod tests;

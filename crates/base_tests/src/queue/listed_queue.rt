@@ -1,4 +1,4 @@
-use crate::{SetResult, SmallCharSet};
+use html_queue::{SetResult, SmallCharSet};
 use markup::{ParseFault, Text};
 use std::alloc::Global;
 use std::collections::VecDeque;

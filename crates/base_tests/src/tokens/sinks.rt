@@ -2,9 +2,9 @@
 
 use super::tags::tag;
 use super::text;
-use crate::pieces::{tell_error, tell_pieces};
-use crate::states::RawKind;
-use crate::{Counting, Listed, TagKind, Token, TokenSink, TokenSinkResult};
+use html_tokens::pieces::{tell_error, tell_pieces};
+use html_tokens::states::RawKind;
+use html_tokens::{Counting, Listed, TagKind, Token, TokenSink, TokenSinkResult};
 use markup::ParseFault;
 use std::alloc::Global;
 use std::borrow::CowStr;

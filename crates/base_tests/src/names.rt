@@ -1,7 +1,7 @@
 //! Worked values of texts, names and attributes, each public call on the way.
 
-use crate::laws::{EqualByValue, compare, feed, is_equal};
-use crate::{
+use markup::laws::{EqualByValue, compare, feed, is_equal};
+use markup::{
     Attribute, Attributes, ElementFlags, LocalName, Namespace, ParseFault, Prefix, QualName,
     QuirksMode, Text, TokenizerResult, namespaces,
 };
@@ -143,7 +143,7 @@ fn namespaces_are_tested(rt: HostRuntime) -> Result<(), Fail> {
 }
 
 // Texts that are copied below.
-const WORDS: [&str; 3] = ["", "href", "Ünïcode"];
+const WORDS: &[&str] = &["", "href", "Ünïcode"];
 
 fn copy_of_text(alloc: Global, characters: &str) -> Result<Text, ParseFault> {
     text(alloc, characters)?.copy(alloc)
@@ -163,7 +163,7 @@ fn copy_of_prefix(alloc: Global, characters: &str) -> Result<Prefix, ParseFault>
 
 #[test]
 fn copied_texts_equal_their_source(rt: HostRuntime) -> Result<(), Fail> {
-    for characters in WORDS {
+    for &characters in WORDS {
         assert_eq!(rt; copy_of_text(rt.alloc(), characters)?.as_str(), characters);
     }
     Ok(())
@@ -171,7 +171,7 @@ fn copied_texts_equal_their_source(rt: HostRuntime) -> Result<(), Fail> {
 
 #[test]
 fn copied_local_names_equal_their_source(rt: HostRuntime) -> Result<(), Fail> {
-    for characters in WORDS {
+    for &characters in WORDS {
         assert_eq!(rt;
             copy_of_local_name(rt.alloc(), characters)?.as_str(),
             characters
@@ -182,7 +182,7 @@ fn copied_local_names_equal_their_source(rt: HostRuntime) -> Result<(), Fail> {
 
 #[test]
 fn copied_namespaces_equal_their_source(rt: HostRuntime) -> Result<(), Fail> {
-    for characters in WORDS {
+    for &characters in WORDS {
         assert_eq!(rt;
             copy_of_namespace(rt.alloc(), characters)?.as_str(),
             characters
@@ -193,7 +193,7 @@ fn copied_namespaces_equal_their_source(rt: HostRuntime) -> Result<(), Fail> {
 
 #[test]
 fn copied_prefixes_equal_their_source(rt: HostRuntime) -> Result<(), Fail> {
-    for characters in WORDS {
+    for &characters in WORDS {
         assert_eq!(rt;
             copy_of_prefix(rt.alloc(), characters)?.as_str(),
             characters
@@ -250,7 +250,7 @@ fn is_alike<T: EqualByValue + Ord + Hash>(a: &T, b: &T) -> bool {
 }
 
 // Pairs of texts, of which the first comes first.
-const IN_ORDER: [(&str, &str); 7] = [
+const IN_ORDER: &[(&str, &str)] = &[
     ("", "a"),
     ("a", "b"),
     ("a", "ab"),
@@ -284,7 +284,7 @@ fn attributes_in_order(alloc: Global, low: &str, high: &str) -> Result<bool, All
 
 #[test]
 fn texts_are_ordered(rt: HostRuntime) -> Result<(), Fail> {
-    for (low, high) in IN_ORDER {
+    for &(low, high) in IN_ORDER {
         assert!(rt; texts_in_order(rt.alloc(), low, high)?);
     }
     Ok(())
@@ -303,7 +303,7 @@ fn names_and_values_are_ordered_as_texts(rt: HostRuntime) -> Result<(), Fail> {
 type Parts = (Option<&'static str>, &'static str, &'static str);
 
 // Parts of names, of which the first comes first.
-const NAMES_IN_ORDER: [(Parts, Parts); 4] = [
+const NAMES_IN_ORDER: &[(Parts, Parts)] = &[
     ((None, "b", "b"), (Some(""), "a", "a")),
     ((Some("a"), "b", "b"), (Some("b"), "a", "a")),
     ((None, "a", "b"), (None, "b", "a")),
@@ -318,7 +318,7 @@ fn names_in_order(alloc: Global, low: Parts, high: Parts) -> Result<bool, AllocE
 
 #[test]
 fn names_are_ordered(rt: HostRuntime) -> Result<(), Fail> {
-    for (low, high) in NAMES_IN_ORDER {
+    for &(low, high) in NAMES_IN_ORDER {
         assert!(rt; names_in_order(rt.alloc(), low, high)?);
     }
     Ok(())

@@ -2,8 +2,10 @@
 
 mod callers;
 
-use self::callers::{Keeper, ReadFault, put_by_loan, read_whole};
-use super::{DeviceFault, MemReader, MemWriter, Source, StdSource, StdTarget, Target, write_whole};
+use callers::{Keeper, ReadFault, put_by_loan, read_whole};
+use devices::{
+    DeviceFault, MemReader, MemWriter, Source, StdSource, StdTarget, Target, write_whole,
+};
 use std::io::Cursor;
 use std::test::Fail;
 

@@ -1,6 +1,6 @@
 //! Worked values of tables, each public call on the way.
 
-use crate::references::{ReferenceRow, References, TableFault};
+use html_references::{ReferenceRow, References, TableFault};
 use std::alloc::{AllocError, Global};
 use std::test::Fail;
 
@@ -25,7 +25,7 @@ fn lookups(alloc: Global) -> Result<References, TableFault> {
 
 #[test]
 fn the_first_faulty_row_is_told(rt: HostRuntime) -> Result<(), Fail> {
-    let cases: [(&[Row], TableFault); 18] = [
+    let cases: &[(&[Row], TableFault)] = &[
         (
             &[("amp;", 0x26, None), ("a;b", 0x41, None)],
             TableFault::BadName(2),
@@ -68,7 +68,7 @@ fn the_first_faulty_row_is_told(rt: HostRuntime) -> Result<(), Fail> {
             TableFault::Duplicate(3),
         ),
     ];
-    for (rows, fault) in cases {
+    for &(rows, fault) in cases {
         assert_eq!(rt; table(rt.alloc(), rows).err(), Some(fault));
     }
     Ok(())
@@ -76,7 +76,7 @@ fn the_first_faulty_row_is_told(rt: HostRuntime) -> Result<(), Fail> {
 
 #[test]
 fn checked_tables_keep_their_rows(rt: HostRuntime) -> Result<(), Fail> {
-    let cases: [&[Row]; 5] = [
+    let cases: &[&[Row]] = &[
         &[],
         &[("x;", 0x41, None), ("x", 0x42, None), ("X", 0x43, None)],
         &[
@@ -87,7 +87,7 @@ fn checked_tables_keep_their_rows(rt: HostRuntime) -> Result<(), Fail> {
         &[("0;", 1, Some(2))],
         &[("z9Z", 0x3C, Some(0x20D2)), ("q", 0x10000, None)],
     ];
-    for rows in cases {
+    for &rows in cases {
         let made = table(rt.alloc(), rows)?;
         let copied = made.copy(rt.alloc())?;
         for found in [made.rows(), copied.rows()] {

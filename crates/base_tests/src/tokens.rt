@@ -1,10 +1,10 @@
-//! Worked values, each public call on the way.
+//! Worked values of tokens, each public call on the way.
 
 mod sinks;
 mod tags;
 
-use crate::states::{RawKind, ScriptEscapeKind, State};
-use crate::{Doctype, ReferenceRow, TokenizerOpts};
+use html_tokens::states::{RawKind, ScriptEscapeKind, State};
+use html_tokens::{Doctype, ReferenceRow, TokenizerOpts};
 use markup::{ParseFault, Text};
 use std::alloc::Global;
 use std::test::Fail;

@@ -3,7 +3,7 @@ ghost use Rattle.std.specs.Prelude.{◌≡◌, ◌-◌, ◌^◌, ◌<◌, ℕ, L
 ghost use Rattle.std.specs.Io.KnownBytes.{append_known, prepend_known, IsAtEnd};
 ghost use Rattle.devices.specs.Devices.{count_after};
 
-use crate::{DeviceFault, Source, Target, write_whole};
+use devices::{DeviceFault, Source, Target, write_whole};
 use std::alloc::Global;
 
 // A writer that keeps its target.

@@ -1,7 +1,7 @@
 //! Tags and their attributes.
 
 use super::text;
-use crate::{Tag, TagKind};
+use html_tokens::{Tag, TagKind};
 use markup::{Attribute, Attributes, LocalName, Namespace, ParseFault, QualName};
 use std::alloc::Global;
 use std::test::Fail;
@@ -41,7 +41,7 @@ pub fn tag(
 }
 
 // Tags, and whether each is `<a b=1 c=2>` but for the order of its attributes.
-const TAGS: [(TagKind, &str, &[Pair], bool); 9] = [
+const TAGS: &[(TagKind, &str, &[Pair], bool)] = &[
     (TagKind::StartTag, "a", &[("b", "1"), ("c", "2")], true),
     (TagKind::StartTag, "a", &[("c", "2"), ("b", "1")], true),
     (TagKind::EndTag, "a", &[("b", "1"), ("c", "2")], false),
@@ -66,7 +66,7 @@ fn order_of_attributes_counts_for_nothing(rt: HostRuntime) -> Result<(), Fail> {
         "a",
         &[("b", "1"), ("c", "2")],
     )?;
-    for (kind, tag_name, pairs, is_same) in TAGS {
+    for &(kind, tag_name, pairs, is_same) in TAGS {
         let mut other = tag(rt.alloc(), kind, tag_name, pairs)?;
         other.self_closing = true;
         assert_eq!(rt; first.equiv_modulo_attr_order(&other), is_same);

@@ -1,6 +1,7 @@
+//! The queue of characters, beside the plain one and on worked rows.
 mod listed_queue;
 
-use crate::{BufferQueue, SetResult, SmallCharSet};
+use html_queue::{BufferQueue, SetResult, SmallCharSet};
 use listed_queue::ListedQueue;
 use markup::ParseFault;
 use std::alloc::Global;
@@ -13,7 +14,7 @@ const ANGLE: SmallCharSet = SmallCharSet { bits: 1 << 60 };
 const ALPHABET: [char; 3] = ['a', '<', '\u{e9}'];
 
 /// How many texts there are of 0 to 4 of these characters.
-const TEXTS: [(u32, u32); 5] = [(0, 1), (1, 3), (2, 9), (3, 27), (4, 81)];
+const TEXTS: &[(u32, u32)] = &[(0, 1), (1, 3), (2, 9), (3, 27), (4, 81)];
 
 fn text_of(alloc: Global, length: u32, number: u32) -> Result<String, ParseFault> {
     let mut text = String::new(alloc);
@@ -42,7 +43,7 @@ enum Call {
     ReplaceWith(&'static str),
 }
 
-const CALLS: [Call; 21] = [
+const CALLS: &[Call] = &[
     Call::IsEmpty,
     Call::Peek,
     Call::Next,
@@ -143,8 +144,8 @@ impl Both {
 #[test]
 fn answers_as_the_list_of_texts_does(rt: HostRuntime) -> Result<(), Fail> {
     let alloc = rt.alloc();
-    for (first_length, first_count) in TEXTS {
-        for (second_length, second_count) in TEXTS {
+    for &(first_length, first_count) in TEXTS {
+        for &(second_length, second_count) in TEXTS {
             if first_length + second_length > 4 {
                 continue;
             }
@@ -162,7 +163,7 @@ fn answers_as_the_list_of_texts_does(rt: HostRuntime) -> Result<(), Fail> {
 
 /// Makes every call on a queue of two texts, of which none, one or two characters were taken.
 fn compare(rt: &impl Abort, alloc: Global, first: &str, second: &str) -> Result<(), ParseFault> {
-    for call in CALLS {
+    for &call in CALLS {
         for taken in 0..3 {
             let mut both = Both::new(alloc);
             both.push_back(alloc, second)?;
@@ -213,7 +214,7 @@ fn takes_in_order(rt: HostRuntime) -> Result<(), Fail> {
 }
 
 /// What is put back, and what then stands in the queue `abc<d` of which `ab` was taken.
-const PUT_BACK: [(&str, &str); 7] = [
+const PUT_BACK: &[(&str, &str)] = &[
     ("b", "bc<d"),
     ("ab", "abc<d"),
     ("", "c<d"),
@@ -226,7 +227,7 @@ const PUT_BACK: [(&str, &str); 7] = [
 #[test]
 fn puts_back_what_was_taken(rt: HostRuntime) -> Result<(), Fail> {
     let alloc = rt.alloc();
-    for (front, want) in PUT_BACK {
+    for &(front, want) in PUT_BACK {
         let mut queue = queue_of(alloc, "abc<d")?;
         assert!(rt; queue.next() == Some('a') && queue.next() == Some('b'));
         queue.push_front(String::from_str(alloc, front)?)?;

@@ -1,0 +1,15 @@
+//! Tests of the crates below the tokenizer: their public calls on worked rows.
+//!
+//! They stand in a crate of their own since a crate is proved twice, without its tests and with them.
+#![tactic(auto)]
+
+#[cfg(test)]
+mod names;
+#[cfg(test)]
+mod queue;
+#[cfg(test)]
+mod references;
+#[cfg(test)]
+mod streams;
+#[cfg(test)]
+mod tokens;
