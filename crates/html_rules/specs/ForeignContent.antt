@@ -26,6 +26,10 @@ abbrev pub is_start_tag : TagKind → Bool
 is_start_tag StartTag = true
 is_start_tag EndTag = false
 
+abbrev pub is_end_tag : TagKind → Bool
+is_end_tag StartTag = false
+is_end_tag EndTag = true
+
 -- text, U+0000 and start tags whose names pass
 abbrev pub is_text_or_start : (List ℕ → Bool) → Token → Bool
 is_text_or_start p (CharacterTokens cs) = true

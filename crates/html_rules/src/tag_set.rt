@@ -184,6 +184,8 @@ pub enum TagSet {
     Ruby,
     /// `script`.
     Script,
+    /// `rtc`.
+    Rtc,
     /// `select`.
     Select,
     /// `svg`.

@@ -1,0 +1,23 @@
+-- The rows of each insertion mode, and of foreign content.
+pub mod Initial
+pub mod BeforeHtml
+pub mod BeforeHead
+pub mod InHead
+pub mod InHeadNoscript
+pub mod AfterHead
+pub mod InBody
+pub mod Text
+pub mod InTable
+pub mod InTableText
+pub mod InCaption
+pub mod InColumnGroup
+pub mod InTableBody
+pub mod InRow
+pub mod InCell
+pub mod InTemplate
+pub mod AfterBody
+pub mod InFrameset
+pub mod AfterFrameset
+pub mod AfterAfterBody
+pub mod AfterAfterFrameset
+pub mod Foreign

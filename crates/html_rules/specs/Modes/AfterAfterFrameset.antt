@@ -1,0 +1,15 @@
+-- The "after after frameset" insertion mode (HTML Standard, section 13.2.6.4.21).
+use Rattle.std.specs.Prelude.{List, [], ◌∷◌}
+use Rattle.html_rules.specs.Table.{Row, StartTags, WhiteSpace, Comment, EndOfFile, AnythingElse, Nothing, ParseError, AppendCommentToDocument, Done, Using, row}
+use Rattle.html_rules.specs.declared.insertion_mode.InsertionMode.TheVariants.{InHead, InBody}
+use Rattle.html_rules.specs.declared.tag_set.TagSet.TheVariants as set
+
+abbrev pub after_after_frameset : List Row
+after_after_frameset =
+    row WhiteSpace Nothing (Using InBody)
+    ∷ row Comment AppendCommentToDocument Done
+    ∷ row (StartTags set.Html) Nothing (Using InBody)
+    ∷ row EndOfFile Nothing Done
+    ∷ row (StartTags set.Noframes) Nothing (Using InHead)
+    ∷ row AnythingElse ParseError Done
+    ∷ []
