@@ -1,0 +1,14 @@
+pub mod RowForms
+pub mod RowsOfBeginnings
+pub mod RowsOfBodies
+pub mod RowsOfDoctypes
+pub mod RowsOfEncodings
+pub mod RowsOfForeign
+pub mod RowsOfFormatting
+pub mod RowsOfFragments
+pub mod RowsOfFramesets
+pub mod RowsOfHeads
+pub mod RowsOfPages
+pub mod RowsOfSettings
+pub mod RowsOfTables
+pub mod RowsOfTemplates
