@@ -9,6 +9,8 @@ pub mod RowsOfFragments
 pub mod RowsOfFramesets
 pub mod RowsOfHeads
 pub mod RowsOfPages
+pub mod RowsOfQuietPages
 pub mod RowsOfSettings
 pub mod RowsOfTables
 pub mod RowsOfTemplates
+pub mod RowsOfTokens

@@ -14,6 +14,8 @@ ghost use Rattle.html_rules_rows.specs.RowsOfSettings.{AreSettingRowsRead, AreQu
 ghost use Rattle.html_rules_rows.specs.RowsOfFragments.{AreFragmentRowsRead};
 ghost use Rattle.html_rules_rows.specs.RowsOfDoctypes.{AreDoctypeRowsRead};
 ghost use Rattle.html_rules_rows.specs.RowsOfEncodings.{AreEncodingRowsRead};
+ghost use Rattle.html_rules_rows.specs.RowsOfTokens.{AreTokenRowsRead};
+ghost use Rattle.html_rules_rows.specs.RowsOfQuietPages.{AreQuietRowsRead};
 
 /// Whole pages, read as the rows say.
 pub fn page_rows()
@@ -83,4 +85,14 @@ pub fn doctype_rows()
 /// The encodings that texts name, read as the rows say.
 pub fn encoding_rows()
     ensures { AreEncodingRowsRead }
+{}
+
+/// Tokens told one by one, and what no text leads to, read as the rows say.
+pub fn token_rows()
+    ensures { AreTokenRowsRead }
+{}
+
+/// Pages that are read quietly, and others, read as the rows say.
+pub fn quiet_rows()
+    ensures { AreQuietRowsRead }
 {}
