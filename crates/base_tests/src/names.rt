@@ -46,17 +46,22 @@ fn attribute(alloc: Global, local: &str, value: &str) -> Result<Attribute, Alloc
     })
 }
 
-// What stands after `more` was added at the end of `start`, as a string, a text and characters.
-fn grown(alloc: Global, start: &str, more: &str) -> Result<[Text; 3], ParseFault> {
-    let mut by_str = text(alloc, start)?;
+// What stands after `more` was added at the end of `start`, as a string, a text and characters, and without ASCII letters
+// as a text to be lowered.
+fn grown(alloc: Global, start: &str, more: &str) -> Result<[Text; 4], ParseFault> {
+    let mut by_str = Text::from_str(alloc, start)?;
     by_str.push_str(more)?;
     let mut by_text = text(alloc, start)?;
-    by_text.append(&text(alloc, more)?)?;
-    let mut by_character = text(alloc, start)?;
-    for character in more.chars() {
+    by_text.append(&Text::from_str(alloc, more)?)?;
+    let mut by_character = Text::empty(alloc);
+    for character in start.chars().chain(more.chars()) {
         by_character.push(character)?;
     }
-    Ok([by_str, by_text, by_character])
+    let mut lowered = Text::from_str(alloc, "let go")?;
+    lowered.clear();
+    lowered.push_str(start)?;
+    lowered.push_lowered(more)?;
+    Ok([by_str, by_text, by_character, lowered])
 }
 
 #[test]
@@ -66,11 +71,39 @@ fn texts_grow_at_their_end(rt: HostRuntime) -> Result<(), Fail> {
         ("", "a", "a"),
         ("ab", "", "ab"),
         ("é", "\u{10000}b", "é\u{10000}b"),
+        ("twenty-four bytes in all", "", "twenty-four bytes in all"),
+        ("twenty-four bytes in all", "é", "twenty-four bytes in allé"),
+        (
+            "with more than twenty-four bytes",
+            ", and more",
+            "with more than twenty-four bytes, and more",
+        ),
     ];
     for (start, more, whole) in cases {
         for found in grown(rt.alloc(), start, more)? {
             assert_eq!(rt; found.as_str(), whole);
         }
+    }
+    Ok(())
+}
+
+#[test]
+fn texts_are_lowered_at_their_end(rt: HostRuntime) -> Result<(), Fail> {
+    let cases = [
+        ("", ""),
+        ("div", "div"),
+        ("DiV", "div"),
+        ("@AZ[", "@az["),
+        ("ÀB", "Àb"),
+        (
+            "A name with More than twenty-four BYTES",
+            "a name with more than twenty-four bytes",
+        ),
+    ];
+    for (more, want) in cases {
+        let mut found = Text::from_str(rt.alloc(), "X")?;
+        found.push_lowered(more)?;
+        assert_eq!(rt; found.as_str(), format!(in rt.alloc(); "X{want}")?.as_str());
     }
     Ok(())
 }
@@ -120,7 +153,11 @@ fn texts_are_tested(rt: HostRuntime) -> Result<(), Fail> {
         let found = text(rt.alloc(), characters)?;
         assert_eq!(rt; found.is("table"), want);
         assert_eq!(rt; found.is_empty(), characters == "");
-        assert_eq!(rt; found.into_string().as_str(), characters);
+        assert_eq!(rt; found.into_string()?.as_str(), characters);
+        let made = LocalName::from_str(rt.alloc(), characters)?;
+        assert_eq!(rt; made.as_str(), characters);
+        let made = LocalName::from_text(text(rt.alloc(), characters)?);
+        assert_eq!(rt; made.as_str(), characters);
     }
     Ok(())
 }

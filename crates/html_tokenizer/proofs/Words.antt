@@ -7,8 +7,8 @@ use Rattle.std.specs.Str.{chars, IsUtf8, IsAscii}
 use Rattle.std.proofs.Math.Utf8.{encodes, encode}
 use Rattle.std.proofs.lemmas.Bool.Decides.{nat_tests, same_from_decides}
 use Rattle.std.proofs.lemmas.Bool.{eqb-true}
-use Rattle.std.proofs.lemmas.Str.{encodes-chars, encode_ascii, char_from_byte, encodes-IsAscii, chars_from_encodes, length-encode, len_utf8_bounds, IsUtf8-from_ascii}
-use Rattle.std.proofs.lemmas.Str.Ascii.{IsAscii-nil, IsAscii-cons, IsAscii-map, lowercase_ascii}
+use Rattle.std.proofs.lemmas.Str.{encodes-chars, encode_ascii, char_from_byte, encodes-IsAscii, length-encode, len_utf8_bounds}
+use Rattle.std.proofs.lemmas.Str.Ascii.{IsAscii-nil, IsAscii-cons}
 use Rattle.html_tokenizer.specs.Words.{same_any_case}
 
 -- both of what holds together
@@ -49,14 +49,6 @@ same-bytes (c ∷ name) (d ∷ w) h e =
     let same : to_ascii_lowercase c ≡ to_ascii_lowercase d = eqb-true _ _ q.0 in
     let small : c < 128 = letter-ascii c (letter-of c d p.0 same) in
     rw (encode_ascii c small) (cons_same _ _ _ _ same (same-bytes name w p.1 q.1))
-
--- the letters lowered, read from their bytes
-pub letters-lowered : (bs low w : List ℕ) → IsUtf8 bs → chars bs ≡ w → list_all is_ascii_alphabetic w ≡ true → low ≡ map to_ascii_lowercase bs → chars low ≡ map to_ascii_lowercase w
-letters-lowered bs low w u e h l =
-    let own : bs ≡ w = letters-bytes bs u (ap (list_all is_ascii_alphabetic) e ∙ h) ∙ e in
-    let lowered : low ≡ map to_ascii_lowercase w = l ∙ ap (map to_ascii_lowercase) own in
-    let small : IsAscii (map to_ascii_lowercase w) = IsAscii-map to_ascii_lowercase w lowercase_ascii (letters-ascii w h) in
-    ap chars lowered ∙ sym (chars_from_encodes (map to_ascii_lowercase w) (map to_ascii_lowercase w) (IsUtf8-from_ascii (map to_ascii_lowercase w) small) (encodes-IsAscii (map to_ascii_lowercase w) small))
 
 lowered-small : (x d : ℕ) → is_ascii_alphabetic d ≡ true → to_ascii_lowercase x ≡ to_ascii_lowercase d → x < 128
 lowered-small x d h e = letter-ascii x (letter-of x d h e)

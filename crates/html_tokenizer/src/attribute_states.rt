@@ -13,7 +13,6 @@ ghost use Rattle.html_tokenizer.specs.Stops.{IsRunAt};
 
 use crate::characters::{ends_tag_name, ends_word, is_white_space, lowered, shown};
 use crate::held_reference::HeldReference;
-use crate::tell::empty;
 use crate::tokenizer::Tokenizer;
 use html_tokens::sink::TokenSink;
 use html_tokens::states::{AttrValueKind, State};
@@ -81,9 +80,9 @@ impl<Sink: TokenSink> Tokenizer<Sink> {
         ensures fault { IfErr result (λ fault. fault ≡ Memory) }
     {
         let alloc = self.stream.alloc;
-        let name = mem::replace(&mut self.attribute_name, empty(alloc));
-        let name = LocalName::new(name.into_string());
-        let value = mem::replace(&mut self.attribute_value, empty(alloc));
+        let name = mem::replace(&mut self.attribute_name, Text::empty(alloc));
+        let name = LocalName::from_text(name);
+        let value = mem::replace(&mut self.attribute_value, Text::empty(alloc));
         if has_name(&self.tag, &name) {
             self.tag.had_duplicate_attributes = true;
             return Ok(());
@@ -97,7 +96,7 @@ impl<Sink: TokenSink> Tokenizer<Sink> {
         ensures ok { OnOk result (self.new ≡ record self.old { tag = with_attribute self.old.tag self.old.attribute_name []; attribute_name = []; attribute_value = [] }) }
         ensures fault { IfErr result (λ fault. fault ≡ Memory) }
     {
-        self.attribute_value = empty(self.stream.alloc);
+        self.attribute_value = Text::empty(self.stream.alloc);
         self.finish_attribute()
     }
 
@@ -130,7 +129,7 @@ impl<Sink: TokenSink> Tokenizer<Sink> {
         if c == '>' {
             return self.emit_tag();
         }
-        let mut name = empty(self.stream.alloc);
+        let mut name = Text::empty(self.stream.alloc);
         name.push(lowered(c))?;
         self.attribute_name = name;
         self.state = State::AttributeName;
@@ -212,7 +211,7 @@ impl<Sink: TokenSink> Tokenizer<Sink> {
             self.state = State::BeforeAttributeName;
             return self.before_attribute_name_state(c);
         }
-        self.attribute_value = empty(self.stream.alloc);
+        self.attribute_value = Text::empty(self.stream.alloc);
         if c == '"' {
             self.state = State::AttributeValue(AttrValueKind::DoubleQuoted);
             return Ok(ProcessResult::Continue);

@@ -11,14 +11,13 @@ use crate::doctype_states::no_doctype;
 use crate::keyword::Keyword;
 use crate::letters::Letters;
 use crate::tag_states::nameless;
-use crate::tell::empty;
 use crate::tokenizer::{Stream, Tokenizer};
 use html_queue::BufferQueue;
 use html_references::References;
 use html_tokens::sink::TokenSink;
 use html_tokens::states::State;
 use html_tokens::{Token, TokenizerOpts};
-use markup::{ParseFault, TokenizerResult};
+use markup::{ParseFault, Text, TokenizerResult};
 use std::alloc::Global;
 
 /// The state in which reading begins.
@@ -76,11 +75,11 @@ impl<Sink: TokenSink> Tokenizer<Sink> {
             char_ref: None,
             last_start_tag: opts.last_start_tag_name,
             tag: nameless(alloc),
-            attribute_name: empty(alloc),
-            attribute_value: empty(alloc),
-            comment: empty(alloc),
+            attribute_name: Text::empty(alloc),
+            attribute_value: Text::empty(alloc),
+            comment: Text::empty(alloc),
             doctype: no_doctype(),
-            temporary: empty(alloc),
+            temporary: Text::empty(alloc),
             word: Letters::new(alloc),
             keyword: Keyword::new(alloc),
         }

@@ -5,12 +5,11 @@ ghost use Rattle.html_tokens.specs.declared.token.Token.TheVariants.{CommentToke
 ghost use Rattle.html_tokenizer.specs.Steps.{IsAt, Tells, Keeps, nothing_owed, a_fault};
 
 use crate::characters::shown;
-use crate::tell::empty;
 use crate::tokenizer::Tokenizer;
 use html_tokens::sink::TokenSink;
 use html_tokens::states::State;
 use html_tokens::{ProcessResult, Token};
-use markup::ParseFault;
+use markup::{ParseFault, Text};
 use std::mem;
 
 impl<Sink: TokenSink> Tokenizer<Sink> {
@@ -19,7 +18,7 @@ impl<Sink: TokenSink> Tokenizer<Sink> {
         requires sound { Sink.is_sound (Sink.view self.old.sink) }
         ensures { Tells Sink.TokenSink nothing_owed (CommentToken self.old.comment) (record self.old { comment = []; state = state.Data }) self.new result }
     {
-        let comment = mem::replace(&mut self.comment, empty(self.stream.alloc));
+        let comment = mem::replace(&mut self.comment, Text::empty(self.stream.alloc));
         self.state = State::Data;
         self.tell(Token::CommentToken(comment))
     }
@@ -29,7 +28,7 @@ impl<Sink: TokenSink> Tokenizer<Sink> {
         requires sound { Sink.is_sound (Sink.view self.old.sink) }
         ensures { Tells Sink.TokenSink a_fault (CommentToken self.old.comment) (record self.old { comment = []; state = state.Data }) self.new result }
     {
-        let comment = mem::replace(&mut self.comment, empty(self.stream.alloc));
+        let comment = mem::replace(&mut self.comment, Text::empty(self.stream.alloc));
         self.state = State::Data;
         self.tell_faulty(message, Token::CommentToken(comment))
     }
@@ -72,7 +71,7 @@ impl<Sink: TokenSink> Tokenizer<Sink> {
             self.state = State::CommentStartDash;
             return Ok(ProcessResult::Continue);
         }
-        self.comment = empty(self.stream.alloc);
+        self.comment = Text::empty(self.stream.alloc);
         if c == '>' {
             self.emit_faulty_comment("empty comment")?;
             return Ok(ProcessResult::Continue);
@@ -89,7 +88,7 @@ impl<Sink: TokenSink> Tokenizer<Sink> {
         requires sound { Sink.is_sound (Sink.view self.old.sink) }
         ensures { Keeps Sink.TokenSink self.old self.new c result }
     {
-        self.comment = empty(self.stream.alloc);
+        self.comment = Text::empty(self.stream.alloc);
         if c == '-' {
             self.state = State::CommentEnd;
             return Ok(ProcessResult::Continue);

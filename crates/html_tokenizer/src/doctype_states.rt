@@ -10,12 +10,11 @@ ghost use Rattle.html_tokens.specs.Item.{grave_if};
 
 use crate::characters::{ends_word, is_white_space, lowered, shown};
 use crate::keyword::Keyword;
-use crate::tell::empty;
 use crate::tokenizer::Tokenizer;
 use html_tokens::sink::TokenSink;
 use html_tokens::states::{DoctypeIdKind, State};
 use html_tokens::{Doctype, ProcessResult, Token};
-use markup::ParseFault;
+use markup::{ParseFault, Text};
 use std::mem;
 
 /// A doctype of which nothing was read.
@@ -113,7 +112,7 @@ impl<Sink: TokenSink> Tokenizer<Sink> {
             self.emit_doctype()?;
             return Ok(ProcessResult::Continue);
         }
-        self.temporary = empty(self.stream.alloc);
+        self.temporary = Text::empty(self.stream.alloc);
         self.state = State::DoctypeName;
         self.doctype_name_state(c)
     }
@@ -123,7 +122,7 @@ impl<Sink: TokenSink> Tokenizer<Sink> {
         ensures { self.new ≡ record self.old { doctype = record Doctypes.no_doctype { name = Some self.old.temporary }; temporary = [] } }
     {
         self.doctype = no_doctype();
-        let name = mem::replace(&mut self.temporary, empty(self.stream.alloc));
+        let name = mem::replace(&mut self.temporary, Text::empty(self.stream.alloc));
         self.doctype.name = Some(name);
     }
 
@@ -200,12 +199,12 @@ impl<Sink: TokenSink> Tokenizer<Sink> {
             return Ok(ProcessResult::Continue);
         }
         if c == '"' {
-            self.temporary = empty(self.stream.alloc);
+            self.temporary = Text::empty(self.stream.alloc);
             self.state = State::DoctypeIdentifierDoubleQuoted(kind);
             return Ok(ProcessResult::Continue);
         }
         if c == '\'' {
-            self.temporary = empty(self.stream.alloc);
+            self.temporary = Text::empty(self.stream.alloc);
             self.state = State::DoctypeIdentifierSingleQuoted(kind);
             return Ok(ProcessResult::Continue);
         }
@@ -218,7 +217,7 @@ impl<Sink: TokenSink> Tokenizer<Sink> {
     pub(crate) fn finish_identifier(&mut self, kind: DoctypeIdKind)
         ensures { self.new ≡ record self.old { doctype = with_identifier kind self.old.doctype self.old.temporary; temporary = [] } }
     {
-        let identifier = mem::replace(&mut self.temporary, empty(self.stream.alloc));
+        let identifier = mem::replace(&mut self.temporary, Text::empty(self.stream.alloc));
         match kind {
             DoctypeIdKind::Public => self.doctype.public_id = Some(identifier),
             DoctypeIdKind::System => self.doctype.system_id = Some(identifier),
@@ -345,12 +344,12 @@ impl<Sink: TokenSink> Tokenizer<Sink> {
             return Ok(ProcessResult::Continue);
         }
         if c == '"' {
-            self.temporary = empty(self.stream.alloc);
+            self.temporary = Text::empty(self.stream.alloc);
             self.state = State::DoctypeIdentifierDoubleQuoted(DoctypeIdKind::System);
             return Ok(ProcessResult::Continue);
         }
         if c == '\'' {
-            self.temporary = empty(self.stream.alloc);
+            self.temporary = Text::empty(self.stream.alloc);
             self.state = State::DoctypeIdentifierSingleQuoted(DoctypeIdKind::System);
             return Ok(ProcessResult::Continue);
         }

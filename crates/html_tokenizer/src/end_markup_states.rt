@@ -8,11 +8,10 @@ ghost use Rattle.html_tokenizer.specs.EndStates.{is_comment_part, is_doctype_par
 ghost use Rattle.html_tokenizer.specs.Rest.{with_identifier};
 ghost use Rattle.html_tokenizer.specs.Steps.{IsAt, Tells, a_fault};
 
-use crate::tell::empty;
 use crate::tokenizer::Tokenizer;
 use html_tokens::sink::TokenSink;
 use html_tokens::states::{DoctypeIdKind, State};
-use markup::ParseFault;
+use markup::{ParseFault, Text};
 
 impl<Sink: TokenSink> Tokenizer<Sink> {
     /// The input ends in a comment.
@@ -28,7 +27,7 @@ impl<Sink: TokenSink> Tokenizer<Sink> {
         requires sound { Sink.is_sound (Sink.view self.old.sink) }
         ensures { Tells Sink.TokenSink a_fault (CommentToken []) (record self.old { comment = []; state = state.Data }) self.new result }
     {
-        self.comment = empty(self.stream.alloc);
+        self.comment = Text::empty(self.stream.alloc);
         self.end_comment()
     }
 

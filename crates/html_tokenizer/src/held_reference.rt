@@ -5,7 +5,6 @@ ghost use Rattle.std.specs.Str.{chars};
 ghost use Rattle.markup.specs.declared.fault.ParseFault.TheVariants.{Memory};
 ghost use Rattle.html_tokenizer.specs.CharRefs.{is_held};
 
-use crate::tell::empty;
 use markup::{ParseFault, Text};
 use std::alloc::Global;
 use std::marker::Model;
@@ -33,7 +32,7 @@ impl HeldReference {
     pub(crate) fn new(alloc: Global) -> HeldReference
         ensures { result ≡ [] }
     {
-        HeldReference { text: empty(alloc) }
+        HeldReference { text: Text::empty(alloc) }
     }
 
     /// Puts a character at the end.

@@ -7,7 +7,6 @@ ghost use Rattle.html_tokenizer.specs.Keywords.{spelling, is_any_case, letter, l
 ghost use Rattle.html_tokenizer.specs.Steps.{nothing_owed};
 
 use crate::characters::ends_word;
-use crate::tell::empty;
 use markup::{ParseFault, Text};
 use std::alloc::Global;
 use std::marker::Model;
@@ -169,7 +168,7 @@ impl Keyword {
         ensures part { IsPart self.now }
         ensures fault { IfErr result (λ fault. fault ≡ Memory) }
     {
-        let mut text = empty(alloc);
+        let mut text = Text::empty(alloc);
         for c in self.letters.iter() {
             text.push(*c)?;
         }

@@ -3,11 +3,9 @@ ghost use Rattle.std.specs.Prelude.{codes, ◌≡◌, ◌∷◌, [], ◌++◌, t
 ghost use Rattle.std.specs.Char.{is_ascii_alphabetic, to_ascii_lowercase};
 ghost use Rattle.std.specs.List.{list_all};
 ghost use Rattle.std.specs.Str.{chars};
-ghost use Rattle.std.specs.String.{string_bytes};
 ghost use Rattle.markup.specs.declared.fault.ParseFault.TheVariants.{Memory};
 ghost use Rattle.html_tokenizer.specs.Words.{same_any_case};
 
-use crate::tell::empty;
 use markup::{ParseFault, Text};
 use std::alloc::Global;
 use std::marker::Model;
@@ -35,7 +33,7 @@ impl Letters {
     pub(crate) fn new(alloc: Global) -> Letters
         ensures { result ≡ [] }
     {
-        Letters { text: empty(alloc) }
+        Letters { text: Text::empty(alloc) }
     }
 
     /// Puts a letter at the end.
@@ -90,11 +88,13 @@ impl Letters {
     }
 
     /// The letters lowered.
-    pub(crate) fn lowered(&self, alloc: Global) -> Result<String, ParseFault>
-        ensures ok { IfOk result (λ name. chars (string_bytes name) ≡ map to_ascii_lowercase self.now) }
+    pub(crate) fn lowered(&self, alloc: Global) -> Result<Text, ParseFault>
+        ensures ok { IfOk result (λ name. name ≡ map to_ascii_lowercase self.now) }
         ensures letters { list_all is_ascii_alphabetic self.now ≡ true }
         ensures fault { IfErr result (λ fault. fault ≡ Memory) }
     {
-        Ok(self.text.as_str().to_ascii_lowercase(alloc)?)
+        let mut lowered = Text::empty(alloc);
+        lowered.push_lowered(self.text.as_str())?;
+        Ok(lowered)
     }
 }

@@ -8,12 +8,11 @@ ghost use Rattle.html_tokens.specs.Item.{Slight};
 
 use crate::keyword::Keyword;
 use crate::tag_states::nameless;
-use crate::tell::empty;
 use crate::tokenizer::Tokenizer;
 use html_tokens::sink::TokenSink;
 use html_tokens::states::State;
 use html_tokens::{ProcessResult, TagKind};
-use markup::ParseFault;
+use markup::{ParseFault, Text};
 
 impl<Sink: TokenSink> Tokenizer<Sink> {
     /// Hands out `<` as text, since it opened nothing, which is a parse error.
@@ -58,7 +57,7 @@ impl<Sink: TokenSink> Tokenizer<Sink> {
             return self.tag_name_state(c);
         }
         if c == '?' {
-            self.comment = empty(self.stream.alloc);
+            self.comment = Text::empty(self.stream.alloc);
             self.state = State::BogusComment;
             return self.bogus_comment_state(c);
         }
@@ -87,7 +86,7 @@ impl<Sink: TokenSink> Tokenizer<Sink> {
             self.state = State::Data;
             return Ok(ProcessResult::Continue);
         }
-        self.comment = empty(self.stream.alloc);
+        self.comment = Text::empty(self.stream.alloc);
         self.state = State::BogusComment;
         self.bogus_comment_state(c)
     }

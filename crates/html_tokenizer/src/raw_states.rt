@@ -13,12 +13,11 @@ ghost use Rattle.html_tokenizer.specs.Words.{ends_raw_text, may_escape};
 use crate::characters::ends_tag_name;
 use crate::held_reference::HeldReference;
 use crate::letters::Letters;
-use crate::tell::empty;
 use crate::tokenizer::Tokenizer;
 use html_tokens::sink::TokenSink;
 use html_tokens::states::{RawKind, ScriptEscapeKind, State};
 use html_tokens::{ProcessResult, Tag, TagKind, Token};
-use markup::{Attributes, LocalName, ParseFault};
+use markup::{Attributes, LocalName, ParseFault, Text};
 
 /// Whether the fitting end tag ends text of this kind.
 pub(crate) fn ends_at_tag(kind: RawKind) -> bool
@@ -253,7 +252,7 @@ impl<Sink: TokenSink> Tokenizer<Sink> {
         let name = self.word.lowered(self.stream.alloc)?;
         self.tag = Tag {
             kind: TagKind::EndTag,
-            name: LocalName::new(name),
+            name: LocalName::from_text(name),
             self_closing: false,
             attrs: Attributes::new(self.stream.alloc),
             had_duplicate_attributes: false,
@@ -296,7 +295,7 @@ impl<Sink: TokenSink> Tokenizer<Sink> {
         ensures is { Tells Sink.TokenSink nothing_owed (CharacterTokens (60 ∷ 47 ∷ self.old.word)) self.old self.new result }
         ensures letters { list_all is_ascii_alphabetic self.old.word ≡ true }
     {
-        let mut text = empty(self.stream.alloc);
+        let mut text = Text::empty(self.stream.alloc);
         let word = self.word.as_str();
         text.push('<')?;
         text.push('/')?;

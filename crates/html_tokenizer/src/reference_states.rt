@@ -10,12 +10,11 @@ ghost use Rattle.html_tokenizer.specs.Steps.{IsAt, Keeps, Tells, owed_for};
 
 use crate::held_reference::HeldReference;
 use crate::references::{decided, goes_on_at, may_go_on, push_resolved};
-use crate::tell::empty;
 use crate::tokenizer::Tokenizer;
 use html_tokens::sink::TokenSink;
 use html_tokens::states::{AttrValueKind, RawKind, State};
 use html_tokens::{ProcessResult, Token};
-use markup::ParseFault;
+use markup::{ParseFault, Text};
 
 impl<Sink: TokenSink> Tokenizer<Sink> {
     /// Hands out what a reference in text stands for.
@@ -24,7 +23,7 @@ impl<Sink: TokenSink> Tokenizer<Sink> {
         ensures { Tells Sink.TokenSink (owed_for (fault_of_reference (rows_of self.old) held.now)) (CharacterTokens (resolved false (rows_of self.old) held.now false)) self.old self.new result }
     {
         let decision = decided(&self.stream.table, false, held, false);
-        let mut text = empty(self.stream.alloc);
+        let mut text = Text::empty(self.stream.alloc);
         push_resolved(&mut text, decision.found, held)?;
         let token = Token::CharacterTokens(text);
         match decision.fault {

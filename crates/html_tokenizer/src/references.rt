@@ -12,7 +12,6 @@ ghost use Rattle.html_tokenizer.specs.Steps.{nothing_owed};
 
 use crate::held_reference::HeldReference;
 use crate::numbers::{self, Found};
-use crate::tell::empty;
 use html_references::References;
 use html_tokens::table::ReferenceRow;
 use markup::{ParseFault, Text};

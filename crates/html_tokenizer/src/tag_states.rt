@@ -23,7 +23,7 @@ pub(crate) fn nameless(alloc: Global) -> Tag
 {
     Tag {
         kind: TagKind::StartTag,
-        name: LocalName::new(String::new(alloc)),
+        name: LocalName::empty(alloc),
         self_closing: false,
         attrs: Attributes::new(alloc),
         had_duplicate_attributes: false,
@@ -50,8 +50,8 @@ impl<Sink: TokenSink> Tokenizer<Sink> {
     {
         match (self.tag.kind, &self.last_start_tag) {
             (TagKind::StartTag, _) => {
-                let name = String::from_str(self.stream.alloc, self.tag.name.as_str())?;
-                Ok(Some(Text::new(name)))
+                let name = Text::from_str(self.stream.alloc, self.tag.name.as_str())?;
+                Ok(Some(name))
             }
             (TagKind::EndTag, None) => Ok(None),
             (TagKind::EndTag, Some(name)) => Ok(Some(name.copy(self.stream.alloc)?)),

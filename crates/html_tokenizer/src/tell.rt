@@ -11,16 +11,8 @@ use html_tokens::sink::TokenSink;
 use html_tokens::states::State;
 use html_tokens::{ProcessResult, Tag, TagKind, Token, TokenSinkResult};
 use markup::{Attributes, LocalName, ParseFault, Text};
-use std::alloc::Global;
 use std::borrow::CowStr;
 use std::mem;
-
-/// A text of no characters, which takes no memory.
-pub(crate) fn empty(alloc: Global) -> Text
-    ensures { result ≡ [] }
-{
-    Text::new(String::new(alloc))
-}
 
 impl<Sink: TokenSink> Tokenizer<Sink> {
     /// The line on which the next character stands, counted from 1.
@@ -92,7 +84,7 @@ impl<Sink: TokenSink> Tokenizer<Sink> {
         requires sound { Sink.is_sound (Sink.view self.old.sink) }
         ensures { Tells Sink.TokenSink nothing_owed (CharacterTokens (c ∷ [])) self.old self.new result }
     {
-        let mut text = empty(self.stream.alloc);
+        let mut text = Text::empty(self.stream.alloc);
         text.push(c)?;
         self.tell(Token::CharacterTokens(text))
     }

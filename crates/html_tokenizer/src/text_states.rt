@@ -7,12 +7,11 @@ ghost use Rattle.html_tokenizer.specs.Steps.{IsAt, Tells, TakesAs, Keeps, nothin
 ghost use Rattle.html_tokens.specs.Item.{grave_if};
 
 use crate::held_reference::HeldReference;
-use crate::tell::empty;
 use crate::tokenizer::Tokenizer;
 use html_tokens::sink::TokenSink;
 use html_tokens::states::State;
 use html_tokens::{ProcessResult, Token};
-use markup::ParseFault;
+use markup::{ParseFault, Text};
 
 impl<Sink: TokenSink> Tokenizer<Sink> {
     /// Section 13.2.5.1.
@@ -79,7 +78,7 @@ impl<Sink: TokenSink> Tokenizer<Sink> {
         requires sound { Sink.is_sound (Sink.view self.old.sink) }
         ensures { Tells Sink.TokenSink nothing_owed (CharacterTokens (first ∷ second ∷ [])) self.old self.new result }
     {
-        let mut text = empty(self.stream.alloc);
+        let mut text = Text::empty(self.stream.alloc);
         text.push(first)?;
         text.push(second)?;
         self.tell(Token::CharacterTokens(text))

@@ -54,19 +54,13 @@ impl Listed {
         Listed {
             alloc,
             told: Vec::new(alloc),
-            text: no_text(alloc),
+            text: Text::empty(alloc),
             has_ended: false,
             asks_cdata,
             errors: 0,
             has_failed: false,
         }
     }
-}
-
-fn no_text(alloc: Global) -> Text
-    ensures { result ≡ [] }
-{
-    Text::new(String::new(alloc))
 }
 
 fn text_after(name: &LocalName) -> TokenSinkResult<u64>
@@ -128,7 +122,7 @@ impl Listed {
         ensures kept { self.new.has_failed ≡ self.old.has_failed }
     {
         let reply = reply_to(&token, self.told.len() as u64);
-        let text = mem::replace(&mut self.text, no_text(self.alloc));
+        let text = mem::replace(&mut self.text, Text::empty(self.alloc));
         self.told.push(Told { text, token, line })?;
         Ok(reply)
     }

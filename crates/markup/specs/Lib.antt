@@ -4,3 +4,4 @@ pub mod Names
 pub mod Forest
 pub mod Named
 pub mod TreeLaws
+pub mod TextForm

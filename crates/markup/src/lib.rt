@@ -11,6 +11,7 @@ pub mod namespaces;
 pub mod node_or_text;
 pub mod quirks;
 pub mod text;
+mod text_form;
 pub mod tokenizer_result;
 pub mod tree_laws;
 pub mod tree_sink;

@@ -36,6 +36,32 @@ impl LocalName {
         }
     }
 
+    /// No characters. The name grows in the memory of `alloc`.
+    pub fn empty(alloc: Global) -> LocalName
+        ensures { result ≡ [] }
+    {
+        LocalName {
+            name: Text::empty(alloc),
+        }
+    }
+
+    /// The name of a text.
+    pub fn from_text(name: Text) -> LocalName
+        ensures { result ≡ name }
+    {
+        LocalName { name }
+    }
+
+    /// The name of characters that are lent.
+    pub fn from_str(alloc: Global, text: &str) -> Result<LocalName, ParseFault>
+        ensures ok { IfOk result (λ made. made ≡ chars text.now) }
+        ensures err { IfErr result (λ fault. fault ≡ Memory) }
+    {
+        Ok(LocalName {
+            name: Text::from_str(alloc, text)?,
+        })
+    }
+
     /// The name, lent.
     pub fn as_str(&self) -> &str
         ensures { chars result.now ≡ self.now }

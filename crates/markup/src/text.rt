@@ -1,30 +1,34 @@
 //! Texts that own their characters.
-ghost use Rattle.std.specs.Prelude.{◌≡◌, ◌==◌, ◌++◌, ◌∷◌, [], IfOk, IfErr, OnOk, OnErr, length, IsTrue};
+ghost use Rattle.std.specs.Prelude.{◌≡◌, ◌==◌, ◌++◌, ◌∷◌, [], IfOk, IfErr, OnOk, OnErr, length, IsTrue, map};
 ghost use Rattle.std.specs.Str.{bytes_eq, chars};
+ghost use Rattle.std.specs.Char.{is_ascii_uppercase, to_ascii_lowercase};
+ghost use Rattle.std.specs.List.{list_any};
 ghost use Rattle.std.specs.String.{string_bytes};
 ghost use Rattle.markup.specs.Plain.{is_plain};
 ghost use Rattle.markup.specs.declared.fault.ParseFault.TheVariants.{Memory};
 
 use crate::fault::ParseFault;
+use crate::text_form::TextForm;
 use std::alloc::Global;
 use std::cmp::Ordering;
 use std::hash::{Hash, Hasher};
 use std::marker::Model;
 
-/// An owned text. A contract sees the list of its characters.
+/// An owned text. A contract sees the list of its characters. Short texts, of at most 24 bytes, take no memory of their own.
 #[derive(Debug, Drop)]
 pub struct Text {
-    text: String,
+    form: TextForm,
 }
 
 impl Model for Text {
     ghost use Rattle.std.specs.Prelude.{List, ℕ};
-    ghost use Rattle.std.specs.String.{string_bytes};
     ghost use Rattle.std.specs.Str.{chars};
 
     ghost Value = { List ℕ };
 
-    ghost view = { λ t. chars (string_bytes t.text) };
+    ghost use Rattle.markup.specs.TextForm.{form_bytes};
+
+    ghost view = { λ t. chars (form_bytes t.form) };
 }
 
 impl Text {
@@ -32,22 +36,44 @@ impl Text {
     pub fn new(text: String) -> Text
         ensures { result ≡ chars (string_bytes text) }
     {
-        Text { text }
+        Text {
+            form: TextForm::Long(text),
+        }
+    }
+
+    /// No characters. The text grows in the memory of `alloc`.
+    pub fn empty(alloc: Global) -> Text
+        ensures { result ≡ [] }
+    {
+        Text {
+            form: TextForm::empty(alloc),
+        }
+    }
+
+    /// A text of characters that are lent.
+    pub fn from_str(alloc: Global, text: &str) -> Result<Text, ParseFault>
+        ensures ok { IfOk result (λ made. made ≡ chars text.now) }
+        ensures err { IfErr result (λ fault. fault ≡ Memory) }
+    {
+        Ok(Text {
+            form: TextForm::from_str(alloc, text)?,
+        })
     }
 
     /// The text, lent.
     pub fn as_str(&self) -> &str
         ensures { chars result.now ≡ self.now }
     {
-        self.text.as_str()
+        self.form.as_str()
     }
 
-    /// Gives the string back, with its memory.
-    pub fn into_string(self) -> String
-        ensures { chars (string_bytes result) ≡ self }
+    /// A string of the same characters. A text that is not short gives its own memory.
+    pub fn into_string(self) -> Result<String, ParseFault>
+        ensures ok { IfOk result (λ text. chars (string_bytes text) ≡ self) }
+        ensures err { IfErr result (λ fault. fault ≡ Memory) }
     {
-        let Text { text } = self;
-        text
+        let Text { form } = self;
+        Ok(form.into_string()?)
     }
 
     /// Whether there is no character.
@@ -70,8 +96,14 @@ impl Text {
         ensures ok { IfOk result (λ copied. copied ≡ self.now) }
         ensures err { IfErr result (λ fault. fault ≡ Memory) }
     {
-        let text = String::from_str(alloc, self.text.as_str())?;
-        Ok(Text { text })
+        Text::from_str(alloc, self.as_str())
+    }
+
+    /// Drops all characters, and keeps the memory.
+    pub fn clear(&mut self)
+        ensures { self.new ≡ [] }
+    {
+        self.form.clear();
     }
 
     /// Adds a character at the end.
@@ -80,7 +112,7 @@ impl Text {
         ensures err { OnErr result (self.new ≡ self.old) }
         ensures fault { IfErr result (λ fault. fault ≡ Memory) }
     {
-        self.text.push(character)?;
+        self.form.push(character)?;
         Ok(())
     }
 
@@ -90,8 +122,21 @@ impl Text {
         ensures err { OnErr result (self.new ≡ self.old) }
         ensures fault { IfErr result (λ fault. fault ≡ Memory) }
     {
-        self.text.push_str(more)?;
+        self.form.push_str(more)?;
         Ok(())
+    }
+
+    /// Adds characters at the end, with ASCII letters lowered.
+    pub fn push_lowered(&mut self, more: &str) -> Result<(), ParseFault>
+        ensures ok { OnOk result (self.new ≡ self.old ++ map to_ascii_lowercase (chars more.now)) }
+        ensures err { OnErr result (self.new ≡ self.old) }
+        ensures fault { IfErr result (λ fault. fault ≡ Memory) }
+    {
+        if !has_upper(more) {
+            return self.push_str(more);
+        }
+        let lowered = lowered(self.form.allocator(), more)?;
+        self.append(&lowered)
     }
 
     /// Adds another text at the end.
@@ -102,6 +147,25 @@ impl Text {
     {
         self.push_str(more.as_str())
     }
+}
+
+/// Whether a text has an upper-case ASCII letter.
+fn has_upper(text: &str) -> bool
+    ensures { result ≡ list_any is_ascii_uppercase (chars text.now) }
+{
+    text.chars().any(|c| c.is_ascii_uppercase())
+}
+
+/// The characters with ASCII letters lowered.
+fn lowered(alloc: Global, text: &str) -> Result<Text, ParseFault>
+    ensures ok { IfOk result (λ made. made ≡ map to_ascii_lowercase (chars text.now)) }
+    ensures err { IfErr result (λ fault. fault ≡ Memory) }
+{
+    let mut made = Text::empty(alloc);
+    for c in text.chars() {
+        made.push(c.to_ascii_lowercase())?;
+    }
+    Ok(made)
 }
 
 impl PartialEq for Text {

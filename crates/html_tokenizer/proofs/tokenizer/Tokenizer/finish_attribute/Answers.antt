@@ -7,8 +7,8 @@ use Rattle.html_tokenizer.proofs.tokenizer.Tokenizer.finish_attribute.Goals as g
 pub returns-clause-ok : goal.returns-clause-ok
 returns-clause-ok g c =
     let old = c.args.self.now in
-    let named : c.new-name.result ≡ old.attribute_name = c.new-name.ensures ∙ c.into_string.ensures ∙ c.replace-name.ensures.value in
+    let named : c.from_text-name.result ≡ old.attribute_name = c.from_text-name.ensures ∙ c.replace-name.ensures.value in
     let missing : has_attribute old.tag old.attribute_name ≡ false = ap (has_attribute old.tag) (sym named) ∙ sym c.has_name.ensures ∙ c.if-has_name.false in
     let no_space : c.new-2.result ≡ [] = rw (c.new-2.ensures, c.new.ensures.bytes) chars-nil in
-    added old c.push.result c.push.new.self _ c.replace-name.new.dest c.replace-value.new.dest missing c.push.ensures.ok (plain c.new-name-2.result c.new-2.result c.new-name.result c.replace-value.result old.attribute_name old.attribute_value c.new-name-2.ensures no_space named c.replace-value.ensures.value)
+    added old c.push.result c.push.new.self _ c.replace-name.new.dest c.replace-value.new.dest missing c.push.ensures.ok (plain c.new-name.result c.new-2.result c.from_text-name.result c.replace-value.result old.attribute_name old.attribute_value c.new-name.ensures no_space named c.replace-value.ensures.value)
     (c.replace-name.ensures.after ∙ c.empty.ensures) (c.replace-value.ensures.after ∙ c.empty-2.ensures)

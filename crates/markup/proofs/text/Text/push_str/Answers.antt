@@ -1,7 +1,6 @@
-use Rattle.std.proofs.lemmas.Str.{chars-append, IsUtf8-string_bytes}
+use Rattle.std.proofs.lemmas.Str.{chars-append}
 use Rattle.markup.proofs.text.Text.push_str.Goals as goal
 
 pub returns-clause-ok : goal.returns-clause-ok
 returns-clause-ok c =
-    rw (c.in_ok-push_str.ensures.bytes, ← c.self.view_is)
-    (chars-append _ _ (IsUtf8-string_bytes c.self.inside.text))
+    rw (c.in_ok-push_str.ensures.bytes, ← c.self.view_is) (chars-append _ _ c.in_ok-push_str.ensures.utf8)

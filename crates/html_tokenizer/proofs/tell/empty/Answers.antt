@@ -1,5 +1,0 @@
-use Rattle.std.proofs.lemmas.Str.{chars-nil}
-use Rattle.html_tokenizer.proofs.tell.empty.Goals as goal
-
-pub returns : goal.returns
-returns c = rw (c.new-2.ensures, c.new.ensures.bytes) chars-nil
