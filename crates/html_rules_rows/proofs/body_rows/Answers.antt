@@ -1,5 +1,0 @@
-use Rattle.html_rules_rows.proofs.Rows.{rows_are_read}
-use Rattle.html_rules_rows.proofs.body_rows.Goals as goal
-
-pub returns : goal.returns
-returns c = rows_are_read.3
