@@ -1,0 +1,4 @@
+pub mod LouderActions
+pub mod LouderAdoption
+pub mod LouderSteps
+pub mod LouderTurns
