@@ -1,228 +1,274 @@
--- Each change leaves a forest whose nodes keep their parents and their contents.
-use Rattle.std.proofs.Common.{◌≡◌, ◌==◌, ◌+◌, ◌<◌, ◌≤◌, ℕ, zero, suc, List, [], ◌∷◌, ◌++◌, Option, Some, None, Bool, true, false, cond, length, codes, sym, ap, ap₂, subst, ◌∙◌, refl, inl, inr, arith, get_or}
-use Rattle.std.proofs.lemmas.List.{length-map, length-set, get_or-set_same, get_or-set_other, get_or_append_left, get_or_push, get_or_past, length_push}
-use Rattle.std.proofs.lemmas.Bool.{cases_eq, cases_Bool, cases_lt, eq-eqb, ne_eqb}
+-- Each change leaves nodes that keep what they are and have in the forest that it makes.
+use Rattle.std.proofs.Common.{◌≡◌, ◌≢◌, ◌+◌, ◌<◌, ◌≤◌, ℕ, zero, suc, List, [], ◌∷◌, ◌++◌, Option, Some, None, Bool, true, false, cond, length, codes, sym, ap, ap₂, subst, ◌∙◌, refl, inl, inr, arith, get_or}
+use Rattle.std.proofs.lemmas.List.{length-set, get_or-set_same, get_or-set_other, get_or_append_left, get_or_push, get_or_past, length_push}
+use Rattle.std.proofs.lemmas.Bool.{cases_eq, cases_Bool, cases_lt}
 use Rattle.markup.specs.Names.{is_html_name}
 use Rattle.markup.specs.Named.{IsOrdinary}
-use Rattle.markup.specs.Forest.{Forest, IsLoose, IsParent, IsPlace, Node, NodeData, Place, Above, contents_of, children_of, data_of, element_name, empty_forest, is_among, is_contents, node_count, parent_at, parent_of, put, put_new, remove, remove_under, reparent_children, template_of, text_of, with_attributes, add_attributes, with_children, with_data, with_node, without}
+use Rattle.markup.specs.Forest.{Above, above_of, Forest, IsForest, IsLoose, IsPlace, NodeData, Place, add_attributes, children_of, contents_of, data_of, element_name, empty_forest, is_among, is_contents, last_of, children_with, node_count, parent_at, parent_of, previous_at, previous_in, put, put_new, remove, template_of, text_of, with_attributes, with_data, with_node, without}
+use Rattle.markup.specs.Forest.Above.{here}
 use Rattle.markup.specs.Forest.NodeData.{Contents, Element, Text}
 use Rattle.markup.specs.declared.names.QualName.{QualName}
 use Rattle.markup.specs.declared.attributes.Attribute.{Attribute}
 use Rattle.markup.specs.declared.quirks.QuirksMode.{QuirksMode}
-use Rattle.markup.proofs.Parents.{data_of-past, data_of-with_data, data_of-with_data_other, data_of-with_node_new, data_of-with_node_old, node_count-with_node, parent_of-none, parent_of-past, parent_of-with_node}
-use Rattle.markup.proofs.Forests.{IsForest-empty, IsForest-same_nodes, IsForest-with_node, IsInPlace, IsParent-place, IsMade, IsMade-with_node, IsPutAt, IsPutAt-put, IsRemoved, IsRemoved-remove}
-use Rattle.markup.proofs.Reparented.{IsReparented, IsReparented-reparent_children}
+use Rattle.markup.proofs.Parents.{children_of-past, children_of-with_node, data_of-past, data_of-with_data, data_of-with_data_other, data_of-with_node_new, data_of-with_node_old, is_among-parent, node_count-with_node, no_parent-from_loose, parent_of-none, parent_of-past, parent_of-with_node}
+use Rattle.markup.proofs.Children.{without-absent}
+use Rattle.markup.proofs.Walks.{Above-child}
+use Rattle.markup.proofs.Forests.{IsForest-empty, IsForest-same_nodes, IsForest-with_node, IsInPlace, IsMade, IsMade-with_node, IsParent-place, IsPutAt, IsPutAt-put, IsRemoved, IsRemoved-remove}
 use Rattle.markup.proofs.PutTexts.{IsInPlace-add_attributes, IsInPlace-text, IsPlace-with_node, text-IsNode, text_of-is}
 use Rattle.markup.proofs.TemplateContents.{HasContents-empty, HasContents-same_data, HasContents-with_data, HasContents-with_node, HasContents-with_template, IsAlike, IsAlike-with_attributes}
-use Rattle.std.proofs.Common.{Result, Ok, Err}
-use Rattle.std.specs.Result.{OnErr, OnOk}
-use Rattle.html_forest.specs.declared.node.Node as kept
-use Rattle.html_forest.proofs.Lists.{links_of-at}
-use Rattle.html_forest.specs.Views.{IsKept, forest_view, joined_nodes, links_at, links_in, links_of, with_parent, with_parents}
+use Rattle.html_forest.specs.Links.{Links, after_in, before_in, first_of, link_at, links_at, next_in, next_under, no_links, placed, previous_under, unplaced}
+use Rattle.html_forest.specs.Views.{About, IsKept, about_at, about_with, no_about}
+use Rattle.html_forest.proofs.Linked.{IsInserted, placed-links, same-links, unplaced-links}
+use Rattle.html_forest.proofs.Splits.{IsSplit, IsSplit-place, IsSplit-without}
 
-abbrev Links : Type 0
-Links = List (Option ℕ × Option ℕ)
+-- what a node has depends on its parent, its own list and its parent's
+pub links_at-same : (f g : Forest) (n : ℕ) → parent_of g n ≡ parent_of f n → ((q : ℕ) → children_of g q ≡ children_of f q) → links_at g n ≡ links_at f n
+links_at-same f g n parent lists = same-links (links_at g n) (links_at f n) parent (rw parent (previous (parent_of f n))) (rw parent (next (parent_of f n))) (ap first_of (lists n)) (ap last_of (lists n))
+  where
+    previous : (o : Option ℕ) → previous_under g n o ≡ previous_under f n o
+    previous None = refl
+    previous (Some p) = ap (before_in None n) (lists p)
 
--- what an element keeps depends on its data alone
-contents_of-same : (f g : Forest) (n : ℕ) → template_of (data_of g n) ≡ template_of (data_of f n) → contents_of g n ≡ contents_of f n
-contents_of-same f g n same = rw same refl
+    next : (o : Option ℕ) → next_under g n o ≡ next_under f n o
+    next None = refl
+    next (Some p) = ap (after_in n) (lists p)
 
-links_at-same : (f g : Forest) (n : ℕ) → parent_of g n ≡ parent_of f n → template_of (data_of g n) ≡ template_of (data_of f n) → links_at g n ≡ links_at f n
-links_at-same f g n same template = rw (same, template) refl
+-- what a node is in a forest
+abbrev pub about_in : Forest → ℕ → About
+about_in f n = (data_of f n, contents_of f n)
 
-get_or-push_none : (ls : Links) (n : ℕ) → get_or (ls ++ (None, None) ∷ []) n (None, None) ≡ get_or ls n (None, None)
-get_or-push_none [] n = elim n as (λ k. get_or ((None, None) ∷ []) k (None, None) ≡ get_or {A = Option ℕ × Option ℕ} [] k (None, None)) [ zero ↦ refl | suc k ↦ refl ]
-get_or-push_none (p ∷ ps) zero = refl
-get_or-push_none (p ∷ ps) (suc n) = get_or-push_none ps n
+pub about_in-same : (f g : Forest) (n : ℕ) → data_of g n ≡ data_of f n → about_in g n ≡ about_in f n
+about_in-same f g n same = rw same refl
 
--- as many links are kept as there are nodes
-pub length-links_of : (nodes : List kept.Node) → length (links_of nodes) ≡ length nodes
-length-links_of nodes = simp length-map
+-- past the end of a forest nothing is, and has no links
+links_at-past : (f : Forest) → IsForest f → (n : ℕ) → node_count f ≤ n → links_at f n ≡ no_links
+links_at-past f is n past = rw (parent_of-past f is n past, children_of-past f n past) refl
 
-template_of-with_node : (f : Forest) (about : NodeData) → template_of about ≡ false → (n : ℕ) → template_of (data_of (with_node f about) n) ≡ template_of (data_of f n)
-template_of-with_node f about plain n =
-    elim (cases_lt n (node_count f)) [
-      | inl old ↦ ap template_of (data_of-with_node_old f about n old)
-      | inr past ↦ elim (cases_eq n (node_count f)) [
-        | inl same ↦ rw same (ap template_of (data_of-with_node_new f about) ∙ (plain ∙ sym (ap template_of (data_of-past f (node_count f) (omega arith)))))
-        | inr other ↦ ap template_of (data_of-past (with_node f about) n (omega (arith, node_count-with_node f about))) ∙ sym (ap template_of (data_of-past f n past))
+about_in-past : (f : Forest) (n : ℕ) → node_count f ≤ n → about_in f n ≡ no_about
+about_in-past f n past = rw (data_of-past f n past) refl
+
+-- one item more at the end, which is what stands past it
+get_or-push_default : {A : Type 0} (xs : List A) (d : A) (n : ℕ) → get_or (xs ++ d ∷ []) n d ≡ get_or xs n d
+get_or-push_default [] d zero = refl
+get_or-push_default [] d (suc n) = refl
+get_or-push_default (x ∷ xs) d zero = refl
+get_or-push_default (x ∷ xs) d (suc n) = get_or-push_default xs d n
+
+-- an item pushed behind what a function has
+get_or-pushed : {A : Type 0} (xs : List A) (d x : A) (f g : ℕ → A) (count : ℕ) → length xs ≡ count → ((n : ℕ) → get_or xs n d ≡ f n) → ((n : ℕ) → n < count → g n ≡ f n) → g count ≡ x → ((n : ℕ) → count < n → g n ≡ d) → (n : ℕ) → get_or (xs ++ x ∷ []) n d ≡ g n
+get_or-pushed xs d x f g count long are old new past n =
+    elim (cases_lt n count) [
+      | inl less ↦ get_or_append_left xs (x ∷ []) d n (omega (arith, long)) ∙ (are n ∙ sym (old n less))
+      | inr more ↦ elim (cases_eq n count) [
+        | inl same ↦ rw same (get_or_push xs x d count long ∙ sym new)
+        | inr other ↦ get_or_past (xs ++ x ∷ []) n d (omega (arith, length_push xs x, long)) ∙ sym (past n (omega arith))
       ]
     ]
 
-pub IsKept-with_node : (f : Forest) (ls : Links) (about : NodeData) → IsKept f ls → IsOrdinary about → IsKept (with_node f about) (ls ++ (None, None) ∷ [])
-IsKept-with_node f ls about k plain = record {
-  is_forest = made.is;
+-- a node that is made: its links are none
+
+linked-with_node : (f : Forest) (ls : List Links) (about : NodeData) → ((n : ℕ) → link_at ls n ≡ links_at f n) → (n : ℕ) → link_at (ls ++ no_links ∷ []) n ≡ links_at (with_node f about) n
+linked-with_node f ls about are n = get_or-push_default ls no_links n ∙ (are n ∙ sym (links_at-same f (with_node f about) n (parent_of-with_node f about n) (children_of-with_node f about)))
+
+about-with_node : (f : Forest) (ss : List About) (about : NodeData) (contents : Option ℕ) → length ss ≡ node_count f → ((n : ℕ) → about_at ss n ≡ about_in f n) → cond (template_of about) (Some (node_count f + 1)) None ≡ contents → (n : ℕ) → about_at (ss ++ (about, contents) ∷ []) n ≡ about_in (with_node f about) n
+about-with_node f ss about contents long are is =
+    get_or-pushed ss no_about (about, contents) (about_in f) (about_in (with_node f about)) (node_count f) long are
+    (λ n less. about_in-same f (with_node f about) n (data_of-with_node_old f about n less))
+    (rw (data_of-with_node_new f about) (ap (λ (o : Option ℕ). (about, o)) is))
+    (λ n more. about_in-past (with_node f about) n (omega (arith, node_count-with_node f about)))
+
+pub IsKept-with_node : (f : Forest) (ss : List About) (ls : List Links) (about : NodeData) → IsKept f ss ls → IsOrdinary about → IsKept (with_node f about) (ss ++ (about, None) ∷ []) (ls ++ no_links ∷ [])
+IsKept-with_node f ss ls about k plain = record {
+  is_forest = IsForest-with_node f about k.is_forest;
   has_contents = HasContents-with_node f about k.has_contents plain;
-  keeps = λ n. get_or-push_none ls n ∙ (k.keeps n ∙ sym (links_at-same f (with_node f about) n (made.parents n) (template_of-with_node f about plain.template n)));
+  count_abouts = omega (arith, length_push ss (about, None), k.count_abouts, node_count-with_node f about);
+  count_links = omega (arith, length_push ls no_links, k.count_links, node_count-with_node f about);
+  is_about = about-with_node f ss about None k.count_abouts k.is_about (rw plain.template refl);
+  is_linked = linked-with_node f ls about k.is_linked;
 }
-  where
-    made : IsMade f (with_node f about) about
-    made = IsMade-with_node f about k.is_forest plain.contents
 
 -- a template, with the node of its contents
-pub IsKept-with_template : (f : Forest) (ls : Links) (name : QualName) (attributes : List Attribute) (point : Bool) → IsKept f ls → length ls ≡ node_count f → is_html_name (Some name) (codes "template") ≡ true → IsKept (with_node (with_node f (Element name attributes true point)) Contents) ((ls ++ (None, Some (node_count f + 1)) ∷ []) ++ (None, None) ∷ [])
-IsKept-with_template f ls name attributes point k long named = record {
-  is_forest = IsForest-with_node (with_node f about) Contents made.is;
+pub IsKept-with_template : (f : Forest) (ss : List About) (ls : List Links) (name : QualName) (attributes : List Attribute) (point : Bool) → IsKept f ss ls → is_html_name (Some name) (codes "template") ≡ true → IsKept (with_node (with_node f (Element name attributes true point)) Contents) ((ss ++ (Element name attributes true point, Some (node_count f + 1)) ∷ []) ++ (Contents, None) ∷ []) ((ls ++ no_links ∷ []) ++ no_links ∷ [])
+IsKept-with_template f ss ls name attributes point k named = record {
+  is_forest = IsForest-with_node (with_node f about) Contents (IsForest-with_node f about k.is_forest);
   has_contents = HasContents-with_template f about k.has_contents refl refl named;
-  keeps = λ n. get_or-push_none (ls ++ (None, Some (node_count f + 1)) ∷ []) n ∙ (first n ∙ sym (links_at-same (with_node f about) (with_node (with_node f about) Contents) n (parent_of-with_node (with_node f about) Contents n) (template_of-with_node (with_node f about) Contents refl n)));
+  count_abouts = omega (arith, length_push (ss ++ (about, Some (node_count f + 1)) ∷ []) (Contents, None), more_abouts, node_count-with_node (with_node f about) Contents);
+  count_links = omega (arith, length_push (ls ++ no_links ∷ []) no_links, more_links, node_count-with_node (with_node f about) Contents);
+  is_about = about-with_node (with_node f about) (ss ++ (about, Some (node_count f + 1)) ∷ []) Contents None more_abouts (about-with_node f ss about (Some (node_count f + 1)) k.count_abouts k.is_about refl) refl;
+  is_linked = linked-with_node (with_node f about) (ls ++ no_links ∷ []) Contents (linked-with_node f ls about k.is_linked);
 }
   where
     about : NodeData
     about = Element name attributes true point
 
-    made : IsMade f (with_node f (Element name attributes true point)) (Element name attributes true point)
-    made = IsMade-with_node f about k.is_forest refl
+    more_abouts : length (ss ++ (Element name attributes true point, Some (node_count f + 1)) ∷ []) ≡ node_count (with_node f (Element name attributes true point))
+    more_abouts = omega (arith, length_push ss (Element name attributes true point, Some (node_count f + 1)), k.count_abouts, node_count-with_node f (Element name attributes true point))
 
-    first : (n : ℕ) → get_or (ls ++ (None, Some (node_count f + 1)) ∷ []) n (None, None) ≡ links_at (with_node f (Element name attributes true point)) n
-    first n =
-        elim (cases_lt n (node_count f)) [
-          | inl old ↦
-              get_or_append_left ls _ (None, None) n (omega (arith, long))
-              ∙ (k.keeps n ∙ sym (links_at-same f (with_node f about) n (made.parents n) (ap template_of (data_of-with_node_old f about n old))))
-          | inr past ↦ elim (cases_eq n (node_count f)) [
-            | inl same ↦
-                rw same
-                (get_or_push ls _ (None, None) (node_count f) long
-                ∙ ap₂ (λ (p q : Option ℕ). (p, q))
-                (sym (made.parents (node_count f) ∙ parent_of-past f k.is_forest (node_count f) (omega arith)))
-                (sym (ap (λ d. cond (template_of d) (Some (node_count f + 1)) None) (data_of-with_node_new f about))))
-            | inr other ↦
-                let beyond : node_count (with_node f about) ≤ n = omega (arith, node_count-with_node f about) in
-                get_or_past _ n (None, None) (omega (arith, length_push ls (None, Some (node_count f + 1)), long))
-                ∙ ap₂ (λ (p q : Option ℕ). (p, q))
-                (sym (parent_of-past (with_node f about) made.is n beyond))
-                (sym (ap (λ d. cond (template_of d) (Some (n + 1)) None) (data_of-past (with_node f about) n beyond)))
-          ]
-        ]
+    more_links : length (ls ++ no_links ∷ []) ≡ node_count (with_node f (Element name attributes true point))
+    more_links = omega (arith, length_push ls no_links, k.count_links, node_count-with_node f (Element name attributes true point))
 
-pub IsKept-put : (f : Forest) (ls : Links) (place : Place) (c : ℕ) → IsKept f ls → c < length ls → IsPlace f place → IsLoose f (parent_at place) c → IsKept (put f place c) (with_parent ls c (Some (parent_at place)))
-IsKept-put f ls place c k there at loose = record {
+-- a node is put at a place
+
+abbrev IsMovedAll : (ℕ → Links → Links) → List Links → List Links → Type 0
+IsMovedAll change ls new = (n : ℕ) → link_at new n ≡ change n (link_at ls n)
+
+not_own_parent : (f : Forest) (p c : ℕ) → IsLoose f p c → c ≢ p
+not_own_parent f p c loose same = let itself : Above f c c = here in loose.not_above (subst (λ (n : ℕ). Above f c n) same itself)
+
+-- a child stands under its parent
+above_of-child : (f : Forest) → IsForest f → (c p : ℕ) → parent_of f c ≡ Some p → above_of f c ≡ Some p
+above_of-child f is c p stands =
+    elim (cases_Bool (is_contents (data_of f c))) [
+      | inl contents ↦ absurd (let none = is.contents_stay c contents in cc)
+      | inr plain ↦ let above : above_of f c ≡ parent_of f c = rw plain refl in above ∙ stands
+    ]
+
+pub IsKept-put : (f : Forest) (ss : List About) (ls new : List Links) (place : Place) (c : ℕ) → IsKept f ss ls → IsPlace f place → IsLoose f (parent_at place) c → length new ≡ length ls
+    → ((n : ℕ) → link_at new n ≡ placed (parent_at place) (previous_at f place) (next_in place) c n (link_at ls n)) → IsKept (put f place c) ss new
+IsKept-put f ss ls new place c k at loose long links = record {
   is_forest = is_put.is;
   has_contents = HasContents-same_data f (put f place c) k.has_contents is_put.same_data;
-  keeps = λ n. elim (cases_eq n c) [
-    | inl same ↦ rw same (get_or-set_same ls c _ (None, None) there ∙ ap₂ (λ (p q : Option ℕ). (p, q)) (sym is_put.parent) (ap (λ (l : Option ℕ × Option ℕ). l.1) (k.keeps c) ∙ sym (contents_of-same f (put f place c) c (ap template_of (is_put.same_data c)))))
-    | inr other ↦ get_or-set_other ls c n _ (None, None) other ∙ (k.keeps n ∙ sym (links_at-same f (put f place c) n (is_put.parents n other) (ap template_of (is_put.same_data n))))
-  ];
+  count_abouts = k.count_abouts ∙ sym is_put.count;
+  count_links = long ∙ (k.count_links ∙ sym is_put.count);
+  is_about = λ n. k.is_about n ∙ sym (about_in-same f (put f place c) n (is_put.same_data n));
+  is_linked = λ n. links n ∙ (rw (k.is_linked n, split.is_previous, split.is_next) (placed-links f (put f place c) (parent_at place) c split.before split.after inserted n));
 }
   where
     is_put : IsPutAt f (put f place c) place c
     is_put = IsPutAt-put f place c k.is_forest at loose
 
+    split : IsSplit (children_of f (parent_at place)) (children_with place c (children_of f (parent_at place))) c (previous_in place (children_of f (parent_at place))) (next_in place)
+    split = IsSplit-place f place c at
+
+    inserted : IsInserted f (put f place c) (parent_at place) c split.before split.after
+    inserted = record {
+      is = k.is_forest;
+      was = split.without_it;
+      now = is_put.list ∙ split.with_it;
+      free = (no_parent-from_loose f c loose.no_parent).0;
+      parent = is_put.parent;
+      parents = is_put.parents;
+      lists = is_put.lists;
+      apart = not_own_parent f (parent_at place) c loose;
+    }
+
 -- a new node at a place
-pub IsKept-put_new : (f : Forest) (ls : Links) (place : Place) (about : NodeData) → IsKept f ls → length ls ≡ node_count f → IsPlace f place → IsOrdinary about → IsKept (put_new f place about) (with_parent (ls ++ (None, None) ∷ []) (node_count f) (Some (parent_at place)))
-IsKept-put_new f ls place about k long at plain =
-    IsKept-put (with_node f about) (ls ++ (None, None) ∷ []) place (node_count f) (IsKept-with_node f ls about k plain)
-    (omega (arith, length_push ls (None, None), long))
+pub IsKept-put_new : (f : Forest) (ss : List About) (ls new : List Links) (place : Place) (about : NodeData) → IsKept f ss ls → IsPlace f place → IsOrdinary about → length new ≡ length (ls ++ no_links ∷ [])
+    → ((n : ℕ) → link_at new n ≡ placed (parent_at place) (previous_at f place) (next_in place) (node_count f) n (link_at (ls ++ no_links ∷ []) n)) → IsKept (put_new f place about) (ss ++ (about, None) ∷ []) new
+IsKept-put_new f ss ls new place about k at plain long links =
+    IsKept-put (with_node f about) (ss ++ (about, None) ∷ []) (ls ++ no_links ∷ []) new place (node_count f) (IsKept-with_node f ss ls about k plain)
     (IsPlace-with_node f place about k.is_forest plain.contents at)
     (made.loose (parent_at place) (IsParent-place f place k.is_forest at).there)
+    long
+    (λ n. rw (children_of-with_node f about (parent_at place)) (links n))
   where
     made : IsMade f (with_node f about) about
     made = IsMade-with_node f about k.is_forest plain.contents
 
-pub IsKept-removed : (f : Forest) (ls : Links) (n : ℕ) → IsKept f ls → n < length ls → IsKept (remove f n) (with_parent ls n None)
-IsKept-removed f ls n k there = record {
+-- a node is taken out of its parent
+pub IsKept-removed : (f : Forest) (ss : List About) (ls new : List Links) (c p : ℕ) → IsKept f ss ls → parent_of f c ≡ Some p → length new ≡ length ls
+    → ((n : ℕ) → link_at new n ≡ unplaced p (link_at ls c).previous (link_at ls c).next c n (link_at ls n)) → IsKept (remove f c) ss new
+IsKept-removed f ss ls new c p k stands long links = record {
   is_forest = removed.is;
-  has_contents = HasContents-same_data f (remove f n) k.has_contents removed.same_data;
-  keeps = λ m. elim (cases_eq m n) [
-    | inl same ↦ rw same (get_or-set_same ls n _ (None, None) there ∙ ap₂ (λ (p q : Option ℕ). (p, q)) (sym removed.parent) (ap (λ (l : Option ℕ × Option ℕ). l.1) (k.keeps n) ∙ sym (contents_of-same f (remove f n) n (ap template_of (removed.same_data n)))))
-    | inr other ↦ get_or-set_other ls n m _ (None, None) other ∙ (k.keeps m ∙ sym (links_at-same f (remove f n) m (removed.parents m other) (ap template_of (removed.same_data m))))
-  ];
+  has_contents = HasContents-same_data f (remove f c) k.has_contents removed.same_data;
+  count_abouts = k.count_abouts ∙ sym removed.count;
+  count_links = long ∙ (k.count_links ∙ sym removed.count);
+  is_about = λ n. k.is_about n ∙ sym (about_in-same f (remove f c) n (removed.same_data n));
+  is_linked = λ n. links n ∙ (rw (previous, next, k.is_linked n) (unplaced-links (remove f c) f p c split.before split.after inserted n));
 }
   where
-    removed : IsRemoved f (remove f n) n
-    removed = IsRemoved-remove f n k.is_forest
+    removed : IsRemoved f (remove f c) c
+    removed = IsRemoved-remove f c k.is_forest
+
+    among : is_among c (children_of f p) ≡ true
+    among = is_among-parent f c p stands
+
+    split : IsSplit (without c (children_of f p)) (children_of f p) c (before_in None c (children_of f p)) (after_in c (children_of f p))
+    split = IsSplit-without c (children_of f p) (k.is_forest.once p) among
+
+    previous : (link_at ls c).previous ≡ last_of split.before
+    previous = ap (λ (l : Links). l.previous) (k.is_linked c) ∙ (ap (previous_under f c) stands ∙ split.is_previous)
+
+    next : (link_at ls c).next ≡ first_of split.after
+    next = ap (λ (l : Links). l.next) (k.is_linked c) ∙ (ap (next_under f c) stands ∙ split.is_next)
+
+    elsewhere : (q : ℕ) → q ≢ p → is_among c (children_of f q) ≡ false
+    elsewhere q other = elim (cases_Bool (is_among c (children_of f q))) [
+      | inl found ↦ absurd (other (let one = k.is_forest.one_parent q c found in cc))
+      | inr absent ↦ absent
+    ]
+
+    inserted : IsInserted (remove f c) f p c split.before split.after
+    inserted = record {
+      is = removed.is;
+      was = removed.lists p ∙ split.without_it;
+      now = split.with_it;
+      free = removed.parent;
+      parent = stands;
+      parents = λ n other. sym (removed.parents n other);
+      lists = λ q other. sym (removed.lists q ∙ without-absent c (children_of f q) (elsewhere q other));
+      apart = λ same. let itself : Above f c c = here in Above-child f k.is_forest c p (above_of-child f k.is_forest c p stands) (subst (λ (n : ℕ). Above f c n) same itself);
+    }
 
 -- other data, alike as to templates
-IsKept-in_place : (f : Forest) (ls : Links) (n : ℕ) (about : NodeData) → IsKept f ls → n < node_count f → IsInPlace f (with_data f n about) n → IsAlike about (data_of f n) → IsKept (with_data f n about) ls
-IsKept-in_place f ls n about k there in_place alike = record {
+IsKept-in_place : (f : Forest) (ss new : List About) (ls : List Links) (n : ℕ) (about : NodeData) → IsKept f ss ls → n < node_count f → IsInPlace f (with_data f n about) n → IsAlike about (data_of f n) → new ≡ about_with ss n about → IsKept (with_data f n about) new ls
+IsKept-in_place f ss new ls n about k there in_place alike is = record {
   is_forest = in_place.is;
   has_contents = HasContents-with_data f n about there k.has_contents alike;
-  keeps = λ m. k.keeps m ∙ sym (links_at-same f (with_data f n about) m (in_place.parents m) (elim (cases_eq m n) [
-    | inl same ↦ rw same (ap template_of (data_of-with_data f n about there) ∙ alike.template)
-    | inr other ↦ ap template_of (data_of-with_data_other f n about m other)
-  ]));
+  count_abouts = rw is (length-set ss n (about, (about_at ss n).1) ∙ (k.count_abouts ∙ sym in_place.count));
+  count_links = k.count_links ∙ sym in_place.count;
+  is_about = λ m. elim (cases_eq m n) [
+    | inl same ↦
+        rw (is, same)
+        (get_or-set_same ss n (about, (about_at ss n).1) no_about (omega (arith, k.count_abouts))
+        ∙ (ap₂ (λ (d : NodeData) (o : Option ℕ). (d, o)) (sym (data_of-with_data f n about there)) (ap (λ (a : About). a.1) (k.is_about n) ∙ sym (ap (λ (b : Bool). cond b (Some (n + 1)) None) (ap template_of (data_of-with_data f n about there) ∙ alike.template)))))
+    | inr other ↦
+        rw is (get_or-set_other ss n m (about, (about_at ss n).1) no_about other)
+        ∙ (k.is_about m ∙ sym (about_in-same f (with_data f n about) m (data_of-with_data_other f n about m other)))
+  ];
+  is_linked = λ m. k.is_linked m ∙ sym (links_at-same f (with_data f n about) m (in_place.parents m) in_place.lists);
 }
 
-pub IsKept-text : (f : Forest) (ls : Links) (n : ℕ) (old new : List ℕ) → IsKept f ls → text_of (data_of f n) ≡ Some old → IsKept (with_data f n (Text new)) ls
-IsKept-text f ls n old new k e =
-    IsKept-in_place f ls n (Text new) k (text-IsNode f n old e) (IsInPlace-text f n old new k.is_forest e)
-    (let is = text_of-is (data_of f n) old e in record { contents = ap is_contents (sym is); template = ap template_of (sym is); name = ap element_name (sym is) })
+pub IsKept-text : (f : Forest) (ss new : List About) (ls : List Links) (n : ℕ) (old shown : List ℕ) → IsKept f ss ls → text_of (data_of f n) ≡ Some old → new ≡ about_with ss n (Text shown) → IsKept (with_data f n (Text shown)) new ls
+IsKept-text f ss new ls n old shown k e is =
+    IsKept-in_place f ss new ls n (Text shown) k (text-IsNode f n old e) (IsInPlace-text f n old shown k.is_forest e)
+    (let same = text_of-is (data_of f n) old e in record { contents = ap is_contents (sym same); template = ap template_of (sym same); name = ap element_name (sym same) })
+    is
 
-pub IsKept-attributes : (f : Forest) (ls : Links) (n : ℕ) (others : List Attribute) → IsKept f ls → n < node_count f → IsKept (add_attributes f n others) ls
-IsKept-attributes f ls n others k there =
-    IsKept-in_place f ls n (with_attributes (data_of f n) others) k there (IsInPlace-add_attributes f n others k.is_forest there) (IsAlike-with_attributes (data_of f n) others)
+pub IsKept-attributes : (f : Forest) (ss new : List About) (ls : List Links) (n : ℕ) (others : List Attribute) → IsKept f ss ls → n < node_count f → new ≡ about_with ss n (with_attributes (data_of f n) others) → IsKept (add_attributes f n others) new ls
+IsKept-attributes f ss new ls n others k there is =
+    IsKept-in_place f ss new ls n (with_attributes (data_of f n) others) k there (IsInPlace-add_attributes f n others k.is_forest there) (IsAlike-with_attributes (data_of f n) others) is
 
--- the links after many got one parent
-with_parents-length : (ls : Links) (ns : List ℕ) (parent : Option ℕ) → length (with_parents ls ns parent) ≡ length ls
-with_parents-length ls [] parent = refl
-with_parents-length ls (n ∷ ns) parent = with_parents-length (with_parent ls n parent) ns parent ∙ length-set ls n _
-
-with_parents-at : (ls : Links) (ns : List ℕ) (parent : Option ℕ) → ((n : ℕ) → is_among n ns ≡ true → n < length ls) → (m : ℕ) → get_or (with_parents ls ns parent) m (None, None) ≡ cond (is_among m ns) (parent, (get_or ls m (None, None)).1) (get_or ls m (None, None))
-with_parents-at ls [] parent there m = refl
-with_parents-at ls (n ∷ ns) parent there m =
-    with_parents-at (with_parent ls n parent) ns parent (λ k found. omega (arith, length-set ls n (parent, (get_or ls n (None, None)).1), there k (among k found))) m
-    ∙ elim (cases_eq m n) [
-      | inl same ↦
-          let at : get_or (with_parent ls n parent) m (None, None) ≡ (parent, (get_or ls m (None, None)).1) = rw same (get_or-set_same ls n _ (None, None) (there n (rw (eq-eqb n n refl) refl))) in
-          rw (at, eq-eqb m n same) (elim (cases_Bool (is_among m ns)) [ inl found ↦ rw found refl | inr absent ↦ rw absent refl ])
-      | inr other ↦ rw (get_or-set_other ls n m (parent, (get_or ls n (None, None)).1) (None, None) other, ne_eqb m n other) refl
-    ]
-  where
-    among : (k : ℕ) → is_among k ns ≡ true → is_among k (n ∷ ns) ≡ true
-    among k found = elim (cases_Bool (k == n)) [ inl same ↦ rw same refl | inr other ↦ rw other found ]
-
-pub IsKept-reparented : (f : Forest) (ls : Links) (from to : ℕ) → IsKept f ls → length ls ≡ node_count f → from < node_count f → IsParent f to → ((c : ℕ) → is_among c (children_of f from) ≡ true → Above f c to → ⊥) → IsKept (reparent_children f from to) (with_parents ls (children_of f from) (Some to))
-IsKept-reparented f ls from to k long there at apart = record {
-  is_forest = moved.is;
-  has_contents = HasContents-same_data f (reparent_children f from to) k.has_contents moved.same_data;
-  keeps = λ n. with_parents-at ls (children_of f from) (Some to) (λ m found. let less = k.is_forest.in_range from m found in omega (arith, long)) n
-      ∙ elim (cases_Bool (is_among n (children_of f from))) [
-        | inl moves ↦ rw moves (ap₂ (λ (p q : Option ℕ). (p, q)) (sym (moved.parent n moves)) (ap (λ (l : Option ℕ × Option ℕ). l.1) (k.keeps n) ∙ sym (contents_of-same f (reparent_children f from to) n (ap template_of (moved.same_data n)))))
-        | inr stays ↦ rw stays (k.keeps n ∙ sym (links_at-same f (reparent_children f from to) n (moved.parents n stays) (ap template_of (moved.same_data n))))
-      ];
-}
-  where
-    moved : IsReparented f (reparent_children f from to) from to
-    moved = IsReparented-reparent_children f from to k.is_forest there at apart
-
-pub IsKept-same_nodes : (f : Forest) (ls : Links) (mode : QuirksMode) (errors : ℕ) → IsKept f ls → IsKept (record { nodes = f.nodes; quirks = mode; errors = errors }) ls
-IsKept-same_nodes f ls mode errors k = record {
+-- another quirks mode or number of errors
+pub IsKept-same_nodes : (f : Forest) (ss : List About) (ls : List Links) (mode : QuirksMode) (errors : ℕ) → IsKept f ss ls → IsKept (record { nodes = f.nodes; quirks = mode; errors = errors }) ss ls
+IsKept-same_nodes f ss ls mode errors k = record {
   is_forest = IsForest-same_nodes f mode errors k.is_forest;
   has_contents = HasContents-same_data f (record { nodes = f.nodes; quirks = mode; errors = errors }) k.has_contents (λ n. refl);
-  keeps = k.keeps;
+  count_abouts = k.count_abouts;
+  count_links = k.count_links;
+  is_about = k.is_about;
+  is_linked = k.is_linked;
 }
 
-pub IsKept-empty : IsKept empty_forest ((None, None) ∷ [])
-IsKept-empty = record { is_forest = IsForest-empty; has_contents = HasContents-empty; keeps = keeps' } where
-  none : (q n : ℕ) → is_among n (children_of empty_forest q) ≡ false
-  none zero n = refl
-  none (suc q) n = refl
+-- a document with nothing in it
+pub IsKept-empty : IsKept empty_forest (no_about ∷ []) (no_links ∷ [])
+IsKept-empty = record {
+  is_forest = IsForest-empty;
+  has_contents = HasContents-empty;
+  count_abouts = refl;
+  count_links = refl;
+  is_about = about';
+  is_linked = linked';
+}
+  where
+    none : (q n : ℕ) → is_among n (children_of empty_forest q) ≡ false
+    none zero n = refl
+    none (suc q) n = refl
 
-  keeps' : (n : ℕ) → get_or ((None, None) ∷ []) n (None, None) ≡ links_at empty_forest n
-  keeps' zero = ap₂ (λ (p q : Option ℕ). (p, q)) (sym (parent_of-none empty_forest 0 (λ q. none q 0))) refl
-  keeps' (suc n) = ap₂ (λ (p q : Option ℕ). (p, q)) (sym (parent_of-none empty_forest (suc n) (λ q. none q (suc n)))) refl
+    about' : (n : ℕ) → about_at (no_about ∷ []) n ≡ about_in empty_forest n
+    about' zero = refl
+    about' (suc n) = refl
 
--- what a node keeps is what it has
-pub links-kept : (nodes : List kept.Node) (mode : QuirksMode) (errors n : ℕ) (node : kept.Node) → IsKept (forest_view nodes mode errors) (links_of nodes) → n < length nodes → node ≡ get_or nodes n node → links_in node ≡ links_at (forest_view nodes mode errors) n
-links-kept nodes mode errors n node k there read = sym (links_of-at nodes n node there read) ∙ k.keeps n
-
--- text joined to a node that may be a text
-pub IsKept-joined : (f : Forest) (ls : Links) (at : ℕ) (more : List ℕ) → IsKept f ls → IsKept (record { nodes = joined_nodes f.nodes at more (text_of (data_of f at)); quirks = f.quirks; errors = f.errors }) ls
-IsKept-joined f ls at more k = by_text (text_of (data_of f at)) refl where
-  by_text : (o : Option (List ℕ)) → text_of (data_of f at) ≡ o → IsKept (record { nodes = joined_nodes f.nodes at more o; quirks = f.quirks; errors = f.errors }) ls
-  by_text None e = k
-  by_text (Some before) e = IsKept-text f ls at before (before ++ more) k e
-
--- whether a call went well or not
-pub IsKept-either : {T E : Type 0} (r : Result T E) (nodes after before : List Node) (mode : QuirksMode) (errors : ℕ) (ls : Links) → OnOk r (nodes ≡ after) → OnErr r (nodes ≡ before) → IsKept (record { nodes = after; quirks = mode; errors = errors }) ls → IsKept (record { nodes = before; quirks = mode; errors = errors }) ls → IsKept (record { nodes = nodes; quirks = mode; errors = errors }) ls
-IsKept-either (Ok x) nodes after before mode errors ls ok err k l = rw ok k
-IsKept-either (Err x) nodes after before mode errors ls ok err k l = rw err l
-
--- the same where the links, too, depend on how the call went
-pub IsKept-either_links : {T E : Type 0} (r : Result T E) (nodes after before : List Node) (mode : QuirksMode) (errors : ℕ) (ls moved stayed : Links) → OnOk r (nodes ≡ after) → OnErr r (nodes ≡ before) → OnOk r (ls ≡ moved) → OnErr r (ls ≡ stayed) → IsKept (record { nodes = after; quirks = mode; errors = errors }) moved → IsKept (record { nodes = before; quirks = mode; errors = errors }) stayed → IsKept (record { nodes = nodes; quirks = mode; errors = errors }) ls
-IsKept-either_links (Ok x) nodes after before mode errors ls moved stayed ok err ok' err' k l = rw (ok, ok') k
-IsKept-either_links (Err x) nodes after before mode errors ls moved stayed ok err ok' err' k l = rw (err, err') l
-
-pub IsKept-removed_from : (f : Forest) (ls : Links) (n p : ℕ) → IsKept f ls → n < length ls → parent_of f n ≡ Some p → IsKept (with_children f p (without n (children_of f p))) (with_parent ls n None)
-IsKept-removed_from f ls n p k there stands =
-    subst (λ (o : Option ℕ). IsKept (remove_under f n o) (with_parent ls n None)) stands (IsKept-removed f ls n k there)
+    linked' : (n : ℕ) → link_at (no_links ∷ []) n ≡ links_at empty_forest n
+    linked' zero = rw (parent_of-none empty_forest 0 (λ q. none q 0)) refl
+    linked' (suc n) = rw (parent_of-none empty_forest (suc n) (λ q. none q (suc n))) refl

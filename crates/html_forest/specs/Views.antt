@@ -1,9 +1,10 @@
 -- What a contract sees of the nodes of a forest.
-use Rattle.std.specs.Prelude.{ℕ, ◌≡◌, List, [], ◌∷◌, Option, Some, None, map, slice_index_or, slice_set, ◌++◌, is_some}
+use Rattle.std.specs.Prelude.{ℕ, zero, suc, ◌≡◌, List, [], ◌∷◌, Option, Some, None, map, length, ◌++◌, slice_index_or, slice_set, is_some}
 use Rattle.markup.specs.Forest as tree
-use Rattle.markup.specs.Forest.{Forest, IsForest, contents_of, no_node, parent_of}
+use Rattle.markup.specs.Forest.{Forest, IsForest, contents_of, data_of, node_count}
 use Rattle.markup.specs.Named.{HasContents}
 use Rattle.markup.specs.declared.quirks.QuirksMode.{QuirksMode}
+use Rattle.html_forest.specs.Links.{Follows, Links, link_at, links_at}
 use Rattle.html_forest.specs.declared.node.NodeData.{NodeData}
 use Rattle.html_forest.specs.declared.node.NodeData.TheVariants.{Document, Contents, Doctype, Text, Comment, ProcessingInstruction, Element}
 use Rattle.html_forest.specs.declared.node.Node.{Node}
@@ -24,61 +25,73 @@ abbrev pub contents_in : NodeData → Option ℕ
 contents_in (Element name attrs template_contents integration_point) = template_contents
 contents_in _ = None
 
-abbrev pub node_view : Node → tree.Node
-node_view node = record { about = data_view node.about; children = node.children.items }
-
-abbrev pub nodes_view : List Node → List tree.Node
-nodes_view nodes = map node_view nodes
-
 abbrev pub place_view : Place → tree.Place
 place_view (Last parent) = tree.Place.Last parent
 place_view (Before parent sibling) = tree.Place.Before parent sibling
 
--- the numbers of the parent and of the contents that a node keeps
-abbrev pub links_in : Node → Option ℕ × Option ℕ
-links_in node = (node.parent, contents_in node.about)
+-- what a node is, and the number of its contents
+abbrev pub About : Type 0
+About = tree.NodeData × Option ℕ
 
-abbrev pub links_of : List Node → List (Option ℕ × Option ℕ)
-links_of nodes = map links_in nodes
+abbrev pub about_of : NodeData → About
+about_of about = (data_view about, contents_in about)
 
--- those that it has in the forest
-abbrev pub links_at : Forest → ℕ → Option ℕ × Option ℕ
-links_at f n = (parent_of f n, contents_of f n)
+abbrev pub abouts_of : List Node → List About
+abouts_of nodes = map (λ (node : Node). about_of node.about) nodes
 
--- the links of a node that got another parent
-abbrev pub with_parent : List (Option ℕ × Option ℕ) → ℕ → Option ℕ → List (Option ℕ × Option ℕ)
-with_parent links n parent = slice_set links n (parent, (slice_index_or links n (None, None)).1)
+abbrev pub no_about : About
+no_about = (tree.NodeData.Document, None)
 
--- the links of nodes that got another parent, one after another
-abbrev pub with_parents : List (Option ℕ × Option ℕ) → List ℕ → Option ℕ → List (Option ℕ × Option ℕ)
-with_parents links [] parent = links
-with_parents links (n ∷ ns) parent = with_parents (with_parent links n parent) ns parent
+abbrev pub about_at : List About → ℕ → About
+about_at abouts n = slice_index_or abouts n no_about
 
--- the nodes, of which one got other children
-abbrev pub with_list : List tree.Node → ℕ → List ℕ → List tree.Node
-with_list nodes n children = slice_set nodes n (record { about = (slice_index_or nodes n no_node).about; children = children })
+-- what the nodes are, once one is something else of the same kind
+abbrev pub about_with : List About → ℕ → tree.NodeData → List About
+about_with abouts n changed = slice_set abouts n (changed, (about_at abouts n).1)
 
--- the nodes, with text added at the end of a text node that had text before
-abbrev pub joined_nodes : List tree.Node → ℕ → List ℕ → Option (List ℕ) → List tree.Node
-joined_nodes nodes at more (Some before) = slice_set nodes at (record { about = tree.NodeData.Text (before ++ more); children = (slice_index_or nodes at no_node).children })
-joined_nodes nodes at more None = nodes
+-- what the nodes are, with text added at the end of a text node that had text before
+abbrev pub joined_abouts : List About → ℕ → List ℕ → Option (List ℕ) → List About
+joined_abouts abouts at more (Some before) = about_with abouts at (tree.NodeData.Text (before ++ more))
+joined_abouts abouts at more None = abouts
+
+abbrev pub links_of : List Node → List Links
+links_of nodes = map (λ (node : Node). node.links) nodes
+
+-- the first so many nodes that are next to one another, from one on
+unfoldable pub following : ℕ → List Links → Option ℕ → List ℕ
+following zero links at = []
+following (suc count) links None = []
+following (suc count) links (Some n) = n ∷ following count links (link_at links n).next
+
+-- the nodes that are next to one another, from one on
+abbrev pub walk_from : List Node → Option ℕ → List ℕ
+walk_from nodes at = following (length (links_of nodes)) (links_of nodes) at
+
+-- they come to an end
+abbrev pub IsWalk : List Node → Option ℕ → Type 0
+IsWalk nodes at = Follows (links_of nodes) at (walk_from nodes at)
+
+-- the nodes of a tree, each with the children to which its links lead
+abbrev pub nodes_from : List Links → List About → List Links → List tree.Node
+nodes_from all (about ∷ abouts) (links ∷ rest) = record { about = about.0; children = following (length all) all links.first } ∷ nodes_from all abouts rest
+nodes_from all _ _ = []
+
+abbrev pub forest_of : List About → List Links → QuirksMode → ℕ → Forest
+forest_of abouts links mode errors = record { nodes = nodes_from links abouts links; quirks = mode; errors = errors }
+
+abbrev pub forest_view : List Node → QuirksMode → ℕ → Forest
+forest_view nodes mode errors = forest_of (abouts_of nodes) (links_of nodes) mode errors
+
+-- the nodes keep what they are and have in a forest
+pub record IsKept (f : Forest) (abouts : List About) (links : List Links) : Type 0 where
+  pub is_forest : IsForest f
+  pub has_contents : HasContents f
+  pub count_abouts : length abouts ≡ node_count f
+  pub count_links : length links ≡ node_count f
+  pub is_about : (n : ℕ) → about_at abouts n ≡ (data_of f n, contents_of f n)
+  pub is_linked : (n : ℕ) → link_at links n ≡ links_at f n
 
 -- the forest, with text added at the end of the text just before a place, if one stands there
 abbrev pub joined_if : Forest → List ℕ → Option ℕ → Option (List ℕ) → Forest
 joined_if f more (Some n) (Some earlier) = tree.with_data f n (tree.NodeData.Text (earlier ++ more))
 joined_if f more _ _ = f
-
-abbrev pub list_of : List tree.Node → ℕ → List ℕ
-list_of nodes n = (slice_index_or nodes n no_node).children
-
-abbrev pub about_of : List tree.Node → ℕ → tree.NodeData
-about_of nodes n = (slice_index_or nodes n no_node).about
-
-abbrev pub forest_view : List Node → QuirksMode → ℕ → Forest
-forest_view nodes mode errors = record { nodes = nodes_view nodes; quirks = mode; errors = errors }
-
--- a forest, of which each node keeps its parent and its contents
-pub record IsKept (f : Forest) (links : List (Option ℕ × Option ℕ)) : Type 0 where
-  pub is_forest : IsForest f
-  pub has_contents : HasContents f
-  pub keeps : (n : ℕ) → slice_index_or links n (None, None) ≡ links_at f n

@@ -6,8 +6,7 @@ ghost use Rattle.html_forest.specs.Views.{contents_in, data_view, joined_if, pla
 use crate::children::Children;
 use crate::node::{Node, NodeData, NodeId, Place};
 use crate::nodes::{
-    add_attributes, add_node, join_text, move_children, parent_of_place, previous_child, put_child,
-    set_parent, take_child,
+    add_attributes, add_node, join_text, link_between, links, move_children, unlink,
 };
 use markup::{
     Attribute, Attributes, ElementFlags, NodeOrText, ParseFault, QualName, QuirksMode, Text,
@@ -28,13 +27,13 @@ pub struct Forest {
 
 impl Model for Forest {
     ghost use Rattle.markup.specs.Forest.{Forest};
-    ghost use Rattle.html_forest.specs.Views.{forest_view, links_of, IsKept};
+    ghost use Rattle.html_forest.specs.Views.{IsKept, abouts_of, forest_view, links_of};
 
     ghost Value = { Forest };
 
     ghost view = { λ a. forest_view a.nodes.items a.quirks a.errors };
 
-    ghost invariant = { λ a. IsKept (forest_view a.nodes.items a.quirks a.errors) (links_of a.nodes.items) };
+    ghost invariant = { λ a. IsKept (forest_view a.nodes.items a.quirks a.errors) (abouts_of a.nodes.items) (links_of a.nodes.items) };
 }
 
 impl Forest {
@@ -50,7 +49,7 @@ impl Forest {
     {
         let mut nodes = Vec::new(alloc);
         nodes.reserve(1)?;
-        add_node(alloc, &mut nodes, NodeData::Document);
+        add_node(&mut nodes, NodeData::Document);
         Ok(Forest {
             alloc,
             nodes,
@@ -76,7 +75,7 @@ impl Forest {
         ensures { result ≡ parent_of self.now id }
     {
         match self.nodes.get(id.number()) {
-            Some(node) => node.parent,
+            Some(node) => node.links.parent.node(),
             None => None,
         }
     }
@@ -86,10 +85,8 @@ impl Forest {
         ensures { result ≡ children_of self.now id }
     {
         match self.nodes.get(id.number()) {
-            Some(node) => Children {
-                rest: node.children.iter(),
-            },
-            None => Children { rest: [].iter() },
+            Some(node) => Children::new(&self.nodes, node.links.first.node()),
+            None => Children::new(&self.nodes, None),
         }
     }
 
@@ -134,7 +131,7 @@ impl Forest {
     {
         let made = NodeId::new(self.nodes.len());
         self.nodes.reserve(1)?;
-        add_node(self.alloc, &mut self.nodes, about);
+        add_node(&mut self.nodes, about);
         Ok(made)
     }
 
@@ -155,7 +152,6 @@ impl Forest {
         let made = self.nodes.len();
         let template_contents = Some(NodeId::new(made + 1));
         add_node(
-            self.alloc,
             &mut self.nodes,
             NodeData::Element {
                 name,
@@ -164,7 +160,7 @@ impl Forest {
                 integration_point,
             },
         );
-        add_node(self.alloc, &mut self.nodes, NodeData::Contents);
+        add_node(&mut self.nodes, NodeData::Contents);
         Ok(NodeId::new(made))
     }
 
@@ -188,17 +184,26 @@ impl Forest {
         }
     }
 
+    /// The node just before a place.
+    fn previous_at(&self, place: &Place) -> Option<NodeId>
+        requires { IsPlace self.now (place_view place.now) }
+        ensures { result ≡ previous_at self.now (place_view place.now) }
+    {
+        match place {
+            Place::Last(parent) => links(&self.nodes, *parent).last.node(),
+            Place::Before(_, sibling) => links(&self.nodes, *sibling).previous.node(),
+        }
+    }
+
     /// Puts a node that stands nowhere at a place.
-    fn put(&mut self, place: &Place, child: NodeId) -> Result<(), ParseFault>
+    fn put(&mut self, place: &Place, child: NodeId)
         requires place { IsPlace self.old (place_view place.now) }
         requires child { IsLoose self.old (parent_at (place_view place.now)) child }
-        ensures ok { OnOk result (self.new ≡ put self.old (place_view place.now) child) }
-        ensures err { OnErr result (self.new ≡ self.old) }
-        ensures fault { IfErr result (λ fault. fault ≡ Memory) }
+        ensures { self.new ≡ put self.old (place_view place.now) child }
     {
-        put_child(&mut self.nodes, place, child)?;
-        set_parent(&mut self.nodes, child, Some(parent_of_place(place)));
-        Ok(())
+        let previous = self.previous_at(place);
+        let (parent, next) = place.around();
+        link_between(&mut self.nodes, parent, previous, next, child);
     }
 
     /// Makes a node that is no template, at a place.
@@ -210,11 +215,9 @@ impl Forest {
         ensures err { OnErr result (self.new ≡ self.old) }
         ensures fault { IfErr result (λ fault. fault ≡ Memory) }
     {
-        self.nodes.reserve(1)?;
-        let made = NodeId::new(self.nodes.len());
-        put_child(&mut self.nodes, place, made)?;
-        add_node(self.alloc, &mut self.nodes, about);
-        set_parent(&mut self.nodes, made, Some(parent_of_place(place)));
+        let _nodes = &self.nodes;
+        let made = self.create(about)?;
+        self.put(place, made);
         Ok(())
     }
 
@@ -226,7 +229,7 @@ impl Forest {
         ensures err { OnErr result (self.new ≡ self.old) }
         ensures fault { IfErr result (λ fault. fault ≡ Memory) }
     {
-        match previous_child(&self.nodes, place) {
+        match self.previous_at(place) {
             Some(previous) => join_text(&mut self.nodes, previous, text),
             None => Ok(false),
         }
@@ -258,7 +261,10 @@ impl Forest {
         ensures grows { node_count self.old ≤ node_count self.new }
     {
         match child {
-            NodeOrText::AppendNode(node) => self.put(place, node),
+            NodeOrText::AppendNode(node) => {
+                self.put(place, node);
+                Ok(())
+            }
             NodeOrText::AppendText(text) => self.put_text(place, text),
         }
     }
@@ -417,13 +423,15 @@ impl TreeSink for Forest {
 
     fn remove_from_parent(&mut self, target: &NodeId) {
         if let Some(parent) = self.parent(*target) {
-            take_child(&mut self.nodes, parent, *target);
-            set_parent(&mut self.nodes, *target, None);
+            unlink(&mut self.nodes, parent, *target);
         }
     }
 
     fn reparent_children(&mut self, from: &NodeId, to: &NodeId) -> Result<(), ParseFault> {
-        move_children(self.alloc, &mut self.nodes, *from, *to)
+        if from.number() != to.number() {
+            move_children(&mut self.nodes, *from, *to);
+        }
+        Ok(())
     }
 
     fn is_mathml_annotation_xml_integration_point(&self, target: &NodeId) -> bool {

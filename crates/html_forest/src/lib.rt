@@ -3,6 +3,8 @@
 
 mod children;
 mod forest;
+mod link;
+mod merge;
 mod node;
 mod nodes;
 

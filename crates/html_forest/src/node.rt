@@ -1,6 +1,10 @@
 //! What a forest keeps of each node.
 ghost use Rattle.std.specs.Prelude.{◌≡◌};
+ghost use Rattle.markup.specs.Forest.{parent_at};
+ghost use Rattle.html_forest.specs.Links.{next_in};
+ghost use Rattle.html_forest.specs.Views.{place_view};
 
+use crate::link::Links;
 use markup::{Attributes, QualName, Text};
 use std::marker::Model;
 
@@ -77,8 +81,7 @@ pub enum NodeData {
 #[derive(Debug, Drop)]
 pub(crate) struct Node {
     pub about: NodeData,
-    pub parent: Option<NodeId>,
-    pub children: Vec<NodeId>,
+    pub links: Links,
 }
 
 /// Where a node is put: last in a node, or in a node just before one of its children.
@@ -86,4 +89,16 @@ pub(crate) struct Node {
 pub(crate) enum Place {
     Last(NodeId),
     Before(NodeId, NodeId),
+}
+
+impl Place {
+    /// The node among whose children a place is, and the child that stands just after it.
+    pub(crate) fn around(&self) -> (NodeId, Option<NodeId>)
+        ensures { result ≡ (parent_at (place_view self.now), next_in (place_view self.now)) }
+    {
+        match self {
+            Place::Last(parent) => (*parent, None),
+            Place::Before(parent, sibling) => (*parent, Some(*sibling)),
+        }
+    }
 }

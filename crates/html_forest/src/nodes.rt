@@ -1,159 +1,176 @@
 //! Changes of the nodes, one at a time. They know nothing of what makes a forest.
-ghost use Rattle.std.specs.Prelude.{◌≡◌, ◌+◌, ◌<◌, ◌≤◌, ℕ, Bool, [], ◌∷◌, ◌++◌, length, Some, None, OnOk, OnErr, IfOk, IfErr, true, is_some, slice_set, slice_index_or, vec_len};
+ghost use Rattle.std.specs.Prelude.{◌≡◌, ◌+◌, ◌<◌, ◌≤◌, ℕ, ◌∷◌, ◌++◌, [], Some, None, OnOk, OnErr, IfOk, IfErr, IfSome, is_some, slice_set, vec_len};
 ghost use Rattle.std.specs.Vec.{vec_capacity};
 ghost use Rattle.markup.specs.declared.fault.ParseFault.TheVariants.{Memory};
-ghost use Rattle.markup.specs.Names.{has_attribute};
-ghost use Rattle.markup.specs.Forest.{children_with, no_node, parent_at, previous_in, put_before, text_of, those_before, last_of, is_among, with_attributes, with_missing, without};
-ghost use Rattle.html_forest.specs.Views.{about_of, contents_in, data_view, joined_nodes, links_of, list_of, nodes_view, place_view, with_list, with_parent, with_parents};
+ghost use Rattle.markup.specs.Forest.{text_of, with_attributes};
+ghost use Rattle.html_forest.specs.Links.{adopted, before_set, behind_set, emptied, ended_by, led_by, link_at, moved_behind, moved_to, no_links, placed, unplaced};
+ghost use Rattle.html_forest.specs.Views.{about_at, about_of, about_with, abouts_of, joined_abouts, links_of, walk_from, IsWalk};
 
-use crate::node::{Node, NodeData, NodeId, Place};
-use markup::{Attribute, Attributes, ParseFault, QualName, Text};
+use crate::link::{Link, Links};
+use crate::merge::merge;
+use crate::node::{Node, NodeData, NodeId};
+use markup::{Attributes, ParseFault, Text};
 use std::alloc::Global;
-use std::mem;
 
 /// Adds a node that stands nowhere.
-pub fn add_node(alloc: Global, nodes: &mut Vec<Node>, about: NodeData)
+pub fn add_node(nodes: &mut Vec<Node>, about: NodeData)
     requires { vec_len nodes.old < vec_capacity nodes.old }
-    ensures nodes { nodes_view nodes.new.items ≡ nodes_view nodes.old.items ++ record { about = data_view about; children = [] } ∷ [] }
-    ensures links { links_of nodes.new.items ≡ links_of nodes.old.items ++ (None, contents_in about) ∷ [] }
+    ensures abouts { abouts_of nodes.new.items ≡ abouts_of nodes.old.items ++ about_of about ∷ [] }
+    ensures links { links_of nodes.new.items ≡ links_of nodes.old.items ++ no_links ∷ [] }
     ensures len { vec_len nodes.new ≡ vec_len nodes.old + 1 }
     ensures capacity { vec_capacity nodes.new ≡ vec_capacity nodes.old }
 {
     nodes.push_reserved(Node {
         about,
-        parent: None,
-        children: Vec::new(alloc),
+        links: Links {
+            parent: Link::none(),
+            previous: Link::none(),
+            next: Link::none(),
+            first: Link::none(),
+            last: Link::none(),
+        },
     });
 }
 
-/// Notes which parent a node has.
-pub fn set_parent(nodes: &mut Vec<Node>, child: NodeId, parent: Option<NodeId>)
+/// The neighbours of a node.
+pub fn links(nodes: &Vec<Node>, at: NodeId) -> Links
+    requires { at < vec_len nodes.now }
+    ensures { result ≡ link_at (links_of nodes.now.items) at }
+{
+    nodes[at.number()].links
+}
+
+/// Gives a node other neighbours.
+fn set_links(nodes: &mut Vec<Node>, at: NodeId, links: Links)
+    requires { at < vec_len nodes.old }
+    ensures abouts { abouts_of nodes.new.items ≡ abouts_of nodes.old.items }
+    ensures links { links_of nodes.new.items ≡ slice_set (links_of nodes.old.items) at links }
+    ensures len { vec_len nodes.new ≡ vec_len nodes.old }
+{
+    nodes[at.number()].links = links;
+}
+
+/// Notes what stands behind a node, or else first in its parent.
+fn set_behind(nodes: &mut Vec<Node>, parent: NodeId, previous: Option<NodeId>, to: Link)
+    requires parent { parent < vec_len nodes.old }
+    requires previous { IfSome previous (λ id. id < vec_len nodes.old) }
+    ensures abouts { abouts_of nodes.new.items ≡ abouts_of nodes.old.items }
+    ensures links { (n : ℕ) → link_at (links_of nodes.new.items) n ≡ behind_set parent previous to n (link_at (links_of nodes.old.items) n) }
+    ensures len { vec_len nodes.new ≡ vec_len nodes.old }
+{
+    match previous {
+        Some(id) => {
+            let mut changed = links(nodes, id);
+            changed.next = to;
+            set_links(nodes, id, changed);
+        }
+        None => {
+            let mut changed = links(nodes, parent);
+            changed.first = to;
+            set_links(nodes, parent, changed);
+        }
+    }
+}
+
+/// Notes what stands before a node, or else last in its parent.
+fn set_before(nodes: &mut Vec<Node>, parent: NodeId, next: Option<NodeId>, to: Link)
+    requires parent { parent < vec_len nodes.old }
+    requires next { IfSome next (λ id. id < vec_len nodes.old) }
+    ensures abouts { abouts_of nodes.new.items ≡ abouts_of nodes.old.items }
+    ensures links { (n : ℕ) → link_at (links_of nodes.new.items) n ≡ before_set parent next to n (link_at (links_of nodes.old.items) n) }
+    ensures len { vec_len nodes.new ≡ vec_len nodes.old }
+{
+    match next {
+        Some(id) => {
+            let mut changed = links(nodes, id);
+            changed.previous = to;
+            set_links(nodes, id, changed);
+        }
+        None => {
+            let mut changed = links(nodes, parent);
+            changed.last = to;
+            set_links(nodes, parent, changed);
+        }
+    }
+}
+
+/// Notes under which parent a node stands, and between which neighbours.
+fn set_place(nodes: &mut Vec<Node>, child: NodeId, parent: Link, previous: Link, next: Link)
     requires { child < vec_len nodes.old }
-    ensures nodes { nodes_view nodes.new.items ≡ nodes_view nodes.old.items }
-    ensures links { links_of nodes.new.items ≡ with_parent (links_of nodes.old.items) child parent }
+    ensures abouts { abouts_of nodes.new.items ≡ abouts_of nodes.old.items }
+    ensures links { (n : ℕ) → link_at (links_of nodes.new.items) n ≡ moved_to child parent previous next n (link_at (links_of nodes.old.items) n) }
     ensures len { vec_len nodes.new ≡ vec_len nodes.old }
-    ensures capacity { vec_capacity nodes.new ≡ vec_capacity nodes.old }
 {
-    nodes[child.number()].parent = parent;
+    let mut changed = links(nodes, child);
+    changed.parent = parent;
+    changed.previous = previous;
+    changed.next = next;
+    set_links(nodes, child, changed);
 }
 
-/// Where a number is in a list, or the list's length.
-fn index_of(children: &[NodeId], sibling: NodeId) -> usize
-    ensures within { result ≤ length children.now }
-    ensures before { (k : ℕ) → k < result → slice_index_or children.now k 0 ≡ sibling → ⊥ }
-    ensures found { result < length children.now → slice_index_or children.now result 0 ≡ sibling }
-{
-    for (i, id) in children.iter().enumerate() {
-        if *id == sibling {
-            return i;
-        }
-    }
-    children.len()
-}
-
-/// Puts a number before another one in a list.
-fn insert_before(
-    children: &mut Vec<NodeId>,
-    sibling: NodeId,
+/// Puts a node under a parent, between two neighbours.
+pub fn link_between(
+    nodes: &mut Vec<Node>,
+    parent: NodeId,
+    previous: Option<NodeId>,
+    next: Option<NodeId>,
     child: NodeId,
-) -> Result<(), ParseFault>
-    ensures ok { OnOk result (children.new.items ≡ put_before child sibling children.old.items) }
-    ensures err { OnErr result (children.new.items ≡ children.old.items) }
-    ensures fault { IfErr result (λ fault. fault ≡ Memory) }
-{
-    let at = index_of(children, sibling);
-    if at < children.len() {
-        children.insert(at, child)?;
-    }
-    Ok(())
-}
-
-/// Puts a number at a place of a list.
-fn insert(children: &mut Vec<NodeId>, place: &Place, child: NodeId) -> Result<(), ParseFault>
-    ensures ok { OnOk result (children.new.items ≡ children_with (place_view place.now) child children.old.items) }
-    ensures err { OnErr result (children.new.items ≡ children.old.items) }
-    ensures fault { IfErr result (λ fault. fault ≡ Memory) }
-{
-    match place {
-        Place::Last(_) => {
-            children.push(child)?;
-            Ok(())
-        }
-        Place::Before(_, sibling) => insert_before(children, *sibling, child),
-    }
-}
-
-/// The node whose list a place is in.
-pub fn parent_of_place(place: &Place) -> NodeId
-    ensures { result ≡ parent_at (place_view place.now) }
-{
-    match place {
-        Place::Last(parent) => *parent,
-        Place::Before(parent, _) => *parent,
-    }
-}
-
-/// Puts a number at a place.
-pub fn put_child(nodes: &mut Vec<Node>, place: &Place, child: NodeId) -> Result<(), ParseFault>
-    requires { parent_at (place_view place.now) < vec_len nodes.old }
-    ensures ok { OnOk result (nodes_view nodes.new.items ≡ with_list (nodes_view nodes.old.items) (parent_at (place_view place.now)) (children_with (place_view place.now) child (list_of (nodes_view nodes.old.items) (parent_at (place_view place.now))))) }
-    ensures err { OnErr result (nodes_view nodes.new.items ≡ nodes_view nodes.old.items) }
-    ensures fault { IfErr result (λ fault. fault ≡ Memory) }
-    ensures links { links_of nodes.new.items ≡ links_of nodes.old.items }
-    ensures len { vec_len nodes.new ≡ vec_len nodes.old }
-    ensures capacity { vec_capacity nodes.new ≡ vec_capacity nodes.old }
-{
-    let parent = parent_of_place(place);
-    let node = &mut nodes[parent.number()];
-    insert(&mut node.children, place, child)?;
-    Ok(())
-}
-
-/// Takes a number out of a list.
-fn take_out(children: &mut Vec<NodeId>, child: NodeId)
-    ensures { children.new.items ≡ without child children.old.items }
-{
-    children.retain(|other| *other != child);
-}
-
-/// Takes a number out of the children of a node.
-pub fn take_child(nodes: &mut Vec<Node>, parent: NodeId, child: NodeId)
-    requires { parent < vec_len nodes.old }
-    ensures nodes { nodes_view nodes.new.items ≡ with_list (nodes_view nodes.old.items) parent (without child (list_of (nodes_view nodes.old.items) parent)) }
-    ensures links { links_of nodes.new.items ≡ links_of nodes.old.items }
+)
+    requires parent { parent < vec_len nodes.old }
+    requires previous { IfSome previous (λ id. id < vec_len nodes.old) }
+    requires next { IfSome next (λ id. id < vec_len nodes.old) }
+    requires child { child < vec_len nodes.old }
+    ensures abouts { abouts_of nodes.new.items ≡ abouts_of nodes.old.items }
+    ensures links { (n : ℕ) → link_at (links_of nodes.new.items) n ≡ placed parent previous next child n (link_at (links_of nodes.old.items) n) }
     ensures len { vec_len nodes.new ≡ vec_len nodes.old }
 {
-    let node = &mut nodes[parent.number()];
-    take_out(&mut node.children, child);
+    let above = Link::new(Some(parent));
+    let before = Link::new(previous);
+    let behind = Link::new(next);
+    set_place(nodes, child, above, before, behind);
+    set_before(nodes, parent, behind.node(), Link::new(Some(child)));
+    set_behind(nodes, parent, before.node(), Link::new(Some(child)));
 }
 
-/// The number just before another one in a list, or else its last.
-fn last_before(children: &[NodeId], sibling: NodeId) -> Option<NodeId>
-    ensures { result ≡ last_of (those_before sibling children.now) }
+/// Takes a node out of its parent, from between its neighbours.
+pub fn unlink(nodes: &mut Vec<Node>, parent: NodeId, child: NodeId)
+    requires parent { parent < vec_len nodes.old }
+    requires child { child < vec_len nodes.old }
+    requires previous { IfSome (link_at (links_of nodes.old.items) child).previous (λ id. id < vec_len nodes.old) }
+    requires next { IfSome (link_at (links_of nodes.old.items) child).next (λ id. id < vec_len nodes.old) }
+    ensures abouts { abouts_of nodes.new.items ≡ abouts_of nodes.old.items }
+    ensures links { (n : ℕ) → link_at (links_of nodes.new.items) n ≡ unplaced parent (link_at (links_of nodes.old.items) child).previous (link_at (links_of nodes.old.items) child).next child n (link_at (links_of nodes.old.items) n) }
+    ensures len { vec_len nodes.new ≡ vec_len nodes.old }
 {
-    let at = index_of(children, sibling);
-    children[..at].last().copied()
+    let Links { previous, next, .. } = links(nodes, child);
+    set_place(nodes, child, Link::none(), Link::none(), Link::none());
+    set_before(nodes, parent, next.node(), previous);
+    set_behind(nodes, parent, previous.node(), next);
 }
 
-/// The node just before a place.
-pub fn previous_child(nodes: &Vec<Node>, place: &Place) -> Option<NodeId>
-    requires { parent_at (place_view place.now) < vec_len nodes.now }
-    ensures { result ≡ previous_in (place_view place.now) (list_of (nodes_view nodes.now.items) (parent_at (place_view place.now))) }
+/// Notes under which parent some nodes stand that are next to one another, from `first` on.
+fn adopt(nodes: &mut Vec<Node>, first: Option<NodeId>, parent: NodeId)
+    requires first { IsWalk nodes.old.items first }
+    requires parent { parent < vec_len nodes.old }
+    ensures abouts { abouts_of nodes.new.items ≡ abouts_of nodes.old.items }
+    ensures links { (n : ℕ) → link_at (links_of nodes.new.items) n ≡ adopted parent (walk_from nodes.old.items first) n (link_at (links_of nodes.old.items) n) }
+    ensures len { vec_len nodes.new ≡ vec_len nodes.old }
 {
-    let parent = parent_of_place(place);
-    let node = &nodes[parent.number()];
-    match place {
-        Place::Last(_) => node.children.last().copied(),
-        Place::Before(_, sibling) => last_before(&node.children, *sibling),
+    let mut at = first;
+    while let Some(child) = at {
+        let mut changed = links(nodes, child);
+        at = changed.next.node();
+        changed.parent = Link::new(Some(parent));
+        set_links(nodes, child, changed);
     }
 }
 
 /// Adds text at the end of a text node, and says whether it is one.
 pub fn join_text(nodes: &mut Vec<Node>, at: NodeId, more: &Text) -> Result<bool, ParseFault>
     requires { at < vec_len nodes.old }
-    ensures joined { IfOk result (λ joined. joined ≡ is_some (text_of (about_of (nodes_view nodes.old.items) at))) }
-    ensures ok { OnOk result (nodes_view nodes.new.items ≡ joined_nodes (nodes_view nodes.old.items) at more.now (text_of (about_of (nodes_view nodes.old.items) at))) }
-    ensures err { OnErr result (nodes_view nodes.new.items ≡ nodes_view nodes.old.items) }
+    ensures joined { IfOk result (λ joined. joined ≡ is_some (text_of (about_at (abouts_of nodes.old.items) at).0)) }
+    ensures ok { OnOk result (abouts_of nodes.new.items ≡ joined_abouts (abouts_of nodes.old.items) at more.now (text_of (about_at (abouts_of nodes.old.items) at).0)) }
+    ensures err { OnErr result (abouts_of nodes.new.items ≡ abouts_of nodes.old.items) }
     ensures fault { IfErr result (λ fault. fault ≡ Memory) }
     ensures links { links_of nodes.new.items ≡ links_of nodes.old.items }
     ensures len { vec_len nodes.new ≡ vec_len nodes.old }
@@ -168,42 +185,6 @@ pub fn join_text(nodes: &mut Vec<Node>, at: NodeId, more: &Text) -> Result<bool,
     }
 }
 
-/// Whether one of the attributes has a name.
-fn has_attribute(attributes: &[Attribute], name: &QualName) -> bool
-    ensures { result ≡ has_attribute name.now attributes.now }
-{
-    attributes.iter().any(|attribute| attribute.name == *name)
-}
-
-/// Adds, in order, those of other attributes whose name is missing. There is room for all of them.
-fn add_missing(attributes: &mut Vec<Attribute>, others: Vec<Attribute>)
-    requires { vec_len attributes.old + vec_len others ≤ vec_capacity attributes.old }
-    ensures { attributes.new.items ≡ with_missing attributes.old.items others.items }
-{
-    for attribute in others {
-        if !has_attribute(attributes, &attribute.name) {
-            attributes.push_reserved(attribute);
-        }
-    }
-}
-
-/// Gives attributes, in order, those of others whose name they lack.
-fn merge(alloc: Global, attributes: &mut Attributes, others: Attributes) -> Result<(), ParseFault>
-    ensures ok { OnOk result (attributes.new ≡ with_missing attributes.old others) }
-    ensures err { OnErr result (attributes.new ≡ attributes.old) }
-    ensures fault { IfErr result (λ fault. fault ≡ Memory) }
-{
-    let others = others.into_vec();
-    let mut list = mem::replace(attributes, Attributes::new(alloc)).into_vec();
-    let reserved = list.reserve(others.len());
-    if reserved.is_ok() {
-        add_missing(&mut list, others);
-    }
-    *attributes = Attributes::from_vec(list);
-    reserved?;
-    Ok(())
-}
-
 /// Gives an element, in order, those of the attributes whose name it lacks.
 pub fn add_attributes(
     alloc: Global,
@@ -212,8 +193,8 @@ pub fn add_attributes(
     others: Attributes,
 ) -> Result<(), ParseFault>
     requires { at < vec_len nodes.old }
-    ensures ok { OnOk result (nodes_view nodes.new.items ≡ slice_set (nodes_view nodes.old.items) at (record { about = with_attributes (about_of (nodes_view nodes.old.items) at) others; children = list_of (nodes_view nodes.old.items) at })) }
-    ensures err { OnErr result (nodes_view nodes.new.items ≡ nodes_view nodes.old.items) }
+    ensures ok { OnOk result (abouts_of nodes.new.items ≡ about_with (abouts_of nodes.old.items) at (with_attributes (about_at (abouts_of nodes.old.items) at).0 others)) }
+    ensures err { OnErr result (abouts_of nodes.new.items ≡ abouts_of nodes.old.items) }
     ensures fault { IfErr result (λ fault. fault ≡ Memory) }
     ensures links { links_of nodes.new.items ≡ links_of nodes.old.items }
     ensures len { vec_len nodes.new ≡ vec_len nodes.old }
@@ -228,68 +209,61 @@ pub fn add_attributes(
     }
 }
 
-/// Gives a node other children, and gives back those that it had.
-fn replace_children(nodes: &mut Vec<Node>, at: NodeId, children: Vec<NodeId>) -> Vec<NodeId>
-    requires { at < vec_len nodes.old }
-    ensures value { result.items ≡ list_of (nodes_view nodes.old.items) at }
-    ensures nodes { nodes_view nodes.new.items ≡ with_list (nodes_view nodes.old.items) at children.items }
-    ensures links { links_of nodes.new.items ≡ links_of nodes.old.items }
+/// Notes that a node has no children.
+fn set_childless(nodes: &mut Vec<Node>, parent: NodeId)
+    requires { parent < vec_len nodes.old }
+    ensures abouts { abouts_of nodes.new.items ≡ abouts_of nodes.old.items }
+    ensures links { (n : ℕ) → link_at (links_of nodes.new.items) n ≡ emptied parent n (link_at (links_of nodes.old.items) n) }
     ensures len { vec_len nodes.new ≡ vec_len nodes.old }
 {
-    let node = &mut nodes[at.number()];
-    mem::replace(&mut node.children, children)
+    let mut changed = links(nodes, parent);
+    changed.first = Link::none();
+    changed.last = Link::none();
+    set_links(nodes, parent, changed);
 }
 
-/// Adds children behind those of a node.
-fn extend_children(nodes: &mut Vec<Node>, at: NodeId, children: &[NodeId]) -> Result<(), ParseFault>
-    requires { at < vec_len nodes.old }
-    ensures ok { OnOk result (nodes_view nodes.new.items ≡ with_list (nodes_view nodes.old.items) at (list_of (nodes_view nodes.old.items) at ++ children.now)) }
-    ensures err { OnErr result (nodes_view nodes.new.items ≡ nodes_view nodes.old.items) }
-    ensures fault { IfErr result (λ fault. fault ≡ Memory) }
-    ensures links { links_of nodes.new.items ≡ links_of nodes.old.items }
+/// Notes which child of a node is its last.
+fn set_last(nodes: &mut Vec<Node>, parent: NodeId, last: Link)
+    requires { parent < vec_len nodes.old }
+    ensures abouts { abouts_of nodes.new.items ≡ abouts_of nodes.old.items }
+    ensures links { (n : ℕ) → link_at (links_of nodes.new.items) n ≡ ended_by parent last n (link_at (links_of nodes.old.items) n) }
     ensures len { vec_len nodes.new ≡ vec_len nodes.old }
 {
-    let node = &mut nodes[at.number()];
-    node.children.extend_from_slice(children)?;
-    Ok(())
+    let mut changed = links(nodes, parent);
+    changed.last = last;
+    set_links(nodes, parent, changed);
 }
 
-/// Notes which parent some nodes have.
-fn set_parents(nodes: &mut Vec<Node>, children: &[NodeId], parent: NodeId)
-    requires { (n : ℕ) → is_among n children.now ≡ true → n < vec_len nodes.old }
-    ensures nodes { nodes_view nodes.new.items ≡ nodes_view nodes.old.items }
-    ensures links { links_of nodes.new.items ≡ with_parents (links_of nodes.old.items) children.now (Some parent) }
+/// Notes what stands before a node.
+fn set_previous(nodes: &mut Vec<Node>, child: NodeId, previous: Link)
+    requires { child < vec_len nodes.old }
+    ensures abouts { abouts_of nodes.new.items ≡ abouts_of nodes.old.items }
+    ensures links { (n : ℕ) → link_at (links_of nodes.new.items) n ≡ led_by child previous n (link_at (links_of nodes.old.items) n) }
+    ensures len { vec_len nodes.new ≡ vec_len nodes.old }
 {
-    for child in children {
-        set_parent(nodes, *child, Some(parent));
-    }
+    let mut changed = links(nodes, child);
+    changed.previous = previous;
+    set_links(nodes, child, changed);
 }
 
-/// Moves all children of one node, in order, behind those of another.
-pub fn move_children(
-    alloc: Global,
-    nodes: &mut Vec<Node>,
-    from: NodeId,
-    to: NodeId,
-) -> Result<(), ParseFault>
+/// Moves all children of one node, in order, behind those of another one.
+pub fn move_children(nodes: &mut Vec<Node>, from: NodeId, to: NodeId)
     requires from { from < vec_len nodes.old }
     requires to { to < vec_len nodes.old }
-    requires children { (n : ℕ) → is_among n (list_of (nodes_view nodes.old.items) from) ≡ true → n < vec_len nodes.old }
-    ensures ok { OnOk result (nodes_view nodes.new.items ≡ (let emptied = with_list (nodes_view nodes.old.items) from [] in with_list emptied to (list_of emptied to ++ list_of (nodes_view nodes.old.items) from))) }
-    ensures err { OnErr result (nodes_view nodes.new.items ≡ nodes_view nodes.old.items) }
-    ensures fault { IfErr result (λ fault. fault ≡ Memory) }
-    ensures moved { OnOk result (links_of nodes.new.items ≡ with_parents (links_of nodes.old.items) (list_of (nodes_view nodes.old.items) from) (Some to)) }
-    ensures stayed { OnErr result (links_of nodes.new.items ≡ links_of nodes.old.items) }
+    requires walk { IsWalk nodes.old.items (link_at (links_of nodes.old.items) from).first }
+    requires first { IfSome (link_at (links_of nodes.old.items) from).first (λ id. id < vec_len nodes.old) }
+    requires tail { IfSome (link_at (links_of nodes.old.items) to).last (λ id. id < vec_len nodes.old) }
+    ensures abouts { abouts_of nodes.new.items ≡ abouts_of nodes.old.items }
+    ensures links { (n : ℕ) → link_at (links_of nodes.new.items) n ≡ moved_behind from to (link_at (links_of nodes.old.items) to).last (link_at (links_of nodes.old.items) from).first (link_at (links_of nodes.old.items) from).last (walk_from nodes.old.items (link_at (links_of nodes.old.items) from).first) n (link_at (links_of nodes.old.items) n) }
+    ensures len { vec_len nodes.new ≡ vec_len nodes.old }
 {
-    let moved = replace_children(nodes, from, Vec::new(alloc));
-    match extend_children(nodes, to, &moved) {
-        Ok(()) => {
-            set_parents(nodes, &moved, to);
-            Ok(())
-        }
-        Err(fault) => {
-            let _empty = replace_children(nodes, from, moved);
-            Err(fault)
-        }
+    let Links { first, last, .. } = links(nodes, from);
+    let Links { last: tail, .. } = links(nodes, to);
+    if let Some(head) = first.node() {
+        adopt(nodes, first.node(), to);
+        set_behind(nodes, to, tail.node(), first);
+        set_previous(nodes, head, tail);
+        set_last(nodes, to, last);
+        set_childless(nodes, from);
     }
 }

@@ -1,7 +1,13 @@
 use Rattle.html_forest.proofs.Kept.{IsKept-with_node}
+use Rattle.html_forest.proofs.Views.{IsKept-shown, shown}
 use Rattle.html_forest.proofs.forest.Forest.create.Goals as goal
 
 pub invariant_of-self-2 : goal.invariant_of-self-2
 invariant_of-self-2 c =
-    rw (c.add_node.ensures.nodes, c.add_node.ensures.links, c.in_ok-reserve.ensures.items, c.requires.no_contents)
-    (IsKept-with_node _ _ _ c.self.invariant c.requires.ordinary)
+    rw (c.add_node.ensures.abouts, c.add_node.ensures.links, c.in_ok-reserve.ensures.items, c.requires.no_contents)
+    (IsKept-shown _ _ _ (IsKept-with_node _ _ _ _ c.self.invariant c.requires.ordinary))
+
+pub returns-clause-ok : goal.returns-clause-ok
+returns-clause-ok c =
+    rw (← c.self.view_is, c.add_node.ensures.abouts, c.add_node.ensures.links, c.in_ok-reserve.ensures.items, c.requires.no_contents)
+    (shown _ _ _ (IsKept-with_node _ _ _ _ c.self.invariant c.requires.ordinary))
