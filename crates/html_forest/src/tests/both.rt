@@ -58,7 +58,11 @@ fn same_children(forest: &Forest, id: NodeId, wanted: &[usize]) -> bool {
         }
         count = usize::saturating_add(count, 1);
     }
-    count == wanted.len() && forest.children(id).count() == wanted.len()
+    let mut all = 0;
+    for _child in forest.children(id) {
+        all = usize::saturating_add(all, 1);
+    }
+    count == wanted.len() && all == wanted.len()
 }
 
 fn same_node(forest: &Forest, plain: &Plain, at: usize, node: &PlainNode) -> bool {
@@ -159,20 +163,41 @@ fn take_both(
     }
 }
 
+// The first of so many steps after which the two differ.
+fn first_difference(alloc: Global, start: u32, count: u32) -> Result<Option<u32>, ParseFault> {
+    let mut forest = Forest::new(alloc)?;
+    let mut plain = Plain::new(alloc)?;
+    let mut seed = start;
+    for i in 0..count {
+        seed = next(seed);
+        let step = step(seed, plain.nodes.len());
+        if !take_both(alloc, &mut forest, &mut plain, step)? {
+            return Ok(Some(i));
+        }
+    }
+    Ok(None)
+}
+
 #[test]
 fn forest_is_as_plain(rt: HostRuntime) -> Result<(), Fail> {
     for start in [1, 7, 11, 2026] {
-        let mut forest = Forest::new(rt.alloc())?;
-        let mut plain = Plain::new(rt.alloc())?;
-        let mut seed = start;
-        for i in 0..200u32 {
-            seed = next(seed);
-            let step = step(seed, plain.nodes.len());
-            assert!(rt;
-                take_both(rt.alloc(), &mut forest, &mut plain, step)?,
-                "at {start}, step {i}"
-            );
-        }
+        assert_eq!(rt;
+            first_difference(rt.alloc(), start, 200)?,
+            None,
+            "from {start}"
+        );
+    }
+    Ok(())
+}
+
+#[test]
+fn forest_is_as_plain_in_many_short_runs(rt: HostRuntime) -> Result<(), Fail> {
+    for start in 0..3000 {
+        assert_eq!(rt;
+            first_difference(rt.alloc(), start, 24)?,
+            None,
+            "from {start}"
+        );
     }
     Ok(())
 }
