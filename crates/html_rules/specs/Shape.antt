@@ -18,36 +18,37 @@ has_root (x ∷ xs) = choose (is_in set.Html x) (λ _. not (is_nonempty xs)) (λ
 abbrev pub is_at_root : List Open → Bool
 is_at_root xs = current_is (is_in set.Html) xs
 
--- what each mode asks of the open elements; the two modes of text are asked with their original modes
-abbrev pub fits_in : InsertionMode → List Open → State → Bool
-fits_in Initial xs s = not (is_nonempty xs)
-fits_in BeforeHtml xs s = not (is_nonempty xs)
-fits_in InHead xs s = has_root xs && is_some s.head_elem && not (is_at_root xs)
-fits_in InHeadNoscript xs s = has_root xs && is_some s.head_elem && not (is_at_root xs)
-fits_in AfterHead xs s = has_root xs && is_some s.head_elem && is_at_root xs
-fits_in InTemplate xs s = has_root xs && is_nonempty s.template_modes
-fits_in InCell xs s = has_root xs && in_scope set.TableScope (is_in set.TdTh) xs
-fits_in Text xs s = false
-fits_in InTableText xs s = false
-fits_in mode xs s = has_root xs
+-- what each mode asks of the open elements, the head element pointer and the template insertion modes; the two modes of text are asked
+-- with their original modes
+abbrev pub fits_in : InsertionMode → List Open → Option ℕ → List InsertionMode → Bool
+fits_in Initial xs head modes = not (is_nonempty xs)
+fits_in BeforeHtml xs head modes = not (is_nonempty xs)
+fits_in InHead xs head modes = has_root xs && is_some head && not (is_at_root xs)
+fits_in InHeadNoscript xs head modes = has_root xs && is_some head && not (is_at_root xs)
+fits_in AfterHead xs head modes = has_root xs && is_some head && is_at_root xs
+fits_in InTemplate xs head modes = has_root xs && is_nonempty modes
+fits_in InCell xs head modes = has_root xs && in_scope set.TableScope (is_in set.TdTh) xs
+fits_in Text xs head modes = false
+fits_in InTableText xs head modes = false
+fits_in mode xs head modes = has_root xs
 
-abbrev pub fits_in_original : Option InsertionMode → List Open → State → Bool
-fits_in_original None xs s = false
-fits_in_original (Some original) xs s = fits_in original xs s
+abbrev pub fits_in_original : Option InsertionMode → List Open → Option ℕ → List InsertionMode → Bool
+fits_in_original None xs head modes = false
+fits_in_original (Some original) xs head modes = fits_in original xs head modes
 
 -- the mode "text" has its own element on top
-abbrev pub fits_mode : InsertionMode → State → Bool
-fits_mode Text s = has_root s.open_elems && not (is_at_root s.open_elems) && fits_in_original s.orig_mode (without_current s.open_elems) s
-fits_mode InTableText s = fits_in_original s.orig_mode s.open_elems s
-fits_mode mode s = fits_in mode s.open_elems s
+abbrev pub fits_mode : InsertionMode → Option InsertionMode → List Open → Option ℕ → List InsertionMode → Bool
+fits_mode Text original xs head modes = has_root xs && not (is_at_root xs) && fits_in_original original (without_current xs) head modes
+fits_mode InTableText original xs head modes = fits_in_original original xs head modes
+fits_mode mode original xs head modes = fits_in mode xs head modes
 
 abbrev pub one_if : Bool → ℕ
 one_if true = 1
 one_if false = 0
 
 -- each open template has a template insertion mode, and so has a context that is one
-abbrev pub has_template_modes : State → Bool
-has_template_modes s = nat_eq (length s.template_modes) (open_templates s.open_elems + one_if (context_is set.Template s.context_elem))
+abbrev pub has_template_modes : List InsertionMode → List Open → Option Open → Bool
+has_template_modes modes xs context = nat_eq (length modes) (open_templates xs + one_if (context_is set.Template context))
 
 unfoldable pub is_fit : State → Bool
-is_fit s = fits_mode s.mode s && has_template_modes s
+is_fit s = fits_mode s.mode s.orig_mode s.open_elems s.head_elem s.template_modes && has_template_modes s.template_modes s.open_elems s.context_elem
