@@ -1,4 +1,9 @@
+pub mod CharacterTurns
 pub mod LouderActions
 pub mod LouderAdoption
 pub mod LouderSteps
 pub mod LouderTurns
+pub mod Reopened
+pub mod Replies
+pub mod Rises
+pub mod StepLaws

@@ -1,1 +1,3 @@
 pub mod Errors
+pub mod Lawful
+pub mod Ready

@@ -2,8 +2,15 @@
 #![tactic(auto)]
 
 ghost use Rattle.html_rules_laws.specs.Errors.{AreErrorsCounted};
+ghost use Rattle.html_rules_laws.specs.Lawful.{AreTokensTakenLawfully};
 
 /// The rules do not look at the number of errors, and only count it on.
 pub fn errors_are_counted()
     ensures { AreErrorsCounted }
+{}
+
+/// The rules take tokens as a lawful sink does: text in pieces as in one, empty texts and errors in vain, replies to
+/// tags alone.
+pub fn tokens_are_taken_lawfully()
+    ensures { AreTokensTakenLawfully }
 {}
