@@ -3,6 +3,5 @@
 //! They stand in a crate of their own since a crate is proved twice, without its tests and with them.
 #![tactic(auto)]
 
-pub mod refusing;
 #[cfg(test)]
 mod tests;

@@ -11,6 +11,7 @@ mod memory;
 mod pauses;
 mod raw_text;
 mod references;
+mod refusing;
 mod sinks;
 mod tags;
 mod text;
@@ -292,7 +293,7 @@ fn assert_rows(
 }
 
 /// A page with an item of each kind.
-const WHOLE_PAGE: [Row; 2] = [
+const WHOLE_PAGE: &[Row] = &[
     ("", "eof"),
     (
         "<!doctype html><p class=a&amp;b>1 &lt; 2</p><!-- x --><title>a</p>&gt;</title>z<",
@@ -302,6 +303,6 @@ const WHOLE_PAGE: [Row; 2] = [
 
 #[test]
 fn a_page_is_read(rt: HostRuntime) -> Result<(), Fail> {
-    assert_rows(&rt, rt.alloc(), PAGE, &WHOLE_PAGE)?;
+    assert_rows(&rt, rt.alloc(), PAGE, WHOLE_PAGE)?;
     Ok(())
 }

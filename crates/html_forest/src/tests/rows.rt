@@ -94,7 +94,7 @@ fn rows(rt: HostRuntime) -> Result<(), Fail> {
         Step::Append(1, 1),
     ];
     let template = [Step::Element("template"), Step::AppendText(2, "t")];
-    let cases: [(&[Step], usize, &str); 9] = [
+    let cases: &[(&[Step], usize, &str)] = &[
         (&joined, 1, "'ab'"),
         (&before_text, 1, "'b' 'c'"),
         (&after_text, 1, "'ab' br"),
@@ -105,7 +105,7 @@ fn rows(rt: HostRuntime) -> Result<(), Fail> {
         (&template, 1, ""),
         (&template, 2, "'t'"),
     ];
-    for (steps, node, want) in cases {
+    for &(steps, node, want) in cases {
         let forest = built(rt.alloc(), steps)?;
         let found = children(rt.alloc(), &forest, NodeId::new(node))?;
         assert_eq!(rt; found.as_str(), want);

@@ -28,7 +28,7 @@ fn behind<S: TokenSink + Drop>(
 }
 
 // Texts, and whether nothing is pending behind them.
-const PENDING: [(&str, bool); 20] = [
+const PENDING: &[(&str, bool)] = &[
     ("", true),
     ("a", true),
     ("a\r", true),
@@ -69,7 +69,7 @@ fn assert_pending<S: TokenSink + Drop>(
 
 #[test]
 fn parts_of_items_are_pending(rt: HostRuntime) -> Result<(), Fail> {
-    for row in PENDING {
+    for &row in PENDING {
         assert_pending(&rt, rt.alloc(), list_of(rt.alloc(), PAGE), row)?;
     }
     Ok(())
@@ -89,7 +89,7 @@ fn assert_at_start<S: TokenSink + Drop>(
     Ok(())
 }
 
-const STARTS: [State; 3] = [
+const STARTS: &[State] = &[
     State::Data,
     State::Plaintext,
     State::RawData(RawKind::Rcdata),
@@ -97,7 +97,7 @@ const STARTS: [State; 3] = [
 
 #[test]
 fn nothing_is_pending_at_the_start(rt: HostRuntime) -> Result<(), Fail> {
-    for state in STARTS {
+    for &state in STARTS {
         let setting = Setting {
             initial_state: Some(state),
             table: Table::Not,
@@ -154,7 +154,7 @@ fn calls_behind_the_end_are_refused(rt: HostRuntime) -> Result<(), Fail> {
 }
 
 // What is read before all that follows is text, what is read then, and the tokens.
-const PLAIN: [(&str, &str, &str); 4] = [
+const PLAIN: &[(&str, &str, &str)] = &[
     ("a", "<b>&amp;", "text \"a<b>&amp;\"; eof"),
     ("", "<", "text \"<\"; eof"),
     ("<b>\r", "\n\0</b>", "start b; text \"\n\u{FFFD}</b>\"; eof"),
@@ -199,7 +199,7 @@ fn read_plainly<S: TokenSink + Drop>(
 #[test]
 fn all_that_follows_may_be_text(rt: HostRuntime) -> Result<(), Fail> {
     let alloc = rt.alloc();
-    for (before, text, told) in PLAIN {
+    for &(before, text, told) in PLAIN {
         let sink = read_plainly(&rt, alloc, list_of(alloc, PAGE), before, text)?;
         let words = in_words(alloc, &sink)?;
         assert_eq!(rt; words.as_str(), told);

@@ -3,7 +3,7 @@
 use super::{PAGE, Row, assert_rows};
 use std::test::Fail;
 
-const COMMENTS: [Row; 14] = [
+const COMMENTS: &[Row] = &[
     (
         "<!--a--!>b<!-->c<!--->d",
         "comment \"a\"; text \"b\"; comment \"\"; text \"c\"; comment \"\"; text \"d\"; eof",
@@ -28,11 +28,11 @@ const COMMENTS: [Row; 14] = [
 
 #[test]
 fn comments_are_read(rt: HostRuntime) -> Result<(), Fail> {
-    assert_rows(&rt, rt.alloc(), PAGE, &COMMENTS)?;
+    assert_rows(&rt, rt.alloc(), PAGE, COMMENTS)?;
     Ok(())
 }
 
-const CUT_COMMENTS: [Row; 9] = [
+const CUT_COMMENTS: &[Row] = &[
     ("<!--", "comment \"\"; eof"),
     ("<!---", "comment \"\"; eof"),
     ("<!----", "comment \"\"; eof"),
@@ -46,11 +46,11 @@ const CUT_COMMENTS: [Row; 9] = [
 
 #[test]
 fn comments_may_miss_their_end(rt: HostRuntime) -> Result<(), Fail> {
-    assert_rows(&rt, rt.alloc(), PAGE, &CUT_COMMENTS)?;
+    assert_rows(&rt, rt.alloc(), PAGE, CUT_COMMENTS)?;
     Ok(())
 }
 
-const BOGUS_COMMENTS: [Row; 12] = [
+const BOGUS_COMMENTS: &[Row] = &[
     (
         "</>x</ a><?b?><!c>y</",
         "text \"x\"; comment \" a\"; comment \"?b?\"; comment \"c\"; text \"y</\"; eof",
@@ -70,11 +70,11 @@ const BOGUS_COMMENTS: [Row; 12] = [
 
 #[test]
 fn other_markup_is_a_comment(rt: HostRuntime) -> Result<(), Fail> {
-    assert_rows(&rt, rt.alloc(), PAGE, &BOGUS_COMMENTS)?;
+    assert_rows(&rt, rt.alloc(), PAGE, BOGUS_COMMENTS)?;
     Ok(())
 }
 
-const DOCTYPES: [Row; 12] = [
+const DOCTYPES: &[Row] = &[
     (
         "<!doctype HTML PUBLIC \"a\" 'b' c>",
         "doctype \"html\" \"a\" \"b\"; eof",
@@ -112,11 +112,11 @@ const DOCTYPES: [Row; 12] = [
 
 #[test]
 fn doctypes_are_read(rt: HostRuntime) -> Result<(), Fail> {
-    assert_rows(&rt, rt.alloc(), PAGE, &DOCTYPES)?;
+    assert_rows(&rt, rt.alloc(), PAGE, DOCTYPES)?;
     Ok(())
 }
 
-const FAULTY_DOCTYPES: [Row; 12] = [
+const FAULTY_DOCTYPES: &[Row] = &[
     ("<!DOCTYPE", "doctype - - - quirks; eof"),
     ("<!DOCTYPE ", "doctype - - - quirks; eof"),
     ("<!DOCTYPE h", "doctype \"h\" - - quirks; eof"),
@@ -142,6 +142,6 @@ const FAULTY_DOCTYPES: [Row; 12] = [
 
 #[test]
 fn faulty_doctypes_are_told(rt: HostRuntime) -> Result<(), Fail> {
-    assert_rows(&rt, rt.alloc(), PAGE, &FAULTY_DOCTYPES)?;
+    assert_rows(&rt, rt.alloc(), PAGE, FAULTY_DOCTYPES)?;
     Ok(())
 }

@@ -25,7 +25,7 @@ fn assert_errors(
     Ok(())
 }
 
-const FAULTY_COMMENTS: [(&str, u64); 14] = [
+const FAULTY_COMMENTS: &[(&str, u64)] = &[
     ("<!--a<!--b-->", 1),
     ("<!--a--!>", 1),
     ("<!-->", 1),
@@ -44,11 +44,11 @@ const FAULTY_COMMENTS: [(&str, u64); 14] = [
 
 #[test]
 fn faulty_comments_tell_errors(rt: HostRuntime) -> Result<(), Fail> {
-    assert_errors(&rt, rt.alloc(), PAGE, &FAULTY_COMMENTS)?;
+    assert_errors(&rt, rt.alloc(), PAGE, FAULTY_COMMENTS)?;
     Ok(())
 }
 
-const FAULTY_TAGS: [(&str, u64); 18] = [
+const FAULTY_TAGS: &[(&str, u64)] = &[
     ("a<", 1),
     ("a<1", 1),
     ("<a b=c\"d>", 1),
@@ -71,11 +71,11 @@ const FAULTY_TAGS: [(&str, u64); 18] = [
 
 #[test]
 fn faulty_tags_tell_errors(rt: HostRuntime) -> Result<(), Fail> {
-    assert_errors(&rt, rt.alloc(), PAGE, &FAULTY_TAGS)?;
+    assert_errors(&rt, rt.alloc(), PAGE, FAULTY_TAGS)?;
     Ok(())
 }
 
-const FAULTY_DOCTYPES: [(&str, u64); 9] = [
+const FAULTY_DOCTYPES: &[(&str, u64)] = &[
     ("<!DOCTYPEhtml>", 1),
     ("<!DOCTYPE>", 1),
     ("<!DOCTYPE", 1),
@@ -89,11 +89,11 @@ const FAULTY_DOCTYPES: [(&str, u64); 9] = [
 
 #[test]
 fn faulty_doctypes_tell_errors(rt: HostRuntime) -> Result<(), Fail> {
-    assert_errors(&rt, rt.alloc(), PAGE, &FAULTY_DOCTYPES)?;
+    assert_errors(&rt, rt.alloc(), PAGE, FAULTY_DOCTYPES)?;
     Ok(())
 }
 
-const FAULTY_TEXTS: [(&str, u64); 17] = [
+const FAULTY_TEXTS: &[(&str, u64)] = &[
     ("&#x80;", 1),
     ("&#13x", 1),
     ("&#x;", 1),
@@ -115,7 +115,7 @@ const FAULTY_TEXTS: [(&str, u64); 17] = [
 
 #[test]
 fn faulty_texts_tell_errors(rt: HostRuntime) -> Result<(), Fail> {
-    assert_errors(&rt, rt.alloc(), PAGE, &FAULTY_TEXTS)?;
+    assert_errors(&rt, rt.alloc(), PAGE, FAULTY_TEXTS)?;
     Ok(())
 }
 
@@ -136,7 +136,7 @@ fn sections_without_an_end_tell_errors(rt: HostRuntime) -> Result<(), Fail> {
     Ok(())
 }
 
-const CLEAN_TEXTS: [&str; 9] = [
+const CLEAN_TEXTS: &[&str] = &[
     "",
     "<!DOCTYPE html><p class=\"a&amp;b\">x &lt; y</p><br>",
     "<!doctype html SYSTEM \"about:legacy-compat\">",
@@ -150,7 +150,7 @@ const CLEAN_TEXTS: [&str; 9] = [
 
 #[test]
 fn clean_texts_tell_none(rt: HostRuntime) -> Result<(), Fail> {
-    for text in CLEAN_TEXTS {
+    for &text in CLEAN_TEXTS {
         for setting in [PAGE, exact(PAGE)] {
             assert_eq!(rt; errors(rt.alloc(), setting, text)?, 0, "{text}");
         }
@@ -159,7 +159,7 @@ fn clean_texts_tell_none(rt: HostRuntime) -> Result<(), Fail> {
 }
 
 // Texts, and how many of their characters are errors where those are told.
-const CHARACTERS: [(&str, u64); 22] = [
+const CHARACTERS: &[(&str, u64)] = &[
     ("\u{1}a", 1),
     ("\u{8}", 1),
     ("\u{B}", 1),
@@ -186,7 +186,7 @@ const CHARACTERS: [(&str, u64); 22] = [
 
 #[test]
 fn characters_may_be_errors(rt: HostRuntime) -> Result<(), Fail> {
-    for (text, more) in CHARACTERS {
+    for &(text, more) in CHARACTERS {
         let told = errors(rt.alloc(), exact(PAGE), text)?;
         let others = errors(rt.alloc(), PAGE, text)?;
         assert_eq!(rt; told.checked_sub(others), Some(more), "{text}");

@@ -28,7 +28,7 @@ fn assert_pieces(
 }
 
 // Four tags, each with a line end behind it.
-const PIECES: [&[&str]; 5] = [
+const PIECES: &[&[&str]] = &[
     &["<a>\r\n", "<b>\r\n", "</b>\r\n", "</a>\r\n"],
     &["<a>\n", "<b>\n", "</b>\n", "</a>\n"],
     &["<a>\r", "<b>\r", "</b>\r", "</a>\r"],
@@ -38,14 +38,14 @@ const PIECES: [&[&str]; 5] = [
 
 #[test]
 fn each_line_end_counts_once(rt: HostRuntime) -> Result<(), Fail> {
-    for pieces in PIECES {
+    for &pieces in PIECES {
         assert_pieces(&rt, rt.alloc(), pieces, &[1, 2, 3, 4, 5])?;
     }
     Ok(())
 }
 
 // Texts, and the lines of their tokens.
-const LINES: [(&str, &[u64]); 9] = [
+const LINES: &[(&str, &[u64])] = &[
     ("<a>\r\n<b>\r\n</b>\r\n</a>\r\n", &[1, 2, 3, 4, 5]),
     ("\r\r\n\n<a>", &[4, 4]),
     ("<!--a\nb\r\nc--><a\nb=\r\"c\r\nd\"\n>", &[3, 7, 7]),
@@ -59,7 +59,7 @@ const LINES: [(&str, &[u64]); 9] = [
 
 #[test]
 fn tokens_are_told_where_they_end(rt: HostRuntime) -> Result<(), Fail> {
-    for (text, lines) in LINES {
+    for &(text, lines) in LINES {
         let whole = read(rt.alloc(), PAGE, as_given(rt.alloc(), &[text])?)?;
         assert_lines(&rt, &whole, lines);
         assert_cuts(&rt, rt.alloc(), PAGE, text, &whole)?;

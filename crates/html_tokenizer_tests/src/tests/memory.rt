@@ -2,9 +2,9 @@
 
 ghost use Rattle.html_tokenizer.specs.Calls.{IsReadyIf, refusal};
 
+use super::refusing::Refusing;
 use super::words::in_words;
 use super::{PAGE, Row, Setting, exact, feed_all, feed_piece, list_of, tokenizer_over};
-use crate::refusing::Refusing;
 use html_tokenizer::{BufferQueue, Listed, TokenSink, Tokenizer};
 use markup::ParseFault;
 use std::alloc::Global;
@@ -194,7 +194,7 @@ fn ended(alloc: Global) -> Listed {
 }
 
 // Texts of which something is told at once.
-const REFUSED: [&str; 8] = [
+const REFUSED: &[&str] = &[
     "a",
     "\0",
     "<a>",
@@ -208,7 +208,7 @@ const REFUSED: [&str; 8] = [
 #[test]
 fn refusals_are_passed_on(rt: HostRuntime) -> Result<(), Fail> {
     let alloc = rt.alloc();
-    for text in REFUSED {
+    for &text in REFUSED {
         let in_text = Refusing { is_shape: false };
         assert_refused(&rt, alloc, in_text, text, ParseFault::TokenInText)?;
         let unfit = Refusing { is_shape: true };
@@ -219,12 +219,12 @@ fn refusals_are_passed_on(rt: HostRuntime) -> Result<(), Fail> {
 }
 
 // Texts of which nothing is told before the end.
-const REFUSED_AT_THE_END: [&str; 7] = ["", "<", "&lt", "<a", "<!--a", "<!doctype", "\u{FEFF}"];
+const REFUSED_AT_THE_END: &[&str] = &["", "<", "&lt", "<a", "<!--a", "<!doctype", "\u{FEFF}"];
 
 #[test]
 fn refusals_at_the_end_are_passed_on(rt: HostRuntime) -> Result<(), Fail> {
     let alloc = rt.alloc();
-    for text in REFUSED_AT_THE_END {
+    for &text in REFUSED_AT_THE_END {
         let in_text = Refusing { is_shape: false };
         assert_end_refused(&rt, alloc, in_text, text, ParseFault::TokenInText)?;
         let unfit = Refusing { is_shape: true };

@@ -51,7 +51,7 @@ struct Row {
     told: &'static str,
 }
 
-const SCRIPTS: [Row; 5] = [
+const SCRIPTS: &[Row] = &[
     Row {
         text: "</script>b",
         place: 0,
@@ -155,7 +155,7 @@ fn assert_script<S: TokenSink<Handle = u64> + Spoken>(
 
 #[test]
 fn scripts_write_before_what_is_left(rt: HostRuntime) -> Result<(), Fail> {
-    for row in &SCRIPTS {
+    for row in SCRIPTS {
         let mut tokenizer = tokenizer_over(rt.alloc(), list_of(rt.alloc(), PAGE), PAGE)?;
         assert_script(&rt, rt.alloc(), &mut tokenizer, row)?;
     }

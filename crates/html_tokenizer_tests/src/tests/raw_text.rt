@@ -5,7 +5,7 @@ use html_tokenizer::State;
 use html_tokens::states::RawKind;
 use std::test::Fail;
 
-const RAW_TEXTS: [Row; 13] = [
+const RAW_TEXTS: &[Row] = &[
     ("<title>a</title", "start title; text \"a</title\"; eof"),
     ("<title>a</title ", "start title; text \"a\"; eof"),
     (
@@ -50,11 +50,11 @@ const RAW_TEXTS: [Row; 13] = [
 
 #[test]
 fn raw_text_ends_at_its_tag(rt: HostRuntime) -> Result<(), Fail> {
-    assert_rows(&rt, rt.alloc(), PAGE, &RAW_TEXTS)?;
+    assert_rows(&rt, rt.alloc(), PAGE, RAW_TEXTS)?;
     Ok(())
 }
 
-const SCRIPTS: [Row; 10] = [
+const SCRIPTS: &[Row] = &[
     (
         "<script>a<b</script>c",
         "start script; text \"a<b\"; end script; text \"c\"; eof",
@@ -99,11 +99,11 @@ const SCRIPTS: [Row; 10] = [
 
 #[test]
 fn scripts_may_hold_scripts(rt: HostRuntime) -> Result<(), Fail> {
-    assert_rows(&rt, rt.alloc(), PAGE, &SCRIPTS)?;
+    assert_rows(&rt, rt.alloc(), PAGE, SCRIPTS)?;
     Ok(())
 }
 
-const CUT_SCRIPTS: [Row; 9] = [
+const CUT_SCRIPTS: &[Row] = &[
     ("<script>a", "start script; text \"a\"; eof"),
     ("<script><", "start script; text \"<\"; eof"),
     ("<script></", "start script; text \"</\"; eof"),
@@ -123,11 +123,11 @@ const CUT_SCRIPTS: [Row; 9] = [
 
 #[test]
 fn scripts_may_miss_their_end(rt: HostRuntime) -> Result<(), Fail> {
-    assert_rows(&rt, rt.alloc(), PAGE, &CUT_SCRIPTS)?;
+    assert_rows(&rt, rt.alloc(), PAGE, CUT_SCRIPTS)?;
     Ok(())
 }
 
-const PLAIN_TEXTS: [Row; 2] = [
+const PLAIN_TEXTS: &[Row] = &[
     (
         "<plaintext>&lt;</plaintext>\0",
         "start plaintext; text \"&lt;</plaintext>\u{FFFD}\"; eof",
@@ -140,7 +140,7 @@ const PLAIN_TEXTS: [Row; 2] = [
 
 #[test]
 fn plain_text_has_no_end(rt: HostRuntime) -> Result<(), Fail> {
-    assert_rows(&rt, rt.alloc(), PAGE, &PLAIN_TEXTS)?;
+    assert_rows(&rt, rt.alloc(), PAGE, PLAIN_TEXTS)?;
     Ok(())
 }
 
@@ -149,7 +149,7 @@ const IN_RCDATA: Setting = Setting {
     ..PAGE
 };
 
-const NAMED_FRAGMENTS: [Row; 3] = [
+const NAMED_FRAGMENTS: &[Row] = &[
     ("a&lt;</title>b", "text \"a<\"; end title; text \"b\"; eof"),
     ("a</Title >b", "text \"a\"; end title; text \"b\"; eof"),
     ("a</style>", "text \"a</style>\"; eof"),
@@ -161,22 +161,22 @@ fn reading_begins_in_raw_text(rt: HostRuntime) -> Result<(), Fail> {
         last_start_tag: Some("title"),
         ..IN_RCDATA
     };
-    assert_rows(&rt, rt.alloc(), setting, &NAMED_FRAGMENTS)?;
+    assert_rows(&rt, rt.alloc(), setting, NAMED_FRAGMENTS)?;
     Ok(())
 }
 
-const NAMELESS_FRAGMENTS: [Row; 2] = [
+const NAMELESS_FRAGMENTS: &[Row] = &[
     ("a&lt;</title>b", "text \"a<</title>b\"; eof"),
     ("a</>", "text \"a</>\"; eof"),
 ];
 
 #[test]
 fn no_end_tag_fits_where_no_tag_began(rt: HostRuntime) -> Result<(), Fail> {
-    assert_rows(&rt, rt.alloc(), IN_RCDATA, &NAMELESS_FRAGMENTS)?;
+    assert_rows(&rt, rt.alloc(), IN_RCDATA, NAMELESS_FRAGMENTS)?;
     Ok(())
 }
 
-const STARTS: [(State, &str); 4] = [
+const STARTS: &[(State, &str)] = &[
     (State::Data, "text \"<\"; start b; eof"),
     (State::Plaintext, "text \"&lt;<b>\"; eof"),
     (State::RawData(RawKind::Rawtext), "text \"&lt;<b>\"; eof"),
@@ -185,7 +185,7 @@ const STARTS: [(State, &str); 4] = [
 
 #[test]
 fn reading_begins_in_any_text(rt: HostRuntime) -> Result<(), Fail> {
-    for (state, told) in STARTS {
+    for &(state, told) in STARTS {
         let setting = Setting {
             initial_state: Some(state),
             ..PAGE

@@ -3,7 +3,7 @@
 use super::{PAGE, Row, Setting, Table, assert_rows};
 use std::test::Fail;
 
-const NUMBERS: [Row; 12] = [
+const NUMBERS: &[Row] = &[
     (
         "&#x80;&#0;&#xD800;&#x110000;&#13x&#x;",
         "text \"€\u{FFFD}\u{FFFD}\u{FFFD}\rx&#x;\"; eof",
@@ -23,11 +23,11 @@ const NUMBERS: [Row; 12] = [
 
 #[test]
 fn numbers_stand_for_characters(rt: HostRuntime) -> Result<(), Fail> {
-    assert_rows(&rt, rt.alloc(), PAGE, &NUMBERS)?;
+    assert_rows(&rt, rt.alloc(), PAGE, NUMBERS)?;
     Ok(())
 }
 
-const FIVE_NAMES: [Row; 10] = [
+const FIVE_NAMES: &[Row] = &[
     ("&amp&amp;", "text \"&amp&\"; eof"),
     ("&amp;&lt;&gt;&quot;&nbsp;", "text \"&<>\"\u{A0}\"; eof"),
     ("&amp;amp;", "text \"&amp;\"; eof"),
@@ -48,11 +48,11 @@ const FIVE_NAMES: [Row; 10] = [
 
 #[test]
 fn names_stand_for_characters(rt: HostRuntime) -> Result<(), Fail> {
-    assert_rows(&rt, rt.alloc(), PAGE, &FIVE_NAMES)?;
+    assert_rows(&rt, rt.alloc(), PAGE, FIVE_NAMES)?;
     Ok(())
 }
 
-const VALUES: [Row; 6] = [
+const VALUES: &[Row] = &[
     (
         "<a b=&lt; c='&amp' d=\"&#65\">",
         "start a b=\"<\" c=\"&amp\" d=\"A\"; eof",
@@ -66,11 +66,11 @@ const VALUES: [Row; 6] = [
 
 #[test]
 fn references_stand_in_values(rt: HostRuntime) -> Result<(), Fail> {
-    assert_rows(&rt, rt.alloc(), PAGE, &VALUES)?;
+    assert_rows(&rt, rt.alloc(), PAGE, VALUES)?;
     Ok(())
 }
 
-const LONGEST_NAMES: [Row; 9] = [
+const LONGEST_NAMES: &[Row] = &[
     ("&notit;&notin;", "text \"¬it;∉\"; eof"),
     (
         "<a b=\"&notit\" c=\"&not=\" d=\"&not\">",
@@ -100,6 +100,6 @@ fn the_longest_name_counts(rt: HostRuntime) -> Result<(), Fail> {
         table: Table::Not,
         ..PAGE
     };
-    assert_rows(&rt, rt.alloc(), setting, &LONGEST_NAMES)?;
+    assert_rows(&rt, rt.alloc(), setting, LONGEST_NAMES)?;
     Ok(())
 }

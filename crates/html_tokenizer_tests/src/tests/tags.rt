@@ -3,7 +3,7 @@
 use super::{PAGE, Row, assert_rows};
 use std::test::Fail;
 
-const TAGS: [Row; 12] = [
+const TAGS: &[Row] = &[
     ("<a>b</a>", "start a; text \"b\"; end a; eof"),
     ("<A-é1></A-É1>", "start a-é1; end a-É1; eof"),
     ("<br/>", "start br /; eof"),
@@ -20,11 +20,11 @@ const TAGS: [Row; 12] = [
 
 #[test]
 fn tags_are_read(rt: HostRuntime) -> Result<(), Fail> {
-    assert_rows(&rt, rt.alloc(), PAGE, &TAGS)?;
+    assert_rows(&rt, rt.alloc(), PAGE, TAGS)?;
     Ok(())
 }
 
-const ATTRIBUTES: [Row; 12] = [
+const ATTRIBUTES: &[Row] = &[
     (
         "<A B=1 b=2 =c d>",
         "start a b=\"1\" =c=\"\" d=\"\" duplicates; eof",
@@ -50,11 +50,11 @@ const ATTRIBUTES: [Row; 12] = [
 
 #[test]
 fn attributes_are_read(rt: HostRuntime) -> Result<(), Fail> {
-    assert_rows(&rt, rt.alloc(), PAGE, &ATTRIBUTES)?;
+    assert_rows(&rt, rt.alloc(), PAGE, ATTRIBUTES)?;
     Ok(())
 }
 
-const MISSING_VALUES: [Row; 4] = [
+const MISSING_VALUES: &[Row] = &[
     (
         "<a b=>c<a b=c/><a/ b/>",
         "start a b=\"\"; text \"c\"; start a b=\"c/\"; start a b=\"\" /; eof",
@@ -66,6 +66,6 @@ const MISSING_VALUES: [Row; 4] = [
 
 #[test]
 fn values_may_miss(rt: HostRuntime) -> Result<(), Fail> {
-    assert_rows(&rt, rt.alloc(), PAGE, &MISSING_VALUES)?;
+    assert_rows(&rt, rt.alloc(), PAGE, MISSING_VALUES)?;
     Ok(())
 }

@@ -3,7 +3,7 @@
 use super::{PAGE, Row, Setting, assert_rows};
 use std::test::Fail;
 
-const TEXTS: [Row; 14] = [
+const TEXTS: &[Row] = &[
     ("", "eof"),
     ("a", "text \"a\"; eof"),
     ("a<b c", "text \"a\"; eof"),
@@ -25,11 +25,11 @@ const TEXTS: [Row; 14] = [
 
 #[test]
 fn texts_are_joined(rt: HostRuntime) -> Result<(), Fail> {
-    assert_rows(&rt, rt.alloc(), PAGE, &TEXTS)?;
+    assert_rows(&rt, rt.alloc(), PAGE, TEXTS)?;
     Ok(())
 }
 
-const MARKS: [Row; 5] = [
+const MARKS: &[Row] = &[
     ("\u{FEFF}", "eof"),
     ("\u{FEFF}a\r\n\u{FEFF}b", "text \"a\n\u{FEFF}b\"; eof"),
     ("\u{FEFF}\u{FEFF}", "text \"\u{FEFF}\"; eof"),
@@ -39,11 +39,11 @@ const MARKS: [Row; 5] = [
 
 #[test]
 fn the_mark_at_the_front_is_dropped(rt: HostRuntime) -> Result<(), Fail> {
-    assert_rows(&rt, rt.alloc(), PAGE, &MARKS)?;
+    assert_rows(&rt, rt.alloc(), PAGE, MARKS)?;
     Ok(())
 }
 
-const KEPT_MARKS: [Row; 2] = [
+const KEPT_MARKS: &[Row] = &[
     ("\u{FEFF}", "text \"\u{FEFF}\"; eof"),
     (
         "\u{FEFF}a\r\n\u{FEFF}b",
@@ -57,11 +57,11 @@ fn the_mark_at_the_front_is_kept(rt: HostRuntime) -> Result<(), Fail> {
         discard_bom: false,
         ..PAGE
     };
-    assert_rows(&rt, rt.alloc(), setting, &KEPT_MARKS)?;
+    assert_rows(&rt, rt.alloc(), setting, KEPT_MARKS)?;
     Ok(())
 }
 
-const SECTIONS: [Row; 11] = [
+const SECTIONS: &[Row] = &[
     ("<![CDATA[a]]]>b", "text \"a]b\"; eof"),
     ("<![CDATA[]]>", "eof"),
     ("<![CDATA[a]]b]c]]]]>", "text \"a]]b]c]]\"; eof"),
@@ -81,11 +81,11 @@ fn sections_are_text(rt: HostRuntime) -> Result<(), Fail> {
         asks_cdata: true,
         ..PAGE
     };
-    assert_rows(&rt, rt.alloc(), setting, &SECTIONS)?;
+    assert_rows(&rt, rt.alloc(), setting, SECTIONS)?;
     Ok(())
 }
 
-const NO_SECTIONS: [Row; 2] = [
+const NO_SECTIONS: &[Row] = &[
     (
         "<![CDATA[a]]]>b",
         "comment \"[CDATA[a]]]\"; text \"b\"; eof",
@@ -95,6 +95,6 @@ const NO_SECTIONS: [Row; 2] = [
 
 #[test]
 fn sections_are_comments_in_a_page(rt: HostRuntime) -> Result<(), Fail> {
-    assert_rows(&rt, rt.alloc(), PAGE, &NO_SECTIONS)?;
+    assert_rows(&rt, rt.alloc(), PAGE, NO_SECTIONS)?;
     Ok(())
 }
