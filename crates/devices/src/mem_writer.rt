@@ -1,5 +1,5 @@
 //! A target over room in memory.
-ghost use Rattle.std.specs.Prelude.{◌≡◌, ◌<◌, ◌≤◌, [], ◌++◌, length, take, is_err, Some, IfOk, OnErr};
+ghost use Rattle.std.specs.Prelude.{◌≡◌, ◌<◌, ◌≤◌, [], length, take, Some, IfOk, OnErr};
 ghost use Rattle.std.specs.Io.KnownBytes.{append_known};
 ghost use Rattle.devices.specs.Devices.{count_after, write_failed};
 ghost use Rattle.devices.specs.MemWriter.{after_write, write_answer};

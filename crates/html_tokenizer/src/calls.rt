@@ -5,7 +5,6 @@ ghost use Rattle.html_tokens.specs.Item.{InPlaintext};
 ghost use Rattle.html_tokens.specs.Reading.{first_place};
 ghost use Rattle.html_tokens.specs.declared.states.State.TheVariants as state;
 ghost use Rattle.html_tokenizer.specs.Calls.{refusal, refusal_of, has_ended, text_place, is_nothing_pending, IsReadyIf, IsNew, ReadsAt, FeedGives, EndGives, TellsEnd, Refuses};
-ghost use Rattle.html_tokenizer.specs.Steps.{nothing_owed};
 
 use crate::doctype_states::no_doctype;
 use crate::keyword::Keyword;

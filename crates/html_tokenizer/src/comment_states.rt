@@ -1,5 +1,5 @@
 //! Comments (HTML Standard, sections 13.2.5.41 and 13.2.5.43 to 13.2.5.52).
-ghost use Rattle.std.specs.Prelude.{◌≡◌, []};
+ghost use Rattle.std.specs.Prelude.{[]};
 ghost use Rattle.html_tokens.specs.declared.states.State.TheVariants as state;
 ghost use Rattle.html_tokens.specs.declared.token.Token.TheVariants.{CommentToken};
 ghost use Rattle.html_tokenizer.specs.Steps.{IsAt, Tells, Keeps, nothing_owed, a_fault};

@@ -3,7 +3,7 @@ ghost use Rattle.std.specs.Prelude.{◌≡◌, ◌∷◌, [], ◌++◌, true};
 ghost use Rattle.html_tokens.specs.declared.states.State.TheVariants as state;
 ghost use Rattle.html_tokenizer.specs.declared.keyword.Word.TheVariants as word;
 ghost use Rattle.html_tokenizer.specs.Keywords.{becomes, IsPart, MakesNoWord, OpensNothing};
-ghost use Rattle.html_tokenizer.specs.Steps.{IsAt, Keeps, nothing_owed};
+ghost use Rattle.html_tokenizer.specs.Steps.{IsAt, Keeps};
 
 use crate::keyword::Word;
 use crate::tokenizer::Tokenizer;

@@ -5,7 +5,7 @@ ghost use Rattle.html_tokens.specs.declared.states.DoctypeIdKind.TheVariants as 
 ghost use Rattle.html_tokens.specs.declared.token.Token.TheVariants.{DoctypeToken};
 ghost use Rattle.html_tokens.specs.Doctypes;
 ghost use Rattle.html_tokenizer.specs.Rest.{with_identifier};
-ghost use Rattle.html_tokenizer.specs.Steps.{IsAt, Tells, Keeps, nothing_owed, owed_for};
+ghost use Rattle.html_tokenizer.specs.Steps.{IsAt, Tells, Keeps, owed_for};
 ghost use Rattle.html_tokens.specs.Item.{grave_if};
 
 use crate::characters::{ends_word, is_white_space, lowered, shown};

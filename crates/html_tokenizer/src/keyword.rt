@@ -4,7 +4,6 @@ ghost use Rattle.std.specs.List.{list_all};
 ghost use Rattle.markup.specs.declared.fault.ParseFault.TheVariants.{Memory};
 ghost use Rattle.html_tokens.specs.Characters.{ends_word};
 ghost use Rattle.html_tokenizer.specs.Keywords.{spelling, is_any_case, letter, leads, becomes, may_become, may_declare, may_identify, front_of, IsPart};
-ghost use Rattle.html_tokenizer.specs.Steps.{nothing_owed};
 
 use crate::characters::ends_word;
 use markup::{ParseFault, Text};

@@ -1,6 +1,5 @@
 //! Laws over the calls of a tokenizer. Each function's contract is one law.
 ghost use Rattle.html_tokenizer.specs.Laws.{AreCallsChained, IsAnyPieces, IsChainEnded, IsCleanTextQuiet, IsEachFaultTold, IsOwing, IsSameRoad};
-ghost use Rattle.html_tokenizer.specs.Steps.{nothing_owed};
 
 use html_tokens::sink::TokenSink;
 

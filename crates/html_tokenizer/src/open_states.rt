@@ -1,9 +1,9 @@
 //! Behind `<` and `</` outside of raw text (HTML Standard, sections 13.2.5.6 and 13.2.5.7).
-ghost use Rattle.std.specs.Prelude.{◌≡◌, ◌∷◌, [], true, Some};
+ghost use Rattle.std.specs.Prelude.{◌∷◌, [], Some};
 ghost use Rattle.std.specs.Char.{is_ascii_alphabetic};
 ghost use Rattle.html_tokens.specs.declared.states.State.TheVariants as state;
 ghost use Rattle.html_tokens.specs.declared.token.Token.TheVariants.{CharacterTokens};
-ghost use Rattle.html_tokenizer.specs.Steps.{IsAt, Tells, Keeps, nothing_owed, owed_for};
+ghost use Rattle.html_tokenizer.specs.Steps.{IsAt, Tells, Keeps, owed_for};
 ghost use Rattle.html_tokens.specs.Item.{Slight};
 
 use crate::keyword::Keyword;

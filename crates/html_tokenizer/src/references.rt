@@ -8,14 +8,12 @@ ghost use Rattle.html_references.specs.References.{IsCheckedTable, has_values, i
 ghost use Rattle.markup.specs.declared.fault.ParseFault.TheVariants.{Memory};
 ghost use Rattle.html_tokenizer.specs.CharRefs;
 ghost use Rattle.html_tokens.specs.Table.{values};
-ghost use Rattle.html_tokenizer.specs.Steps.{nothing_owed};
 
 use crate::held_reference::HeldReference;
 use crate::numbers::{self, Found};
 use html_references::References;
 use html_tokens::table::ReferenceRow;
 use markup::{ParseFault, Text};
-use std::alloc::Global;
 
 /// Whether names and digits are written with this character.
 fn is_named_with(c: char) -> bool

@@ -1,6 +1,5 @@
 //! One character of the input, with its line and its own errors.
-ghost use Rattle.std.specs.Prelude.{◌≡◌, ◌∷◌, [], min, ◌+◌, true, nat_eq};
-ghost use Rattle.html_tokens.specs.Reading.{line_break};
+ghost use Rattle.std.specs.Prelude.{◌≡◌, ◌∷◌, [], true};
 ghost use Rattle.html_tokenizer.specs.Calls.{Passes, counted, owed_for_text};
 ghost use Rattle.html_tokenizer.specs.CharRefs.{fits_in};
 ghost use Rattle.html_tokenizer.specs.Steps.{Errs, Keeps};

@@ -1,18 +1,16 @@
 //! How the machine speaks to its sink.
 ghost use Rattle.std.specs.Prelude.{◌≡◌, ◌∷◌, [], nat_eq, is_some};
-ghost use Rattle.html_tokens.specs.declared.token.Token.TheVariants.{CharacterTokens, CommentToken};
+ghost use Rattle.html_tokens.specs.declared.token.Token.TheVariants.{CharacterTokens};
 ghost use Rattle.html_tokens.specs.Characters.{shown};
 ghost use Rattle.html_tokens.specs.Reading.{line_number};
-ghost use Rattle.html_tokenizer.specs.Steps.{IsNoTag, Tells, Errs, EndsTag, nothing_owed, a_fault, owed_for};
+ghost use Rattle.html_tokenizer.specs.Steps.{IsNoTag, Tells, Errs, nothing_owed, a_fault, owed_for};
 ghost use Rattle.html_tokens.specs.Item.{grave_if};
 
 use crate::tokenizer::Tokenizer;
 use html_tokens::sink::TokenSink;
-use html_tokens::states::State;
-use html_tokens::{ProcessResult, Tag, TagKind, Token, TokenSinkResult};
-use markup::{Attributes, LocalName, ParseFault, Text};
+use html_tokens::Token;
+use markup::{ParseFault, Text};
 use std::borrow::CowStr;
-use std::mem;
 
 impl<Sink: TokenSink> Tokenizer<Sink> {
     /// The line on which the next character stands, counted from 1.

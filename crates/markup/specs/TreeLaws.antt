@@ -1,5 +1,5 @@
 -- What each change of a forest keeps, whoever makes it.
-use Rattle.std.specs.Prelude.{◌≡◌, ℕ, List, ◌++◌, Option}
+use Rattle.std.specs.Prelude.{◌≡◌, ℕ, List, ◌++◌}
 use Rattle.markup.specs.Forest.{Forest, NodeData, Place, IsForest, IsPlace, add_attributes, create_element, put, put_new, put_text, remove, reparent_children, set_quirks, with_node}
 use Rattle.markup.specs.declared.attributes.Attribute.{Attribute}
 use Rattle.markup.specs.declared.flags.ElementFlags.{ElementFlags}

@@ -1,6 +1,5 @@
 //! The interface of who builds the tree.
 ghost use Rattle.std.specs.Prelude.{◌≡◌, ◌+◌, ◌<◌, ◌≤◌, ℕ, Bool, IfOk, IfErr, OnOk, OnErr, IsSome, ◌==◌, Some, true, false, codes};
-ghost use Rattle.std.specs.Option.{ForSome};
 ghost use Rattle.markup.specs.declared.fault.ParseFault.TheVariants.{Memory};
 
 use crate::attributes::{Attribute, Attributes};

@@ -1,5 +1,5 @@
 //! The conditions of the calls, tested at run time.
-ghost use Rattle.std.specs.Prelude.{◌≡◌, ℕ, IsTrue, IsSome, true, false};
+ghost use Rattle.std.specs.Prelude.{◌≡◌, IsTrue, true, false};
 ghost use Rattle.markup.specs.Forest.{Above, IsLoose, IsNode, IsParent, above_of, data_of, holds_children, is_contents};
 ghost use Rattle.html_forest.specs.Views.{data_view};
 
