@@ -6,8 +6,6 @@ pub mod laws;
 mod program;
 mod read;
 mod report;
-#[cfg(test)]
-mod tests;
 mod thin;
 mod whole;
 

@@ -1,8 +1,8 @@
 //! Documents, faults and devices, as tables on the public calls.
 ghost use Rattle.std.specs.Prelude.{◌<◌};
 
-use crate::{Exact, NormalFault, ProgramFault, References, Report, normalise, run};
 use devices::{MemReader, MemWriter};
+use html_normal::{Exact, NormalFault, ProgramFault, References, Report, normalise, run};
 use markup::QuirksMode;
 use std::alloc::{AllocError, Global};
 use std::test::Fail;
