@@ -1,0 +1,13 @@
+//! From the bytes of a page to its normal text.
+
+use devices::{MemReader, MemWriter};
+use html_normal::{Exact, NormalFault, References, Report, normalise};
+use std::alloc::Global;
+
+pub fn normal(alloc: Global, page: Vec<u8>, writer: &mut MemWriter) -> Result<Report, NormalFault> {
+    let mut reader = MemReader::new(page, 4096, None);
+    let Ok(five) = References::five(alloc) else {
+        return Err(NormalFault::Memory);
+    };
+    normalise(alloc, &mut reader, writer, five, Exact::default())
+}
