@@ -32,7 +32,9 @@ impl HeldReference {
     pub(crate) fn new(alloc: Global) -> HeldReference
         ensures { result ≡ [] }
     {
-        HeldReference { text: Text::empty(alloc) }
+        HeldReference {
+            text: Text::empty(alloc),
+        }
     }
 
     /// Puts a character at the end.

@@ -33,7 +33,9 @@ impl Letters {
     pub(crate) fn new(alloc: Global) -> Letters
         ensures { result ≡ [] }
     {
-        Letters { text: Text::empty(alloc) }
+        Letters {
+            text: Text::empty(alloc),
+        }
     }
 
     /// Puts a letter at the end.

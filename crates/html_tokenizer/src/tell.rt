@@ -7,8 +7,8 @@ ghost use Rattle.html_tokenizer.specs.Steps.{IsNoTag, Tells, Errs, nothing_owed,
 ghost use Rattle.html_tokens.specs.Item.{grave_if};
 
 use crate::tokenizer::Tokenizer;
-use html_tokens::sink::TokenSink;
 use html_tokens::Token;
+use html_tokens::sink::TokenSink;
 use markup::{ParseFault, Text};
 use std::borrow::CowStr;
 
