@@ -1,8 +1,8 @@
-ghost use Rattle.std.specs.Prelude.{◌≡◌, ◌<◌, ◌++◌, [], if◌then◌else◌, is_ok, IfOk, take, drop};
+ghost use Rattle.std.specs.Prelude.{◌≡◌, ◌+◌, ◌<◌, ◌≤◌, ◌++◌, [], if◌then◌else◌, is_ok, IfOk, OnOk, OnErr, length, take, drop};
 ghost use Rattle.std.specs.Str.{IsCharBoundary, IsUtf8};
 ghost use Rattle.std.specs.String.{string_bytes};
 
-use std::alloc::AllocError;
+use std::alloc::{AllocError, Global};
 use std::marker::Model;
 
 /// A text and the place of its first character that is not yet taken. A contract sees the bytes
@@ -90,7 +90,8 @@ impl Cursor {
         Ok(())
     }
 
-    /// Steps back over a text that was just taken, and else puts it in place of all that was.
+    /// Steps back over a text that was just taken, and else puts it over the end of what was. Where that has no room for it,
+    /// room is made, for as much again as waits.
     pub(crate) fn push_front(&mut self, more: String) -> Result<(), AllocError>
         ensures { self.new ≡ (if is_ok result then string_bytes more ++ self.old else self.old) }
     {
@@ -101,8 +102,9 @@ impl Cursor {
                 return Ok(());
             }
             if self.place < text.len() {
-                text.replace_range(..self.place, more.as_str())?;
-                self.place = 0;
+                let (from, gap) = room_for(text.as_str(), self.place, more.len());
+                put_before(text, from, self.place, gap, more.as_str())?;
+                self.place = from + gap;
                 return Ok(());
             }
         }
@@ -110,4 +112,53 @@ impl Cursor {
         self.place = 0;
         Ok(())
     }
+}
+
+// Which part of a text before a place gives way to one of so many bytes, from where on, and how many spaces stand before it
+// there: the end of what was taken, where that is long enough, or else all of it and as much again as waits.
+fn room_for(text: &str, place: usize, width: usize) -> (usize, usize)
+    requires { IsCharBoundary text.now place }
+    ensures cut { IsCharBoundary text.now result.0 }
+    ensures before { result.0 ≤ place }
+{
+    if width <= place {
+        let from = text.floor_char_boundary(place - width);
+        (from, place - width - from)
+    } else {
+        (0, text.len() - place)
+    }
+}
+
+// So many spaces.
+fn spaces(alloc: Global, count: usize) -> Result<String, AllocError>
+    ensures { IfOk result (λ text. length (string_bytes text) ≡ count) }
+{
+    let mut text = String::new(alloc);
+    for _space in 0..count {
+        text.push(' ')?;
+    }
+    Ok(text)
+}
+
+// Puts spaces and a text in place of a part of another one.
+fn put_before(
+    text: &mut String,
+    from: usize,
+    place: usize,
+    gap: usize,
+    more: &str,
+) -> Result<(), AllocError>
+    requires cut { IsCharBoundary (string_bytes text.old) from }
+    requires place { IsCharBoundary (string_bytes text.old) place }
+    requires order { from ≤ place }
+    ensures ok { OnOk result (drop (from + gap) (string_bytes text.new) ≡ more.now ++ drop place (string_bytes text.old)) }
+    ensures cut { OnOk result (IsCharBoundary (string_bytes text.new) (from + gap)) }
+    ensures err { OnErr result (string_bytes text.new ≡ string_bytes text.old) }
+{
+    if gap == 0 {
+        return text.replace_range(from..place, more);
+    }
+    let mut padded = spaces(*text.allocator(), gap)?;
+    padded.push_str(more)?;
+    text.replace_range(from..place, padded.as_str())
 }

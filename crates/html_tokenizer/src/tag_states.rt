@@ -1,6 +1,6 @@
 //! Tags up to their attributes, and their end (HTML Standard, sections 13.2.5.8, 13.2.5.32 and 13.2.5.40).
 ghost use Rattle.std.specs.Prelude.{◌≡◌, [], None, IfOk, IfErr};
-ghost use Rattle.html_tokens.specs.Tags.{last_name, is_faulty_tag};
+ghost use Rattle.html_tokens.specs.Tags.{is_faulty_tag, or_last, own_name};
 ghost use Rattle.html_tokens.specs.declared.states.State.TheVariants as state;
 ghost use Rattle.html_tokens.specs.declared.tags.TagKind.TheVariants.{StartTag};
 ghost use Rattle.html_tokens.specs.Tags.{named};
@@ -43,18 +43,26 @@ fn is_faulty(tag: &Tag) -> bool
 }
 
 impl<Sink: TokenSink> Tokenizer<Sink> {
-    /// The name of the last start tag once the tag that is read was told.
-    fn next_last_start_tag(&self) -> Result<Option<Text>, ParseFault>
-        ensures ok { IfOk result (λ name. name ≡ last_name self.now.tag.kind self.now.tag.name self.now.last_start_tag) }
+    /// The name that the tag that is read leaves as that of the last start tag: a start tag its own.
+    fn own_name(&self) -> Result<Option<Text>, ParseFault>
+        ensures ok { IfOk result (λ name. name ≡ own_name self.now.tag.kind self.now.tag.name) }
         ensures err { IfErr result (λ fault. fault ≡ Memory) }
     {
-        match (self.tag.kind, &self.last_start_tag) {
-            (TagKind::StartTag, _) => {
+        match self.tag.kind {
+            TagKind::StartTag => {
                 let name = Text::from_str(self.stream.alloc, self.tag.name.as_str())?;
                 Ok(Some(name))
             }
-            (TagKind::EndTag, None) => Ok(None),
-            (TagKind::EndTag, Some(name)) => Ok(Some(name.copy(self.stream.alloc)?)),
+            TagKind::EndTag => Ok(None),
+        }
+    }
+
+    /// Keeps a name as that of the last start tag, if there is one.
+    fn keep_last_start_tag(&mut self, name: Option<Text>)
+        ensures { self.new ≡ record self.old { last_start_tag = or_last name self.old.last_start_tag } }
+    {
+        if name.is_some() {
+            self.last_start_tag = name;
         }
     }
 
@@ -96,12 +104,12 @@ impl<Sink: TokenSink> Tokenizer<Sink> {
         requires sound { Sink.is_sound (Sink.view self.old.sink) }
         ensures { EndsTag Sink.TokenSink self.old self.new result }
     {
-        let last_start_tag = self.next_last_start_tag()?;
+        let own_name = self.own_name()?;
         self.tell_faulty_tag()?;
         let tag = mem::replace(&mut self.tag, nameless(self.stream.alloc));
         let line = self.line();
         let reply = self.sink.process_token(Token::TagToken(tag), line)?;
-        self.last_start_tag = last_start_tag;
+        self.keep_last_start_tag(own_name);
         Ok(self.follow(reply))
     }
 

@@ -140,9 +140,18 @@ attribute_after rows st tag front t =
     let n = run ends_attribute_name t in
     marked (list_any is_odd_in_name (take n t)) (behind_all n (equals_at rows st tag (front ++ all_lowered (take n t)) (drop n t)))
 
+-- the name that a tag leaves as that of the last start tag: a start tag its own
+abbrev pub own_name : TagKind → List ℕ → Option (List ℕ)
+own_name StartTag name = Some name
+own_name EndTag name = None
+
+-- a name, or else that of the last start tag
+abbrev pub or_last : Option (List ℕ) → Option (List ℕ) → Option (List ℕ)
+or_last (Some name) last = Some name
+or_last None last = last
+
 abbrev pub last_name : TagKind → List ℕ → Option (List ℕ) → Option (List ℕ)
-last_name StartTag name last = Some name
-last_name EndTag name last = last
+last_name kind name last = or_last (own_name kind name) last
 
 -- where a reading stands behind a tag, if the sink names no other text
 abbrev pub behind_tag : Stand → Tag → Stand

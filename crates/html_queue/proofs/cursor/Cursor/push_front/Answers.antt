@@ -12,6 +12,3 @@ returns-then-ends_with c =
 
 pub invariant_of-self-2 : goal.invariant_of-self-2
 invariant_of-self-2 c = IsCharBoundary-start _ (IsUtf8-string_bytes c.args.more)
-
-pub invariant_of-self-then-self-len : goal.invariant_of-self-then-self-len
-invariant_of-self-then-self-len c = IsCharBoundary-start _ (IsUtf8-string_bytes c.replace_range.new.self)

@@ -1,3 +1,7 @@
+use Rattle.std.proofs.Common.{◌∙◌, ap, ap₂}
+use Rattle.html_tokens.specs.Tags.{or_last}
+use Rattle.html_tokenizer.specs.declared.tokenizer.Tokenizer.{Tokenizer}
+use Rattle.html_tokenizer.specs.Steps.{state_behind}
 use Rattle.html_tokenizer.proofs.Rises.{rises-own}
 use Rattle.html_tokenizer.proofs.TagEnds.{tag-failed, tag-ended}
 use Rattle.html_tokenizer.proofs.tokenizer.Tokenizer.emit_tag.Goals as goal
@@ -11,6 +15,6 @@ pub returns : goal.returns
 returns g c =
     let m = g.Sink.TokenSink in
     tag-ended m c.args.self.now c.tell_faulty_tag.new.self c.follow.new.self c.process_token.new.self
-    c.in_ok-last_start_tag.last_start_tag c.replace-tag.new.dest c.replace-tag.result c.line-line.result c.in_ok-reply.reply c.follow.result c.requires.fresh c.in_ok-tell_faulty_tag.ensures
-    c.in_ok-last_start_tag.ensures.ok c.replace-tag.ensures.value c.line-line.ensures c.in_ok-reply.ensures.gives (c.in_ok-reply.ensures.sound c.in_ok-reply.ensures.failed_after) c.in_ok-reply.ensures.failed_after
-    (rises-own m.errors _ _ _ c.in_ok-reply.ensures.counts) c.follow.ensures.moved c.follow.ensures.answer
+    (or_last c.in_ok-own_name.own_name c.tell_faulty_tag.new.self.last_start_tag) c.replace-tag.new.dest c.replace-tag.result c.line-line.result c.in_ok-reply.reply c.follow.result c.requires.fresh c.in_ok-tell_faulty_tag.ensures
+    (ap₂ or_last c.in_ok-own_name.ensures.ok (ap (λ (k : Tokenizer _). k.last_start_tag) c.in_ok-tell_faulty_tag.ensures.changed)) c.replace-tag.ensures.value c.line-line.ensures c.in_ok-reply.ensures.gives (c.in_ok-reply.ensures.sound c.in_ok-reply.ensures.failed_after) c.in_ok-reply.ensures.failed_after
+    (rises-own m.errors _ _ _ c.in_ok-reply.ensures.counts) (c.follow.ensures.moved ∙ ap (λ (k : Tokenizer _). record k { state = state_behind c.in_ok-reply.reply }) c.keep_last_start_tag.ensures) c.follow.ensures.answer

@@ -1,0 +1,68 @@
+//! Reading a text to its end, past every pause.
+ghost use Rattle.std.specs.Prelude.{IfOk};
+ghost use Rattle.html_tokenizer.specs.Calls.{IsReadyIf, refusal_of};
+ghost use Rattle.bench_hostile.specs.Read.{pausing};
+
+use crate::shape::Shape;
+use crate::sink::Pausing;
+use html_tokenizer::{BufferQueue, References, Tokenizer, TokenizerOpts};
+use markup::{ParseFault, TokenizerResult};
+use std::alloc::Global;
+
+/// What is written at each pause.
+const WRITTEN: &str = "<i>written</i>";
+
+/// Reads what waits; at each pause a text is put before it.
+fn feed(
+    alloc: Global,
+    tokenizer: &mut Tokenizer<Pausing>,
+    input: &mut BufferQueue,
+) -> Result<(), ParseFault>
+    requires { IsReadyIf pausing (refusal_of tokenizer.old) tokenizer.old }
+    ensures { IsReadyIf pausing (refusal_of tokenizer.new) tokenizer.new }
+{
+    for _pause in 0..u64::MAX {
+        match tokenizer.feed(input)? {
+            TokenizerResult::Done => break,
+            _ => input.push_front(String::from_str(alloc, WRITTEN)?)?,
+        }
+    }
+    Ok(())
+}
+
+/// Reads a text character by character.
+fn feed_cut(
+    alloc: Global,
+    tokenizer: &mut Tokenizer<Pausing>,
+    input: &mut BufferQueue,
+    text: &str,
+) -> Result<(), ParseFault>
+    requires { IsReadyIf pausing (refusal_of tokenizer.old) tokenizer.old }
+    ensures { IsReadyIf pausing (refusal_of tokenizer.new) tokenizer.new }
+{
+    for c in text.chars() {
+        let mut piece = String::new(alloc);
+        piece.push(c)?;
+        input.push_back(piece)?;
+        feed(alloc, tokenizer, input)?;
+    }
+    Ok(())
+}
+
+/// How many errors a text of a shape tells.
+pub(crate) fn read(alloc: Global, text: String, shape: Shape) -> Result<u64, ParseFault> {
+    let Ok(table) = References::five(alloc) else {
+        return Err(ParseFault::Memory);
+    };
+    let sink = Pausing { errors: 0 };
+    let mut tokenizer = Tokenizer::new(alloc, sink, TokenizerOpts::default(), table);
+    let mut input = BufferQueue::new();
+    if shape.is_cut() {
+        feed_cut(alloc, &mut tokenizer, &mut input, text.as_str())?;
+    } else {
+        input.push_back(text)?;
+        feed(alloc, &mut tokenizer, &mut input)?;
+    }
+    tokenizer.end()?;
+    Ok(tokenizer.sink.errors)
+}
