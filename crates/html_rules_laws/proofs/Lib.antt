@@ -6,4 +6,7 @@ pub mod LouderTurns
 pub mod Reopened
 pub mod Replies
 pub mod Rises
+pub mod Standing
+pub mod StandingSteps
+pub mod StandingTrees
 pub mod StepLaws

@@ -1,3 +1,4 @@
 pub mod Errors
 pub mod Lawful
 pub mod Ready
+pub mod Soundness
