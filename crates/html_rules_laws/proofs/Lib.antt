@@ -3,10 +3,12 @@ pub mod LouderActions
 pub mod LouderAdoption
 pub mod LouderSteps
 pub mod LouderTurns
+pub mod PlainActions
 pub mod Reopened
 pub mod Replies
 pub mod Rises
 pub mod Standing
+pub mod StandingActions
 pub mod StandingSteps
 pub mod StandingTrees
 pub mod StepLaws

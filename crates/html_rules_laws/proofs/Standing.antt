@@ -1,16 +1,14 @@
 -- What keeps the open elements standing: elements that leave, and changes of the tree under which they stay as they are.
-use Rattle.std.proofs.Common.{◌≡◌, ◌∙◌, ℕ, zero, suc, ◌+◌, ◌<◌, ◌≤◌, Bool, true, false, List, [], ◌∷◌, ◌++◌, Option, Some, None, refl, sym, ap, subst, true≢false, arith, codes, nat_eq, length}
-use Rattle.std.specs.Prelude.{◌&&◌, ◌||◌, not}
-use Rattle.markup.specs.Forest.{Above, Forest, IsParent, data_of, element_name, node_count}
+use Rattle.std.proofs.Common.{ℕ, ◌<◌, Bool, true, false, List, [], ◌∷◌, nat_eq}
+use Rattle.markup.specs.Forest.{Above, Forest, node_count}
 use Rattle.markup.specs.Named.{IsTree}
-use Rattle.markup.specs.declared.names.QualName.{QualName}
 use Rattle.markup.proofs.PutTexts.{KeepsNames, element-IsNode}
 use Rattle.html_rules.specs.Choice.{choose}
 use Rattle.html_rules.specs.Names.{Html, element_name_of}
 use Rattle.html_rules.specs.Stack.{left_below, left_from, without_current, without_current_but_root, without_number}
-use Rattle.html_rules.specs.State.{Open, Entry, Element, Marker, State, is_in}
+use Rattle.html_rules.specs.State.{Open, Entry, Element, Marker, is_in}
 use Rattle.html_rules.specs.declared.tag_set.TagSet.TheVariants as set
-use Rattle.html_rules_laws.specs.Soundness.{AreListed, AreOpened, IsApart, IsClear, IsOpened, IsStanding, Standing}
+use Rattle.html_rules_laws.specs.Soundness.{AreListed, AreOpened, IsApart, IsClear, IsOpened, IsStanding}
 
 -- some of the open elements, in their order
 pub data IsPart : List Open → List Open → Type 0 where

@@ -1,30 +1,24 @@
 -- Steps keep the open elements standing.
-use Rattle.std.proofs.Common.{◌≡◌, ◌∙◌, ℕ, zero, suc, ◌+◌, Bool, true, false, List, [], ◌∷◌, Option, Some, None, refl, sym, ap, codes}
+use Rattle.std.proofs.Common.{ℕ, Bool, true, false, List, [], ◌∷◌, Option, Some, None, refl, codes}
 use Rattle.std.specs.Prelude.{◌&&◌, ◌||◌, not, nat_eq, nat_le}
 use Rattle.std.specs.List.{list_all}
-use Rattle.markup.specs.Forest.{Forest, IsParent, Last, NodeData, add_attributes, data_of, element_name, node_count, one_more, put_new, remove, with_node}
+use Rattle.markup.specs.Forest.{Forest, Last, one_more, put_new}
 use Rattle.markup.specs.Forest.NodeData.{Comment, Doctype as DoctypeNode}
-use Rattle.markup.specs.Named.{IsOrdinary, IsTree}
+use Rattle.markup.specs.Named.{IsOrdinary}
 use Rattle.markup.specs.declared.attributes.Attribute.{Attribute}
-use Rattle.markup.specs.declared.quirks.QuirksMode.{QuirksMode}
 use Rattle.markup.proofs.PutTexts.{IsParent-document}
 use Rattle.html_tokens.specs.declared.tags.Tag.{Tag}
 use Rattle.html_tokens.specs.declared.token.Doctype.{Doctype}
-use Rattle.html_rules.specs.Actions.{append_in_body, back_to_original, forget_form_elem, frameset_not_ok, frameset_not_ok_unless_white, insert_form_void, keep_mode, keep_text, pop_template_mode, push_template_mode, remove_form_elem, remove_from_stack_if, remove_head_elem, set_form_elem, set_foster_parenting, set_head_elem, set_ignore_lf, set_mode, set_quirks_mode, set_template_mode, tell_pending_text, tell_text}
 use Rattle.html_rules.specs.Choice.{choose}
-use Rattle.html_rules.specs.ForeignContent.{ForeignEnd, Dropped, AsInMode, Closed, close_foreign, close_foreign_by, ends_foreign, enter_foreign, foreign_end, foreign_start, foreign_start_at, pop_foreign}
 use Rattle.html_rules.specs.Formatting.{behind_marker, clear_active_formatting_to_marker, count_equal, create_formatting_element_for, is_equiv_modulo_attr_order, list_current, push_marker, reconstruct_active_formatting_elements, reopen, with_room, without_earliest}
-use Rattle.html_rules.specs.Names.{Namespace, Html, element_name_of}
-use Rattle.html_rules.specs.Places.{append_comment, append_comment_to_doc, append_comment_to_html, append_doctype_to_document, append_text, create_root, insert_and_pop_element_for, insert_element, insert_element_for, insert_phantom, open_element, or_empty, put_element}
-use Rattle.html_rules.specs.Reset.{reset_insertion_mode}
-use Rattle.html_rules.specs.Stack.{check_body_end, close_item, close_item_named, close_p_element, close_p_element_in_button_scope, expect_to_close, finds_generic, generate_implied_end_except, generate_implied_end_tags, in_scope, is_open, item_name, left_by_implied, nothing, parse_error, pop, pop_but_root, pop_until, pop_until_current, process_end_tag_in_body, remove_from_stack, root_number}
-use Rattle.html_rules.specs.State.{Open, Entry, Element, Marker, State, current_is, current_node, current_number, is_in, is_named}
-use Rattle.html_rules.specs.Tokens.{is_white}
-use Rattle.html_rules.specs.declared.insertion_mode.InsertionMode.{InsertionMode}
+use Rattle.html_rules.specs.Names.{Namespace, Html}
+use Rattle.html_rules.specs.Places.{append_comment, append_comment_to_doc, append_comment_to_html, append_doctype_to_document, append_text, create_root, insert_element, insert_element_for, open_element, or_empty, put_element}
+use Rattle.html_rules.specs.Stack.{check_body_end, close_item, close_item_named, close_p_element, close_p_element_in_button_scope, expect_to_close, finds_generic, generate_implied_end_except, generate_implied_end_tags, in_scope, is_open, item_name, nothing, parse_error, pop, pop_but_root, pop_until, pop_until_current, process_end_tag_in_body, remove_from_stack, root_number}
+use Rattle.html_rules.specs.State.{Open, Entry, Element, Marker, State, current_is, is_in, is_named}
 use Rattle.html_rules.specs.declared.tag_set.TagSet.{TagSet}
 use Rattle.html_rules.specs.declared.tag_set.TagSet.TheVariants as set
-use Rattle.html_rules_laws.specs.Soundness.{AreListed, AreOpened, IsOpened, IsOwn, IsStanding, Standing}
-use Rattle.html_rules_laws.proofs.Standing.{IsPart, Stays, changed-Standing, fewer-Standing, opened-Standing, part-below, part-but_root, part-current, part-from, part-number}
+use Rattle.html_rules_laws.specs.Soundness.{AreListed, IsOwn, IsStanding, Standing}
+use Rattle.html_rules_laws.proofs.Standing.{changed-Standing, fewer-Standing, opened-Standing, part-below, part-but_root, part-current, part-from, part-number}
 use Rattle.html_rules_laws.proofs.StandingTrees.{Made, current-Place, inserted-Made, made-Made, put-Made, root-Parent, stays-nodes, stays-put_appropriately, stays-put_new, stays-text}
 
 -- a step that keeps the open elements standing
@@ -94,8 +88,8 @@ pub generic-Standing : (name : List ℕ) → Keeps (process_end_tag_in_body name
 unfolding process_end_tag_in_body
 generic-Standing name s is =
     choose-Standing (finds_generic (is_named name) s.open_elems) _ (parse_error s)
-      (expect_to_close-Standing (is_named name) (generate_implied_end_except (is_named name) s) (except-Standing (is_named name) s is))
-      (parse_error-Standing s is)
+    (expect_to_close-Standing (is_named name) (generate_implied_end_except (is_named name) s) (except-Standing (is_named name) s is))
+    (parse_error-Standing s is)
 
 pub check_body_end-Standing : Keeps check_body_end
 unfolding check_body_end
@@ -128,13 +122,13 @@ pub append_comment_to_html-Standing : (text : List ℕ) → Keeps (append_commen
 unfolding append_comment_to_html
 append_comment_to_html-Standing text s is =
     changed-Standing s.forest (put_new s.forest (Last (root_number s.open_elems)) (Comment text)) s.open_elems s.active_formatting
-      (stays-put_new s.forest (Last (root_number s.open_elems)) (Comment text) is.tree (comment-ordinary text) (root-Parent s.forest s.open_elems 0 (IsParent-document s.forest is.tree.forest) is.opened)) is
+    (stays-put_new s.forest (Last (root_number s.open_elems)) (Comment text) is.tree (comment-ordinary text) (root-Parent s.forest s.open_elems 0 (IsParent-document s.forest is.tree.forest) is.opened)) is
 
 pub doctype-Standing : (d : Doctype) → Keeps (append_doctype_to_document d)
 unfolding append_doctype_to_document
 doctype-Standing d s is =
     changed-Standing s.forest (put_new s.forest (Last 0) (DoctypeNode (or_empty d.name) (or_empty d.public_id) (or_empty d.system_id))) s.open_elems s.active_formatting
-      (stays-put_new s.forest (Last 0) _ is.tree (doctype-ordinary (or_empty d.name) (or_empty d.public_id) (or_empty d.system_id)) (IsParent-document s.forest is.tree.forest)) is
+    (stays-put_new s.forest (Last 0) _ is.tree (doctype-ordinary (or_empty d.name) (or_empty d.public_id) (or_empty d.system_id)) (IsParent-document s.forest is.tree.forest)) is
 
 -- elements
 
@@ -165,7 +159,7 @@ create_root-Standing attributes s is =
     let at = IsParent-document s.forest is.tree.forest in
     let made = made-Made s.forest Html (codes "html") attributes false s.open_elems is.tree tt is.opened in
     made-Standing s.forest _ s.open_elems s.active_formatting _
-      (put-Made s.forest Html (codes "html") attributes false s.open_elems (Last 0) is.tree tt is.opened at (IsParent-document _ made.stays.tree.forest)) is
+    (put-Made s.forest Html (codes "html") attributes false s.open_elems (Last 0) is.tree tt is.opened at (IsParent-document _ made.stays.tree.forest)) is
 
 -- formatting elements
 

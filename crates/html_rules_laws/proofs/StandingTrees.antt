@@ -1,31 +1,29 @@
 -- Changes of the tree that leave the open elements standing: texts, comments, attributes, new elements.
-use Rattle.std.proofs.Common.{◌≡◌, ◌≢◌, ◌∙◌, ℕ, zero, suc, ◌+◌, ◌-◌, ◌<◌, ◌≤◌, Bool, true, false, List, [], ◌∷◌, Option, Some, None, refl, sym, ap, subst, true≢false, arith, codes, length, inl, inr, ◌⊎◌}
-use Rattle.std.specs.Prelude.{◌&&◌, ◌||◌, not}
+use Rattle.std.proofs.Common.{◌≡◌, ◌∙◌, ℕ, ◌+◌, ◌<◌, Bool, true, false, List, [], ◌∷◌, Option, Some, None, refl, sym, ap, subst, true≢false, arith, codes, inl, inr}
+use Rattle.std.specs.Prelude.{◌&&◌, ◌||◌}
 use Rattle.std.specs.Str.{bytes_eq}
-use Rattle.std.proofs.lemmas.Bool.{and_parts, cases_lt}
-use Rattle.markup.specs.Forest.{Above, Forest, IsForest, IsLoose, IsParent, IsPlace, Last, Before, NodeData, Place, above_of, add_attributes, create_element, data_of, element_name, holds_children, node_count, parent_at, parent_of, place_near, put, put_new, put_text, remove, template_of, with_node}
-use Rattle.markup.specs.Forest.NodeData.{Comment, Contents, Document, Element as ElementNode}
-use Rattle.markup.specs.Named.{HasContents, IsOrdinary, IsTree, is_named}
+use Rattle.std.proofs.lemmas.Bool.{cases_lt}
+use Rattle.markup.specs.Forest.{Above, Forest, IsParent, IsPlace, Last, NodeData, Place, data_of, element_name, holds_children, node_count, parent_at, parent_of, place_near, put, put_new, put_text, with_node}
+use Rattle.markup.specs.Forest.NodeData.{Contents, Document, Element as ElementNode}
+use Rattle.markup.specs.Named.{IsOrdinary, IsTree, is_named}
 use Rattle.markup.specs.Names.{html_namespace, is_html_name}
 use Rattle.markup.specs.declared.attributes.Attribute.{Attribute}
-use Rattle.markup.specs.declared.names.QualName.{QualName}
 use Rattle.markup.specs.declared.node_or_text.NodeOrText.TheVariants.{AppendNode, AppendText}
 use Rattle.markup.specs.declared.quirks.QuirksMode.{QuirksMode}
-use Rattle.markup.proofs.Forests.{IsMade, IsMade-create_element, IsParent-place, IsPutAt, IsPutAt-put}
+use Rattle.markup.proofs.Forests.{IsMade, IsMade-create_element, IsParent-place, IsPutAt-put}
 use Rattle.markup.proofs.Parents.{data_of-past, parent_of-with_node}
-use Rattle.markup.proofs.PutTexts.{IsTexted, IsTexted-put_new, IsTexted-put_text, IsInPlace-add_attributes, IsParent-document, IsParent-element, KeepsNames, KeepsNames-texted, element-IsNode, element_name-with_attributes}
-use Rattle.markup.proofs.Forests.{IsInPlace}
-use Rattle.markup.proofs.Trees.{IsPlace-near, IsTree-add_attributes, IsTree-create_element, IsTree-put_child, IsTree-put_new, IsTree-remove, IsTree-same_nodes}
-use Rattle.markup.proofs.Walks.{Above-IsNode, Above-grown, Above-less, Above-put_free}
+use Rattle.markup.proofs.PutTexts.{IsTexted, IsTexted-put_new, IsTexted-put_text, IsParent-document, IsParent-element, KeepsNames, KeepsNames-texted, element-IsNode}
+use Rattle.markup.proofs.Trees.{IsPlace-near, IsTree-create_element, IsTree-put_child, IsTree-put_new, IsTree-same_nodes}
+use Rattle.markup.proofs.Walks.{Above-IsNode, Above-grown, Above-put_free}
 use Rattle.html_rules.specs.Choice.{choose}
-use Rattle.html_rules.specs.Names.{Namespace, Html, MathMl, Svg, Other, element_name_of, flags_of, mathml_namespace, svg_namespace, uri_of}
+use Rattle.html_rules.specs.Names.{Namespace, Html, MathMl, Svg, Other, element_name_of, flags_of, mathml_namespace, svg_namespace}
 use Rattle.html_rules.specs.Places.{foster_place, inside, place_for, with_element}
 use Rattle.html_rules.specs.Sets.{is_among, mathml_names_of, names_in, names_of, svg_names_of}
 use Rattle.html_rules.specs.Stack.{number_from, root_number}
-use Rattle.html_rules.specs.State.{Open, Entry, State, current_node, current_number, is_in}
+use Rattle.html_rules.specs.State.{Open, current_node, current_number, is_in}
 use Rattle.html_rules.specs.declared.tag_set.TagSet.TheVariants as set
-use Rattle.html_rules_laws.specs.Soundness.{AreOpened, IsApart, IsClear, IsOpened, IsOwn, IsStanding}
-use Rattle.html_rules_laws.proofs.Standing.{Stays, changed-Standing, opened-Standing, stays-opened}
+use Rattle.html_rules_laws.specs.Soundness.{AreOpened, IsClear, IsOpened, IsOwn}
+use Rattle.html_rules_laws.proofs.Standing.{Stays, stays-opened}
 
 pub stays-nodes : (f : Forest) (mode : QuirksMode) (errors : ℕ) → IsTree f → Stays f (record { nodes = f.nodes; quirks = mode; errors = errors })
 stays-nodes f mode errors tree = record {
@@ -101,8 +99,8 @@ either-Place f false p q h k = k
 pub target-Place : (foster : Bool) (f : Forest) (xs : List Open) (target : Open) → IsTree f → AreOpened f xs → IsOpened f target → IsPlace f (place_for foster f xs (Some target))
 target-Place foster f xs target tree h is =
     either-Place f (foster && is_in set.FosterTarget target) (foster_place f (root_number xs) xs) (inside target)
-      (foster-Place f (root_number xs) xs tree (root-Parent f xs 0 (IsParent-document f tree.forest) h) h)
-      (inside-by f target (is_in set.Template target) refl tree is)
+    (foster-Place f (root_number xs) xs tree (root-Parent f xs 0 (IsParent-document f tree.forest) h) h)
+    (inside-by f target (is_in set.Template target) refl tree is)
 
 -- the appropriate place is one
 pub current-Place : (foster : Bool) (f : Forest) (xs : List Open) → IsTree f → AreOpened f xs → IsPlace f (place_for foster f xs (current_node xs))
@@ -125,7 +123,7 @@ pub stays-put_appropriately : (foster : Bool) (f : Forest) (xs : List Open) (abo
     → Stays f (put_new f (place_for foster (with_node f about) xs (current_node xs)) about)
 stays-put_appropriately foster f xs about tree plain h =
     stays-put_new f (place_for foster (with_node f about) xs (current_node xs)) about tree plain
-      (subst (λ place. IsPlace f place) (sym (place-same foster f (with_node f about) xs (current_node xs) (λ n. parent_of-with_node f about n))) (current-Place foster f xs tree h))
+    (subst (λ place. IsPlace f place) (sym (place-same foster f (with_node f about) xs (current_node xs) (λ n. parent_of-with_node f about n))) (current-Place foster f xs tree h))
 
 -- a new element
 
@@ -188,7 +186,7 @@ put-Made f namespace name attributes dup xs place tree own h before after =
     let at = IsPutAt-put g place (node_count f) is.is after loose in
     let k : Forest = put g place (node_count f) in
     let above : (a n : ℕ) → n < node_count f → Above k a n → Above f a n =
-        λ a n there up. made.stays.above a n there (Above-put_free g k (parent_at place) (node_count f) at.put a n (λ new. not_above-new f n there (made.stays.above (node_count f) n there new)) up) in
+    λ a n there up. made.stays.above a n there (Above-put_free g k (parent_at place) (node_count f) at.put a n (λ new. not_above-new f n there (made.stays.above (node_count f) n there new)) up) in
     record {
       stays = record {
         tree = IsTree-put_child (λ n. n) g place (AppendNode (node_count f)) made.stays.tree after loose;

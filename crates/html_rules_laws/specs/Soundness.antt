@@ -1,11 +1,14 @@
 -- What the rules keep of the tree and of the open elements.
-use Rattle.std.specs.Prelude.{◌≡◌, ℕ, Bool, false, List, [], ◌∷◌, Option, Some, None}
+use Rattle.std.specs.Prelude.{◌≡◌, ℕ, Bool, false, ◌&&◌, List, [], ◌∷◌, Some}
 use Rattle.std.specs.Str.{bytes_eq}
 use Rattle.markup.specs.Forest.{Above, Forest, data_of, element_name}
 use Rattle.markup.specs.Named.{IsTree}
 use Rattle.markup.specs.Names.{html_namespace}
-use Rattle.html_rules.specs.Names.{Namespace, Html, MathMl, Svg, Other, element_name_of}
+use Rattle.html_rules.specs.Names.{Namespace, Html, Other, element_name_of}
+use Rattle.html_tokens.specs.declared.token.Token.{Token}
+use Rattle.html_rules.specs.Actions.{act}
 use Rattle.html_rules.specs.State.{Open, Entry, Element, Marker, State}
+use Rattle.html_rules.specs.Table.{Action, AdoptNobr, AdoptionAgency, CloseMisnestedA, EnterForeign, InsertForeign, PushHeadElem, Then, When}
 
 -- a namespace that is not one of the three is not HTML's either
 abbrev pub IsOwn : Namespace → Type 0
@@ -46,3 +49,19 @@ pub record IsStanding (f : Forest) (xs : List Open) (entries : List Entry) : Typ
 -- the tree is one, the open elements are elements of it, and no later one is an earlier one or above one
 abbrev pub Standing : State → Type 0
 Standing s = IsStanding s.forest s.open_elems s.active_formatting
+
+-- whether an action neither calls the adoption agency, nor opens the head again, nor asks for the namespace of a fragment's context
+abbrev pub is_plain_action : Action → Bool
+is_plain_action (Then a b) = is_plain_action a && is_plain_action b
+is_plain_action (When c a) = is_plain_action a
+is_plain_action AdoptionAgency = false
+is_plain_action AdoptNobr = false
+is_plain_action CloseMisnestedA = false
+is_plain_action PushHeadElem = false
+is_plain_action InsertForeign = false
+is_plain_action (EnterForeign (Other uri)) = false
+is_plain_action _ = Bool.true
+
+-- such actions keep the tree a tree and the open elements in order
+abbrev pub ArePlainActionsStanding : Type 0
+ArePlainActionsStanding = (a : Action) → is_plain_action a ≡ Bool.true → (t : Token) (s : State) → Standing s → Standing (act a t s)
