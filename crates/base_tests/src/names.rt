@@ -2,8 +2,8 @@
 
 use markup::laws::{EqualByValue, compare, feed, is_equal};
 use markup::{
-    Attribute, Attributes, ElementFlags, LocalName, Namespace, ParseFault, Prefix, QualName,
-    QuirksMode, Text, TokenizerResult, namespaces,
+    Attribute, Attributes, ElementFlags, KnownNamespace, LocalName, Namespace, ParseFault, Prefix,
+    QualName, QuirksMode, Text, TokenizerResult, namespaces,
 };
 use std::alloc::{AllocError, Global};
 use std::cmp::Ordering;
@@ -375,6 +375,37 @@ fn expanded_names_leave_the_prefix_out(rt: HostRuntime) -> Result<(), Fail> {
     assert!(rt; plain != prefixed);
     assert!(rt; is_alike(&plain.expanded(), &prefixed.expanded()));
     assert_eq!(rt; prefixed.expanded().local.as_str(), "href");
+    Ok(())
+}
+
+#[test]
+fn known_namespaces_go_by_their_names(rt: HostRuntime) -> Result<(), Fail> {
+    let cases = [
+        (KnownNamespace::NoNamespace, namespaces::NONE),
+        (KnownNamespace::Html, namespaces::HTML),
+        (KnownNamespace::MathMl, namespaces::MATHML),
+        (KnownNamespace::Svg, namespaces::SVG),
+        (KnownNamespace::XLink, namespaces::XLINK),
+        (KnownNamespace::Xml, namespaces::XML),
+        (KnownNamespace::Xmlns, namespaces::XMLNS),
+    ];
+    for (known, characters) in cases {
+        let made = namespace(rt.alloc(), characters)?;
+        assert_eq!(rt; made.known(), Some(known));
+        assert_eq!(rt; Namespace::from_known(known), made);
+        assert_eq!(rt; made.as_str(), characters);
+        assert!(rt; made.is_known(known));
+        assert_eq!(rt;
+            made.is_known(KnownNamespace::Svg),
+            known == KnownNamespace::Svg
+        );
+    }
+    for characters in ["svg", "http://www.w3.org/1999/xhtml/"] {
+        let made = namespace(rt.alloc(), characters)?;
+        assert_eq!(rt; made.known(), None);
+        assert!(rt; !made.is_known(KnownNamespace::Html));
+    }
+    assert_eq!(rt; Namespace::none().as_str(), "");
     Ok(())
 }
 

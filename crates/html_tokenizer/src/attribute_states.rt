@@ -87,7 +87,7 @@ impl<Sink: TokenSink> Tokenizer<Sink> {
             self.tag.had_duplicate_attributes = true;
             return Ok(());
         }
-        let name = QualName::new(None, Namespace::new(String::new(alloc)), name);
+        let name = QualName::new(None, Namespace::none(), name);
         self.tag.attrs.push(Attribute { name, value })
     }
 

@@ -10,3 +10,4 @@ pub mod TemplateContents
 pub mod Trees
 pub mod ErrorsApart
 pub mod TextPieces
+pub mod NamespaceNames

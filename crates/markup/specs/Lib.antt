@@ -5,3 +5,4 @@ pub mod Forest
 pub mod Named
 pub mod TreeLaws
 pub mod TextForm
+pub mod Namespaces

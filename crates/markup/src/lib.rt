@@ -2,6 +2,7 @@
 #![tactic(auto)]
 
 pub mod attributes;
+mod characters;
 pub mod fault;
 pub mod flags;
 pub mod html_names;
@@ -22,6 +23,7 @@ pub use fault::ParseFault;
 pub use flags::ElementFlags;
 pub use html_names::is_html_name;
 pub use names::{ExpandedName, LocalName, Namespace, Prefix, QualName};
+pub use namespaces::KnownNamespace;
 pub use node_or_text::NodeOrText;
 pub use quirks::QuirksMode;
 pub use text::Text;

@@ -5,9 +5,13 @@ ghost use Rattle.std.specs.String.{string_bytes};
 ghost use Rattle.markup.specs.Plain.{is_plain};
 ghost use Rattle.markup.specs.declared.fault.ParseFault.TheVariants.{Memory};
 
+use crate::characters;
 use crate::fault::ParseFault;
+use crate::namespaces::{self, KnownNamespace, NamespaceForm};
 use crate::text::Text;
 use std::alloc::Global;
+use std::cmp::Ordering;
+use std::hash::{Hash, Hasher};
 use std::marker::Model;
 
 /// The name of an element or an attribute within its namespace, as `table`. A contract sees the list of its characters.
@@ -99,9 +103,9 @@ impl LocalName {
 }
 
 /// The name of a namespace, as `http://www.w3.org/1999/xhtml`; the empty text where there is none. A contract sees the list of its characters.
-#[derive(Debug, Drop, PartialEq, Eq, PartialOrd, Ord, Hash)]
+#[derive(Debug, Drop)]
 pub struct Namespace {
-    uri: Text,
+    form: NamespaceForm,
 }
 
 impl Model for Namespace {
@@ -109,18 +113,62 @@ impl Model for Namespace {
 
     ghost Value = { List ℕ };
 
-    ghost view = { λ n. n.uri };
+    ghost use Rattle.markup.specs.Namespaces.{form_name, IsCanonical};
 
-    ghost inverse = { λ characters. record { uri = characters } };
+    ghost view = { λ n. form_name n.form };
+
+    ghost invariant = { λ n. IsCanonical n.form };
 }
 
 impl Namespace {
+    ghost use Rattle.markup.specs.Namespaces.{name_of, known_namespace};
+
     /// The namespace that a string names.
     pub fn new(text: String) -> Namespace
         ensures { result ≡ chars (string_bytes text) }
     {
+        match namespaces::known(text.as_str()) {
+            Some(known) => Namespace::from_known(known),
+            None => Namespace {
+                form: NamespaceForm::Other(text),
+            },
+        }
+    }
+
+    /// A known namespace, which takes no memory.
+    pub fn from_known(known: KnownNamespace) -> Namespace
+        ensures { result ≡ name_of known }
+    {
         Namespace {
-            uri: Text::new(text),
+            form: NamespaceForm::Known(known),
+        }
+    }
+
+    /// No namespace.
+    #[tactic(auto, unfolding(crate::specs::Namespaces::name_of))]
+    pub fn none() -> Namespace
+        ensures { result ≡ [] }
+    {
+        Namespace::from_known(KnownNamespace::NoNamespace)
+    }
+
+    /// Which of the known namespaces this is, if it is one.
+    pub fn known(&self) -> Option<KnownNamespace>
+        ensures { result ≡ known_namespace self.now }
+    {
+        match &self.form {
+            NamespaceForm::Known(known) => Some(*known),
+            NamespaceForm::Other(_) => None,
+        }
+    }
+
+    /// Whether this is the given known namespace.
+    pub fn is_known(&self, known: KnownNamespace) -> bool
+        ensures { result ≡ bytes_eq self.now (name_of known) }
+    {
+        match &self.form {
+            NamespaceForm::Known(own) => *own == known,
+            NamespaceForm::Other(_) => false,
         }
     }
 
@@ -128,7 +176,10 @@ impl Namespace {
     pub fn as_str(&self) -> &str
         ensures { chars result.now ≡ self.now }
     {
-        self.uri.as_str()
+        match &self.form {
+            NamespaceForm::Known(known) => namespaces::name_of(*known),
+            NamespaceForm::Other(text) => text.as_str(),
+        }
     }
 
     /// Whether this is the given namespace, whose name is of ASCII alone.
@@ -136,7 +187,7 @@ impl Namespace {
         requires { IsTrue (is_plain plain.now) }
         ensures { result ≡ bytes_eq self.now plain.now }
     {
-        self.uri.is(plain)
+        characters::are_same(self.as_str(), plain)
     }
 
     /// A namespace of its own with the same name.
@@ -144,9 +195,81 @@ impl Namespace {
         ensures ok { IfOk result (λ copied. copied ≡ self.now) }
         ensures err { IfErr result (λ fault. fault ≡ Memory) }
     {
-        Ok(Namespace {
-            uri: self.uri.copy(alloc)?,
-        })
+        match &self.form {
+            NamespaceForm::Known(known) => Ok(Namespace::from_known(*known)),
+            NamespaceForm::Other(text) => Ok(Namespace::new(String::from_str(
+                alloc,
+                text.as_str(),
+            )?)),
+        }
+    }
+}
+
+impl PartialEq for Namespace {
+    ghost use Rattle.std.specs.Prelude.{nat_eq};
+    ghost use Rattle.std.specs.Cmp.{partial_equiv_from_equiv};
+    ghost use Rattle.std.specs.Cmp.Lexicographic.{pointwise, nat_list_eq_equiv};
+
+    ghost eq = { pointwise nat_eq };
+
+    ghost laws = { partial_equiv_from_equiv nat_list_eq_equiv };
+
+    fn eq(&self, other: &Namespace) -> bool {
+        characters::are_same(self.as_str(), other.as_str())
+    }
+}
+
+impl Eq for Namespace {
+    ghost use Rattle.std.specs.Cmp.Lexicographic.{nat_list_eq_equiv};
+
+    ghost laws = { nat_list_eq_equiv };
+}
+
+// Namespaces are ordered by their names.
+impl PartialOrd for Namespace {
+    ghost use Rattle.std.specs.Prelude.{Some};
+    ghost use Rattle.std.specs.Ordering.{nat_cmp};
+    ghost use Rattle.std.specs.Cmp.Lexicographic.{slice_cmp, texts_po};
+
+    ghost partial_cmp = { λ a b. Some (slice_cmp nat_cmp a b) };
+
+    ghost laws = { texts_po };
+
+    fn partial_cmp(&self, other: &Namespace) -> Option<Ordering> {
+        Some(self.cmp(other))
+    }
+}
+
+impl Ord for Namespace {
+    ghost use Rattle.std.specs.Prelude.{refl};
+    ghost use Rattle.std.specs.Ordering.{nat_cmp};
+    ghost use Rattle.std.specs.Cmp.Lexicographic.{slice_cmp, nat_list_cmp_total, texts_ties};
+
+    ghost cmp = { slice_cmp nat_cmp };
+
+    ghost total = { nat_list_cmp_total };
+
+    ghost matches_partial_cmp = { λ a b. refl };
+
+    ghost matches_eq = { λ a b. texts_ties a b };
+
+    fn cmp(&self, other: &Namespace) -> Ordering {
+        characters::compared(self.as_str(), other.as_str())
+    }
+}
+
+impl Hash for Namespace {
+    ghost use Rattle.std.specs.Prelude.{encode_utf8_all};
+    ghost use Rattle.std.specs.Hash as fed;
+    ghost use Rattle.std.specs.Cmp.Rules.{hashing};
+    ghost use Rattle.std.proofs.Common.{rules};
+
+    ghost hash_input = { λ text. fed.str (encode_utf8_all text) };
+
+    ghost respects_eq = { Prim.search (hashing, rules) };
+
+    fn hash<H: Hasher>(&self, state: &mut H) {
+        characters::feed(self.as_str(), state);
     }
 }
 

@@ -7,6 +7,7 @@ ghost use Rattle.std.specs.String.{string_bytes};
 ghost use Rattle.markup.specs.Plain.{is_plain};
 ghost use Rattle.markup.specs.declared.fault.ParseFault.TheVariants.{Memory};
 
+use crate::characters;
 use crate::fault::ParseFault;
 use crate::text_form::TextForm;
 use std::alloc::Global;
@@ -88,7 +89,7 @@ impl Text {
         requires { IsTrue (is_plain plain.now) }
         ensures { result ≡ bytes_eq self.now plain.now }
     {
-        self.as_str() == plain
+        characters::are_same(self.as_str(), plain)
     }
 
     /// A text of its own with the same characters.
@@ -178,7 +179,7 @@ impl PartialEq for Text {
     ghost laws = { partial_equiv_from_equiv nat_list_eq_equiv };
 
     fn eq(&self, other: &Text) -> bool {
-        self.as_str() == other.as_str()
+        characters::are_same(self.as_str(), other.as_str())
     }
 }
 
@@ -217,7 +218,7 @@ impl Ord for Text {
     ghost matches_eq = { λ a b. texts_ties a b };
 
     fn cmp(&self, other: &Text) -> Ordering {
-        self.as_str().chars().cmp(other.as_str().chars())
+        characters::compared(self.as_str(), other.as_str())
     }
 }
 
@@ -232,6 +233,6 @@ impl Hash for Text {
     ghost respects_eq = { Prim.search (hashing, rules) };
 
     fn hash<H: Hasher>(&self, state: &mut H) {
-        self.as_str().hash(state);
+        characters::feed(self.as_str(), state);
     }
 }

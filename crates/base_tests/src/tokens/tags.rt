@@ -13,7 +13,7 @@ fn name(alloc: Global, characters: &str) -> Result<LocalName, ParseFault> {
 }
 
 fn attribute(alloc: Global, pair: Pair) -> Result<Attribute, ParseFault> {
-    let namespace = Namespace::new(String::new(alloc));
+    let namespace = Namespace::none();
     Ok(Attribute {
         name: QualName::new(None, namespace, name(alloc, pair.0)?),
         value: text(alloc, pair.1)?,

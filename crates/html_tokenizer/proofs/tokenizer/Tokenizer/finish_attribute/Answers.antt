@@ -1,5 +1,4 @@
-use Rattle.std.proofs.Common.{◌≡◌, ◌∙◌, false, [], sym, ap}
-use Rattle.std.proofs.lemmas.Str.{chars-nil}
+use Rattle.std.proofs.Common.{◌≡◌, ◌∙◌, false, sym, ap}
 use Rattle.html_tokens.specs.Tags.{has_attribute}
 use Rattle.html_tokenizer.proofs.Finished.{plain, added}
 use Rattle.html_tokenizer.proofs.tokenizer.Tokenizer.finish_attribute.Goals as goal
@@ -9,6 +8,5 @@ returns-clause-ok g c =
     let old = c.args.self.now in
     let named : c.from_text-name.result ≡ old.attribute_name = c.from_text-name.ensures ∙ c.replace-name.ensures.value in
     let missing : has_attribute old.tag old.attribute_name ≡ false = ap (has_attribute old.tag) (sym named) ∙ sym c.has_name.ensures ∙ c.if-has_name.false in
-    let no_space : c.new-2.result ≡ [] = rw (c.new-2.ensures, c.new.ensures.bytes) chars-nil in
-    added old c.push.result c.push.new.self _ c.replace-name.new.dest c.replace-value.new.dest missing c.push.ensures.ok (plain c.new-name.result c.new-2.result c.from_text-name.result c.replace-value.result old.attribute_name old.attribute_value c.new-name.ensures no_space named c.replace-value.ensures.value)
+    added old c.push.result c.push.new.self _ c.replace-name.new.dest c.replace-value.new.dest missing c.push.ensures.ok (plain c.new-name.result c.none.result c.from_text-name.result c.replace-value.result old.attribute_name old.attribute_value c.new-name.ensures c.none.ensures named c.replace-value.ensures.value)
     (c.replace-name.ensures.after ∙ c.empty.ensures) (c.replace-value.ensures.after ∙ c.empty-2.ensures)
