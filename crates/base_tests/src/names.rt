@@ -140,6 +140,29 @@ fn a_refused_list_is_unchanged(rt: HostRuntime) -> Result<(), Fail> {
     Ok(())
 }
 
+// Attributes `a0`, `a1` and so on, so many.
+fn numbered(alloc: Global, count: usize) -> Result<Attributes, Fail> {
+    let mut list = Attributes::new(alloc);
+    for number in 0..count {
+        let local = format!(in alloc; "a{number}")?;
+        list.push(attribute(alloc, local.as_str(), "x")?)?;
+    }
+    Ok(list)
+}
+
+#[test]
+fn local_names_are_found_among_few_and_many(rt: HostRuntime) -> Result<(), Fail> {
+    for count in [0, 1, 16, 17, 40] {
+        let list = numbered(rt.alloc(), count)?;
+        for number in 0..50 {
+            let name = format!(in rt.alloc(); "a{number}")?;
+            let found = list.has_local_name(&LocalName::new(name));
+            assert_eq!(rt; found, number < count);
+        }
+    }
+    Ok(())
+}
+
 #[test]
 fn texts_are_tested(rt: HostRuntime) -> Result<(), Fail> {
     let cases = [

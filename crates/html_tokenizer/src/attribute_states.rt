@@ -2,7 +2,7 @@
 ghost use Rattle.std.specs.Prelude.{◌≡◌, [], Some, is_some, IfErr, OnOk};
 ghost use Rattle.std.specs.Str.{chars};
 ghost use Rattle.html_tokens.specs.Characters.{ends_attribute_name};
-ghost use Rattle.html_tokens.specs.Tags.{has_attribute, with_attribute, is_odd_first, is_odd_in_name, is_odd_unquoted};
+ghost use Rattle.html_tokens.specs.Tags.{with_attribute, is_odd_first, is_odd_in_name, is_odd_unquoted};
 ghost use Rattle.html_tokens.specs.declared.states.AttrValueKind.TheVariants as value;
 ghost use Rattle.html_tokens.specs.declared.states.State.TheVariants as state;
 ghost use Rattle.markup.specs.declared.fault.ParseFault.TheVariants.{Memory};
@@ -16,7 +16,7 @@ use crate::held_reference::HeldReference;
 use crate::tokenizer::Tokenizer;
 use html_tokens::sink::TokenSink;
 use html_tokens::states::{AttrValueKind, State};
-use html_tokens::{ProcessResult, Tag};
+use html_tokens::ProcessResult;
 use markup::{Attribute, LocalName, Namespace, ParseFault, QualName, Text};
 use std::mem;
 
@@ -25,16 +25,6 @@ fn ends_name(c: char) -> bool
     ensures { result ≡ ends_attribute_name c }
 {
     is_white_space(c) || c == '/' || c == '>' || c == '='
-}
-
-/// Whether a tag has an attribute of this name.
-fn has_name(tag: &Tag, name: &LocalName) -> bool
-    ensures { result ≡ has_attribute tag.now name.now }
-{
-    tag.attrs
-        .as_slice()
-        .iter()
-        .any(|attribute| *name == attribute.name.local)
 }
 
 /// The error of a character in an attribute's name, if it is one.
@@ -83,7 +73,7 @@ impl<Sink: TokenSink> Tokenizer<Sink> {
         let name = mem::replace(&mut self.attribute_name, Text::empty(alloc));
         let name = LocalName::from_text(name);
         let value = mem::replace(&mut self.attribute_value, Text::empty(alloc));
-        if has_name(&self.tag, &name) {
+        if self.tag.attrs.has_local_name(&name) {
             self.tag.had_duplicate_attributes = true;
             return Ok(());
         }

@@ -11,3 +11,4 @@ pub mod Trees
 pub mod ErrorsApart
 pub mod TextPieces
 pub mod NamespaceNames
+pub mod NameSets

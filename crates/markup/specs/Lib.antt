@@ -6,3 +6,4 @@ pub mod Named
 pub mod TreeLaws
 pub mod TextForm
 pub mod Namespaces
+pub mod LocalNames

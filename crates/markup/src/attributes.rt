@@ -3,9 +3,11 @@ ghost use Rattle.std.specs.Prelude.{◌≡◌, ◌==◌, ◌++◌, ◌∷◌, []
 ghost use Rattle.markup.specs.declared.fault.ParseFault.TheVariants.{Memory};
 
 use crate::fault::ParseFault;
-use crate::names::QualName;
+use crate::local_names;
+use crate::names::{LocalName, QualName};
 use crate::text::Text;
 use std::alloc::Global;
+use std::collections::BTreeSet;
 use std::marker::Model;
 
 /// A name with its value.
@@ -34,6 +36,7 @@ impl Attribute {
 #[derive(Debug, Drop)]
 pub struct Attributes {
     list: Vec<Attribute>,
+    names: Option<BTreeSet<Text>>,
 }
 
 impl Model for Attributes {
@@ -42,16 +45,23 @@ impl Model for Attributes {
 
     ghost Value = { List Attribute };
 
+    ghost use Rattle.markup.specs.LocalNames.{FitsNames};
+
     ghost view = { λ a. a.list.items };
+
+    ghost invariant = { λ a. FitsNames a.names a.list.items };
 }
 
 impl Attributes {
+    ghost use Rattle.markup.specs.LocalNames.{has_local_name};
+
     /// No attributes. The list grows in the memory of `alloc`.
     pub fn new(alloc: Global) -> Attributes
         ensures { result ≡ [] }
     {
         Attributes {
             list: Vec::new(alloc),
+            names: None,
         }
     }
 
@@ -59,14 +69,14 @@ impl Attributes {
     pub fn from_vec(list: Vec<Attribute>) -> Attributes
         ensures { result ≡ list.items }
     {
-        Attributes { list }
+        Attributes { list, names: None }
     }
 
     /// Gives the vector back, with its memory.
     pub fn into_vec(self) -> Vec<Attribute>
         ensures { result.items ≡ self }
     {
-        let Attributes { list } = self;
+        let Attributes { list, names: _ } = self;
         list
     }
 
@@ -97,8 +107,18 @@ impl Attributes {
         ensures err { OnErr result (self.new ≡ self.old) }
         ensures fault { IfErr result (λ fault. fault ≡ Memory) }
     {
+        let alloc = *self.list.allocator();
+        let names = local_names::with(self.names.take(), alloc, attribute.name.local.as_text());
         self.list.push(attribute)?;
+        self.names = local_names::of(names, alloc, self.list.as_slice());
         Ok(())
+    }
+
+    /// Whether an attribute has this local name, in any namespace. Time grows with the logarithm of the number of attributes.
+    pub fn has_local_name(&self, name: &LocalName) -> bool
+        ensures { result ≡ has_local_name name.now self.now }
+    {
+        local_names::has(&self.names, self.list.as_slice(), name)
     }
 
     /// A list of its own with the same attributes.

@@ -7,6 +7,7 @@ pub mod fault;
 pub mod flags;
 pub mod html_names;
 pub mod laws;
+mod local_names;
 pub mod names;
 pub mod namespaces;
 pub mod node_or_text;

@@ -73,6 +73,13 @@ impl LocalName {
         self.name.as_str()
     }
 
+    /// The text of the name, lent.
+    pub fn as_text(&self) -> &Text
+        ensures { result.now ≡ self.now }
+    {
+        &self.name
+    }
+
     /// Whether this is the given name, which is of ASCII alone.
     pub fn is(&self, plain: &str) -> bool
         requires { IsTrue (is_plain plain.now) }
