@@ -1,5 +1,6 @@
 //! Worked values of texts, names and attributes, each public call on the way.
 
+use markup::known_names::NAMES;
 use markup::laws::{EqualByValue, compare, feed, is_equal};
 use markup::{
     Attribute, Attributes, ElementFlags, KnownNamespace, LocalName, Namespace, ParseFault, Prefix,
@@ -398,6 +399,20 @@ fn expanded_names_leave_the_prefix_out(rt: HostRuntime) -> Result<(), Fail> {
     assert!(rt; plain != prefixed);
     assert!(rt; is_alike(&plain.expanded(), &prefixed.expanded()));
     assert_eq!(rt; prefixed.expanded().local.as_str(), "href");
+    Ok(())
+}
+
+#[test]
+fn known_names_are_found_in_their_table(rt: HostRuntime) -> Result<(), Fail> {
+    for (place, characters) in NAMES.iter().enumerate() {
+        let made = LocalName::from_str(rt.alloc(), *characters)?;
+        let found = made.known().ok_or("missing")?;
+        assert_eq!(rt; usize::from(found.place), place);
+    }
+    for characters in ["", "A", "aa", "divx", "di", "zzz", "dív"] {
+        let made = LocalName::from_str(rt.alloc(), characters)?;
+        assert_eq!(rt; made.known(), None);
+    }
     Ok(())
 }
 

@@ -1,6 +1,6 @@
 -- No change of a forest but that of an error looks at the number of errors, and none else moves it.
 use Rattle.std.proofs.Common.{◌≡◌, ◌==◌, ℕ, Bool, true, false, cond, List, Option, Some, None, length, refl}
-use Rattle.markup.specs.Forest.{Forest, Place, create_element, data_if, joined_text, parent_of, previous_at, put_new, put_text, remove_under, text_of, with_node}
+use Rattle.markup.specs.Forest.{Forest, Place, create_element, data_if, joined_text, parent_of, previous_at, put_text, remove_under, text_of, with_node}
 use Rattle.markup.specs.Forest.NodeData.{Contents, Element}
 use Rattle.markup.specs.TreeLaws.{AreErrorsApart, LeavesErrors, with_errors}
 use Rattle.markup.specs.declared.attributes.Attribute.{Attribute}

@@ -12,3 +12,5 @@ pub mod ErrorsApart
 pub mod TextPieces
 pub mod NamespaceNames
 pub mod NameSets
+pub mod RisingTexts
+pub mod PlainTexts

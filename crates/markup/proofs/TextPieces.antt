@@ -1,14 +1,14 @@
 -- Text put at a place in two pieces is as in one.
-use Rattle.std.proofs.Common.{◌≡◌, ◌≢◌, ℕ, ◌+◌, ◌<◌, ◌==◌, ◌∙◌, zero, suc, refl, sym, ap, arith, true, false, cond, length, List, [], ◌∷◌, ◌++◌, Option, Some, None, append_assoc, append-nil, set, inl, inr}
+use Rattle.std.proofs.Common.{◌≡◌, ◌≢◌, ℕ, ◌<◌, ◌==◌, ◌∙◌, zero, suc, refl, sym, ap, arith, true, false, cond, length, List, [], ◌∷◌, ◌++◌, Option, Some, None, append_assoc, append-nil, set, inl, inr}
 use Rattle.std.proofs.lemmas.List.{set-set}
 use Rattle.std.proofs.lemmas.Bool.{cases_Bool}
 use Rattle.std.proofs.lemmas.Bool.Decides.{nat_tests}
-use Rattle.markup.specs.Forest.{Forest, Node, NodeData, IsForest, IsPlace, Place, node_count, data_of, children_of, children_with, data_if, is_among, joined_text, last_of, parent_at, previous_at, previous_in, put, put_before, put_new, put_text, text_of, those_before, with_data, with_node}
+use Rattle.markup.specs.Forest.{Forest, Node, NodeData, IsForest, IsPlace, Place, node_count, data_of, children_of, children_with, data_if, is_among, joined_text, last_of, parent_at, previous_at, previous_in, put_before, put_new, put_text, text_of, those_before, with_data, with_node}
 use Rattle.markup.specs.Forest.NodeData.{Text}
 use Rattle.markup.specs.Forest.Place.{Last, Before}
 use Rattle.markup.proofs.Forests.{IsParent-place}
 use Rattle.markup.proofs.Parents.{children_of-past, children_of-with_data, children_of-with_node, data_of-with_data, data_of-with_node_old, is_among-parent}
-use Rattle.markup.proofs.PutTexts.{IsPutNew, IsPutNew-put_new, text-IsNode}
+use Rattle.markup.proofs.PutTexts.{IsPutNew-put_new, text-IsNode}
 use Rattle.markup.specs.TreeLaws.{AreTextsJoined}
 
 set-last : {A : Type 0} (ns : List A) (x z : A) → set (ns ++ x ∷ []) (length ns) z ≡ ns ++ z ∷ []

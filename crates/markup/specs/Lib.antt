@@ -7,3 +7,4 @@ pub mod TreeLaws
 pub mod TextForm
 pub mod Namespaces
 pub mod LocalNames
+pub mod KnownNames

@@ -7,6 +7,7 @@ ghost use Rattle.markup.specs.declared.fault.ParseFault.TheVariants.{Memory};
 
 use crate::characters;
 use crate::fault::ParseFault;
+use crate::known_names::{self, KnownName};
 use crate::namespaces::{self, KnownNamespace, NamespaceForm};
 use crate::text::Text;
 use std::alloc::Global;
@@ -31,6 +32,10 @@ impl Model for LocalName {
 }
 
 impl LocalName {
+    ghost use Rattle.std.specs.Prelude.{false, IfSome, IfNone};
+    ghost use Rattle.std.specs.List.{list_any};
+    ghost use Rattle.markup.specs.KnownNames.{names, IsNameAt};
+
     /// The name of a string.
     pub fn new(text: String) -> LocalName
         ensures { result ≡ chars (string_bytes text) }
@@ -78,6 +83,15 @@ impl LocalName {
         ensures { result.now ≡ self.now }
     {
         &self.name
+    }
+
+    /// The known name that this is, if it is one of those in `known_names::NAMES`. It is looked up at each call: who asks for
+    /// it again keeps it.
+    pub fn known(&self) -> Option<KnownName>
+        ensures found { IfSome result (λ known. IsNameAt known.place self.now) }
+        ensures missing { IfNone result (list_any (bytes_eq self.now) names ≡ false) }
+    {
+        known_names::known_name(self.as_str())
     }
 
     /// Whether this is the given name, which is of ASCII alone.
