@@ -1,7 +1,8 @@
 -- What keeps the open elements standing: elements that leave, and changes of the tree under which they stay as they are.
-use Rattle.std.proofs.Common.{ℕ, ◌<◌, Bool, true, false, List, [], ◌∷◌, nat_eq}
-use Rattle.markup.specs.Forest.{Above, Forest, node_count}
+use Rattle.std.proofs.Common.{◌≡◌, ◌∙◌, ℕ, ◌<◌, Bool, true, false, List, [], ◌∷◌, Option, Some, None, refl, ap, nat_eq}
+use Rattle.markup.specs.Forest.{Above, Forest, above_of, node_count}
 use Rattle.markup.specs.Named.{IsTree}
+use Rattle.markup.proofs.Walks.{Above-child}
 use Rattle.markup.proofs.PutTexts.{KeepsNames, element-IsNode}
 use Rattle.html_rules.specs.Choice.{choose}
 use Rattle.html_rules.specs.Names.{Html, element_name_of}
@@ -61,7 +62,7 @@ part-apart f xs ys (gone x xs' ys' part) h = part-apart f xs' ys' part h.1
 
 -- elements leave the stack
 pub fewer-Standing : (f : Forest) (entries : List Entry) (xs ys : List Open) → IsPart ys xs → IsStanding f xs entries → IsStanding f ys entries
-fewer-Standing f entries xs ys part is = record { tree = is.tree; opened = part-opened f xs ys part is.opened; apart = part-apart f xs ys part is.apart; listed = is.listed }
+fewer-Standing f entries xs ys part is = record { tree = is.tree; opened = part-opened f xs ys part is.opened; apart = part-apart f xs ys part is.apart; listed = is.listed; top = is.top }
 
 -- the older nodes keep their names, and have nothing new above them
 pub record Stays (f g : Forest) : Type 0 where
@@ -86,10 +87,30 @@ stays-listed f g [] is h = tt
 stays-listed f g (Marker ∷ entries) is h = stays-listed f g entries is h
 stays-listed f g (Element n tag ∷ entries) is h = (is.names.names n (element_name_of Html tag.name) h.0, stays-listed f g entries is h.1)
 
+-- only the document itself is above the document
+above-top : (f : Forest) (a : ℕ) → above_of f 0 ≡ None → Above f a 0 → a ≡ 0
+above-top f a e Above.here = refl
+above-top f a e (Above.further is up) = absurd (cc)
+
+stays-top : (f g : Forest) → IsTree f → Stays f g → above_of f 0 ≡ None → above_of g 0 ≡ None
+stays-top f g tree is e = by (above_of g 0) refl where
+  by : (o : Option ℕ) → above_of g 0 ≡ o → above_of g 0 ≡ None
+  by None e' = e'
+  by (Some m) e' =
+      let m_is : m ≡ 0 = above-top f m e (is.above m 0 tree.forest.document (Above.further e' Above.here)) in
+      let itself : above_of g 0 ≡ Some 0 = e' ∙ ap Some m_is in
+      absurd (Above-child g is.tree.forest 0 0 itself Above.here)
+
 -- the tree changes so
 pub changed-Standing : (f g : Forest) (xs : List Open) (entries : List Entry) → Stays f g → IsStanding f xs entries → IsStanding g xs entries
-changed-Standing f g xs entries is h = record { tree = is.tree; opened = stays-opened f g xs is h.opened; apart = stays-apart f g xs is h.opened h.apart; listed = stays-listed f g entries is h.listed }
+changed-Standing f g xs entries is h = record {
+  tree = is.tree;
+  opened = stays-opened f g xs is h.opened;
+  apart = stays-apart f g xs is h.opened h.apart;
+  listed = stays-listed f g entries is h.listed;
+  top = stays-top f g h.tree is h.top;
+}
 
 -- an element is opened that stands above none of the others
 pub opened-Standing : (f : Forest) (x : Open) (xs : List Open) (entries : List Entry) → IsOpened f x → IsClear f x.number xs → IsStanding f xs entries → IsStanding f (x ∷ xs) entries
-opened-Standing f x xs entries named clear is = record { tree = is.tree; opened = (named, is.opened); apart = (clear, is.apart); listed = is.listed }
+opened-Standing f x xs entries named clear is = record { tree = is.tree; opened = (named, is.opened); apart = (clear, is.apart); listed = is.listed; top = is.top }

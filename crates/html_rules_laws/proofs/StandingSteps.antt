@@ -164,7 +164,7 @@ create_root-Standing attributes s is =
 -- formatting elements
 
 relisted-Standing : (entries : List Entry) (s : State) → Standing s → AreListed s.forest entries → Standing (record s { active_formatting = entries })
-relisted-Standing entries s is h = record { tree = is.tree; opened = is.opened; apart = is.apart; listed = h }
+relisted-Standing entries s is h = record { tree = is.tree; opened = is.opened; apart = is.apart; listed = h; top = is.top }
 
 choose-listed : (f : Forest) (b : Bool) (xs ys : List Entry) → AreListed f xs → AreListed f ys → AreListed f (choose b (λ _. xs) (λ _. ys))
 choose-listed f true xs ys h k = h
@@ -185,7 +185,7 @@ unfolding insert_element
 listed-Standing tag s is =
     let made = inserted-Made s.foster_parenting s.forest Html tag.name tag.attrs tag.had_duplicate_attributes s.open_elems is.tree tt is.opened in
     let standing = insert_element_for-Standing tag s is in
-    record { tree = standing.tree; opened = standing.opened; apart = standing.apart; listed = (made.opened.named, standing.listed) }
+    record { tree = standing.tree; opened = standing.opened; apart = standing.apart; listed = (made.opened.named, standing.listed); top = standing.top }
 
 pub formatting-Standing : (tag : Tag) → Keeps (create_formatting_element_for tag)
 unfolding create_formatting_element_for

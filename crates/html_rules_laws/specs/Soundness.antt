@@ -1,7 +1,7 @@
 -- What the rules keep of the tree and of the open elements.
-use Rattle.std.specs.Prelude.{◌≡◌, ℕ, Bool, false, ◌&&◌, List, [], ◌∷◌, Some}
+use Rattle.std.specs.Prelude.{◌≡◌, ℕ, Bool, false, ◌&&◌, List, [], ◌∷◌, Some, None}
 use Rattle.std.specs.Str.{bytes_eq}
-use Rattle.markup.specs.Forest.{Above, Forest, data_of, element_name}
+use Rattle.markup.specs.Forest.{Above, Forest, above_of, data_of, element_name}
 use Rattle.markup.specs.Named.{IsTree}
 use Rattle.markup.specs.Names.{html_namespace}
 use Rattle.html_rules.specs.Names.{Namespace, Html, Other, element_name_of}
@@ -45,8 +45,10 @@ pub record IsStanding (f : Forest) (xs : List Open) (entries : List Entry) : Typ
   pub opened : AreOpened f xs
   pub apart : IsApart f xs
   pub listed : AreListed f entries
+  -- the document is never moved
+  pub top : above_of f 0 ≡ None
 
--- the tree is one, the open elements are elements of it, and no later one is an earlier one or above one
+-- the tree is one, with the document on top, the open elements are elements of it, and no later one is an earlier one or above one
 abbrev pub Standing : State → Type 0
 Standing s = IsStanding s.forest s.open_elems s.active_formatting
 
