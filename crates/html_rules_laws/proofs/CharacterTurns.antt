@@ -24,7 +24,8 @@ use Rattle.html_rules.specs.declared.insertion_mode.InsertionMode.TheVariants.{I
 use Rattle.html_rules.specs.declared.tag_set.TagSet.{TagSet}
 use Rattle.html_rules.specs.declared.tag_set.TagSet.TheVariants as set
 use Rattle.html_rules_laws.specs.Ready.{IsReady, Ready, fits_head, is_over_head, is_over_root}
-use Rattle.html_rules_laws.proofs.Reopened.{Flows, ReadyIn, cell-reopened, disjoint, reconstruct-Ready, root-reopened, shares_name}
+use Rattle.html_rules_laws.proofs.Reopened.{Flows, ReadyIn, cell-reopened, reconstruct-Ready, root-reopened}
+use Rattle.html_rules_laws.proofs.Names.{disjoint, shares_name}
 
 abbrev character : ℕ → Token
 character c = CharacterTokens (c ∷ [])

@@ -1,9 +1,12 @@
 pub mod CharacterTurns
+pub mod FirstFit
 pub mod LouderActions
 pub mod LouderAdoption
 pub mod LouderSteps
 pub mod LouderTurns
+pub mod Names
 pub mod PlainActions
+pub mod ReachedRows
 pub mod Reopened
 pub mod Replies
 pub mod Rises
@@ -12,3 +15,5 @@ pub mod StandingActions
 pub mod StandingSteps
 pub mod StandingTrees
 pub mod StepLaws
+pub mod TotalRows
+pub mod Uses

@@ -1,9 +1,6 @@
 -- Formatting elements that are opened again leave a state ready.
-use Rattle.std.proofs.Common.{◌≡◌, ℕ, Bool, true, false, List, [], ◌∷◌, Option, refl, sym, subst, true≢false}
-use Rattle.std.specs.Prelude.{◌||◌}
-use Rattle.std.specs.Str.{bytes_eq}
+use Rattle.std.proofs.Common.{◌≡◌, ℕ, Bool, true, false, List, [], ◌∷◌, Option, refl}
 use Rattle.std.proofs.lemmas.Bool.{and_parts}
-use Rattle.std.proofs.lemmas.Slice.Eq.{bytes_eq-Decides}
 use Rattle.markup.specs.Forest.{node_count}
 use Rattle.html_tokens.specs.declared.tags.Tag.{Tag}
 use Rattle.html_rules.specs.Choice.{choose}
@@ -16,31 +13,8 @@ use Rattle.html_rules.specs.Stack.{in_scope, is_open, open_templates}
 use Rattle.html_rules.specs.State.{Open, Entry, Element, Marker, State, is_in}
 use Rattle.html_rules.specs.declared.insertion_mode.InsertionMode.{InsertionMode}
 use Rattle.html_rules.specs.declared.tag_set.TagSet.TheVariants as set
+use Rattle.html_rules_laws.proofs.Names.{disjoint}
 use Rattle.html_rules_laws.specs.Ready.{IsReady, are_formatting, fits_head}
-
-abbrev pub shares_name : List (List ℕ) → List (List ℕ) → Bool
-shares_name [] names = false
-shares_name (x ∷ xs) names = is_among x names || shares_name xs names
-
-or_parts : (a b : Bool) (P : Type 0) → (a || b) ≡ true → (a ≡ true → P) → (b ≡ true → P) → P
-or_parts true b P h f g = f refl
-or_parts false b P h f g = g h
-
-or_false_left : (a b : Bool) → (a || b) ≡ false → a ≡ false
-or_false_left true b h = absurd (true≢false h)
-or_false_left false b h = refl
-
-or_false_right : (a b : Bool) → (a || b) ≡ false → b ≡ false
-or_false_right true b h = absurd (true≢false h)
-or_false_right false b h = h
-
--- a name of one list is none of a list that has none in common with it
-pub disjoint : (name : List ℕ) (xs names : List (List ℕ)) → shares_name xs names ≡ false → is_among name xs ≡ true → is_among name names ≡ false
-disjoint name [] names h k = absurd (true≢false (sym k))
-disjoint name (x ∷ xs) names h k =
-    or_parts (bytes_eq name x) (is_among name xs) (is_among name names ≡ false) k
-    (λ e. subst (λ y. is_among y names ≡ false) (sym ((bytes_eq-Decides name x).0 e)) (or_false_left (is_among x names) (shares_name xs names) h))
-    (λ e. disjoint name xs names (or_false_right (is_among x names) (shares_name xs names) h) e)
 
 -- an element that is opened again
 abbrev reopened : ℕ → Tag → Open

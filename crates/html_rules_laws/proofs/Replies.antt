@@ -21,6 +21,7 @@ use Rattle.html_rules.specs.Table.{Row, Class, StartTags, EndTags, AnyStartTag, 
 use Rattle.html_rules.specs.Tokens.{attributes_of, class_fits}
 use Rattle.html_rules.specs.declared.insertion_mode.InsertionMode.{InsertionMode}
 use Rattle.html_rules.specs.declared.insertion_mode.InsertionMode.TheVariants.{Initial, BeforeHtml, BeforeHead, InHead, InHeadNoscript, AfterHead, InBody, Text, InTable, InTableText, InCaption, InColumnGroup, InTableBody, InRow, InCell, InTemplate, AfterBody, InFrameset, AfterFrameset, AfterAfterBody, AfterAfterFrameset}
+use Rattle.html_rules_laws.proofs.FirstFit.{by_fit, class_of_fits}
 
 abbrev is_tag_class : Class → Bool
 is_tag_class (StartTags names) = true
@@ -101,14 +102,6 @@ concluded-well using t go c (RawText kind) b h n s = let parts = and_parts (is_t
 concluded-well using t go c PlainText b h n s = to_tag t c reply.Plaintext h b tt
 concluded-well using t go c RunScript b h n s = to_tag t c (reply.Script n) h b tt
 concluded-well using t go c TellEncoding b h n s = encoding-well (encoding_hint (attributes_of t)) t c h b
-
-class_of_fits : (b : Bool) (g : Unit {0} → Bool) → choose b g (λ _. false) ≡ true → b ≡ true
-class_of_fits true g h = refl
-class_of_fits false g h = h
-
-by_fit : (P : Row → Type 0) (r other : Row) (b : Bool) → (b ≡ true → P r) → P other → P (choose b (λ _. r) (λ _. other))
-by_fit P r other true f h = f refl
-by_fit P r other false f h = h
 
 first-well : (using : InsertionMode → Token → State → Turn) (t : Token) → ((m : InsertionMode) (s : State) → EndsWell t (using m t s).ends)
     → (rs : List Row) → all_reply_well rs ≡ true → (s : State) → EndsWell t (turn_by_row using (first_fit rs t s) t s).ends

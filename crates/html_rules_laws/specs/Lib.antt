@@ -2,3 +2,4 @@ pub mod Errors
 pub mod Lawful
 pub mod Ready
 pub mod Soundness
+pub mod WholeTable

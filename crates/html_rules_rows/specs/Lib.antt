@@ -14,4 +14,3 @@ pub mod RowsOfSettings
 pub mod RowsOfTables
 pub mod RowsOfTemplates
 pub mod RowsOfTokens
-pub mod WholeTable

@@ -1,5 +1,4 @@
-//! Worked rows of tree construction, and what holds of the rules as a whole: computed by the check.
+//! Worked rows of tree construction: what the definitions give for each is computed by the check.
 #![tactic(auto)]
 
 pub mod rows;
-pub mod whole_table;

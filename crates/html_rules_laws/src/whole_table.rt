@@ -1,5 +1,5 @@
 //! What holds of the rows of all modes.
-ghost use Rattle.html_rules_rows.specs.WholeTable.{IsEachTokenTaken, IsEachRowReached, IsEachUseEnding};
+ghost use Rattle.html_rules_laws.specs.WholeTable.{IsEachTokenTaken, IsEachRowReached, IsEachUseEnding};
 
 /// Each mode, and foreign content, has a row for every token in every state.
 pub fn each_token_is_taken()

@@ -11,7 +11,7 @@ use Rattle.html_rules.specs.Table.{Row, Class, AnythingElse, Condition, Always}
 use Rattle.html_rules.specs.Tokens.{class_fits}
 use Rattle.html_rules.specs.declared.insertion_mode.InsertionMode.{InsertionMode}
 use Rattle.html_rules.specs.declared.insertion_mode.InsertionMode.TheVariants.{Initial, BeforeHtml, BeforeHead, InHead, InHeadNoscript, AfterHead, InBody, Text, InTable, InTableText, InCaption, InColumnGroup, InTableBody, InRow, InCell, InTemplate, AfterBody, InFrameset, AfterFrameset, AfterAfterBody, AfterAfterFrameset}
-use Rattle.html_rules_rows.specs.WholeTable.{IsEachTokenTaken, TakesEachToken, is_always}
+use Rattle.html_rules_laws.specs.WholeTable.{IsEachTokenTaken, TakesEachToken, is_always}
 
 abbrev is_anything_else : Class → Bool
 is_anything_else AnythingElse = true

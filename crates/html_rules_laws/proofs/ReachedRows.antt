@@ -5,7 +5,7 @@ use Rattle.html_rules.specs.Rules.{rows}
 use Rattle.html_rules.specs.Sets.{names_of}
 use Rattle.html_rules.specs.declared.insertion_mode.InsertionMode.{InsertionMode}
 use Rattle.html_rules.specs.declared.insertion_mode.InsertionMode.TheVariants.{Initial, BeforeHtml, BeforeHead, InHead, InHeadNoscript, AfterHead, InBody, Text, InTable, InTableText, InCaption, InColumnGroup, InTableBody, InRow, InCell, InTemplate, AfterBody, InFrameset, AfterFrameset, AfterAfterBody, AfterAfterFrameset}
-use Rattle.html_rules_rows.specs.WholeTable.{IsEachRowReached, are_reached}
+use Rattle.html_rules_laws.specs.WholeTable.{IsEachRowReached, are_reached}
 
 modes_are_reached : (m : InsertionMode) → are_reached [] (rows m) ≡ true
 unfolding rows names_of

@@ -1,14 +1,11 @@
 -- The rules of modes use one another's in chains of four modes at most.
-use Rattle.std.proofs.Common.{◌≡◌, nat_eq, ℕ, zero, suc, Bool, true, false, ◌||◌, ◌&&◌, not, List, [], ◌∷◌, refl, sym, ap, subst, true≢false, ◌∙◌}
-use Rattle.std.specs.Str.{bytes_eq}
+use Rattle.std.proofs.Common.{◌≡◌, nat_eq, ℕ, zero, suc, Bool, true, false, ◌||◌, ◌&&◌, not, List, [], ◌∷◌, refl, sym, ap, true≢false, ◌∙◌}
 use Rattle.std.proofs.lemmas.Bool.{and_parts, eq-eqb}
-use Rattle.std.proofs.lemmas.Slice.Eq.{bytes_eq-Decides}
 use Rattle.html_tokens.specs.declared.token.Token.{Token}
 use Rattle.html_tokens.specs.declared.token.Token.TheVariants.{TagToken, CommentToken, CharacterTokens, NullCharacterToken, EOFToken}
 use Rattle.html_tokens.specs.declared.tags.TagKind.{TagKind}
 use Rattle.html_tokens.specs.declared.tags.TagKind.TheVariants.{StartTag, EndTag}
 use Rattle.html_rules.specs.Actions.{act}
-use Rattle.html_rules.specs.Choice.{choose}
 use Rattle.html_rules.specs.Conditions.{holds}
 use Rattle.html_rules.specs.ForeignContent.{is_start_tag, is_end_tag}
 use Rattle.html_rules.specs.Rules.{turn_then, concluded, first_fit, fits, rows, using_rules_for}
@@ -18,7 +15,9 @@ use Rattle.html_rules.specs.Table.{Row, Class, StartTags, EndTags, AnyStartTag, 
 use Rattle.html_rules.specs.Tokens.{class_fits}
 use Rattle.html_rules.specs.declared.insertion_mode.InsertionMode.{InsertionMode}
 use Rattle.html_rules.specs.declared.insertion_mode.InsertionMode.TheVariants.{Initial, BeforeHtml, BeforeHead, InHead, InHeadNoscript, AfterHead, InBody, Text, InTable, InTableText, InCaption, InColumnGroup, InTableBody, InRow, InCell, InTemplate, AfterBody, InFrameset, AfterFrameset, AfterAfterBody, AfterAfterFrameset}
-use Rattle.html_rules_rows.specs.WholeTable.{IsEachUseEnding}
+use Rattle.html_rules_laws.specs.WholeTable.{IsEachUseEnding}
+use Rattle.html_rules_laws.proofs.FirstFit.{by_fit, class_of_fits}
+use Rattle.html_rules_laws.proofs.Names.{shares, shares_name}
 
 -- which tokens are alike for classes
 abbrev family_of_tag : TagKind → ℕ
@@ -49,10 +48,6 @@ abbrev is_anything : Class → Bool
 is_anything AnythingElse = true
 is_anything class = false
 
-abbrev shares_name : List (List ℕ) → List (List ℕ) → Bool
-shares_name [] names = false
-shares_name (x ∷ xs) names = is_among x names || shares_name xs names
-
 -- of tags: whether names are in common
 abbrev names_meet : Class → Class → Bool
 names_meet (StartTags a) (StartTags b) = shares_name (names_of a) (names_of b)
@@ -78,27 +73,6 @@ each_ends chain c (r ∷ rs) = (not (may_meet c r.on) || ends_by chain r.on r.en
 unfoldable ends_within : ℕ → Class → InsertionMode → Bool
 ends_within zero c m = false
 ends_within (suc n) c m = each_ends (ends_within n) c (rows m)
-
-is_among-eq : (a b : List ℕ) (names : List (List ℕ)) → bytes_eq a b ≡ true → is_among a names ≡ true → is_among b names ≡ true
-is_among-eq a b names e h = subst (λ x. is_among x names ≡ true) ((bytes_eq-Decides a b).0 e) h
-
-or_parts : (a b : Bool) (P : Type 0) → (a || b) ≡ true → (a ≡ true → P) → (b ≡ true → P) → P
-or_parts true b P h f g = f refl
-or_parts false b P h f g = g h
-
-or_left : (a b : Bool) → a ≡ true → (a || b) ≡ true
-or_left a b h = rw h refl
-
-or_right : (a b : Bool) → b ≡ true → (a || b) ≡ true
-or_right true b h = refl
-or_right false b h = h
-
-shares : (name : List ℕ) (xs names : List (List ℕ)) → is_among name xs ≡ true → is_among name names ≡ true → shares_name xs names ≡ true
-shares name [] names h k = absurd (true≢false (sym h))
-shares name (x ∷ xs) names h k =
-    or_parts (bytes_eq name x) (is_among name xs) (shares_name (x ∷ xs) names ≡ true) h
-    (λ e. or_left (is_among x names) (shares_name xs names) (is_among-eq name x names e k))
-    (λ e. or_right (is_among x names) (shares_name xs names) (shares name xs names e k))
 
 family_of_start : (kind : TagKind) → is_start_tag kind ≡ true → 0 ≡ family_of_tag kind
 family_of_start StartTag h = refl
@@ -167,14 +141,6 @@ same_by k n t c go TellEncoding h script s = refl
 or_of_not : (a b : Bool) → (not a || b) ≡ true → a ≡ true → b ≡ true
 or_of_not true b h e = h
 or_of_not false b h e = absurd (true≢false (sym e))
-
-class_of_fits : (b : Bool) (g : Unit {0} → Bool) → choose b g (λ _. false) ≡ true → b ≡ true
-class_of_fits true g h = refl
-class_of_fits false g h = h
-
-by_fit : (P : Row → Type 0) (r other : Row) (b : Bool) → (b ≡ true → P r) → P other → P (choose b (λ _. r) (λ _. other))
-by_fit P r other true f g = f refl
-by_fit P r other false f g = g
 
 -- the first row that fits comes to the same
 first-same : (k n : ℕ) (c : Class) (t : Token) (s : State) → class_fits c t ≡ true

@@ -1,5 +1,5 @@
 use Rattle.html_rules_laws.proofs.LouderTurns.{errors-counted}
-use Rattle.html_rules_laws.proofs.errors_are_counted.Goals as goal
+use Rattle.html_rules_laws.proofs.laws.errors_are_counted.Goals as goal
 
 pub returns : goal.returns
 returns c = errors-counted

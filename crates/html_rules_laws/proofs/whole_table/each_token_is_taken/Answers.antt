@@ -1,0 +1,5 @@
+use Rattle.html_rules_laws.proofs.TotalRows.{each_token_is_taken}
+use Rattle.html_rules_laws.proofs.whole_table.each_token_is_taken.Goals as goal
+
+pub returns : goal.returns
+returns c = each_token_is_taken

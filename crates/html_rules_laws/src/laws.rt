@@ -1,0 +1,21 @@
+//! Laws of the rules of tree construction. Each function's contract is one law.
+ghost use Rattle.html_rules_laws.specs.Errors.{AreErrorsCounted};
+ghost use Rattle.html_rules_laws.specs.Lawful.{AreTokensTakenLawfully};
+ghost use Rattle.html_rules_laws.specs.Soundness.{ArePlainActionsStanding};
+
+/// The rules do not look at the number of errors, and only count it on.
+pub fn errors_are_counted()
+    ensures { AreErrorsCounted }
+{}
+
+/// The rules take tokens as a lawful sink does: text in pieces as in one, empty texts and errors in vain, replies to
+/// tags alone.
+pub fn tokens_are_taken_lawfully()
+    ensures { AreTokensTakenLawfully }
+{}
+
+/// Actions keep the tree a tree, the open elements elements of it, and no later one an earlier one or above one, but for
+/// the adoption agency, a head that is opened again, and start tags in foreign content, of which nothing is said here.
+pub fn plain_actions_keep_elements_standing()
+    ensures { ArePlainActionsStanding }
+{}

@@ -1,5 +1,0 @@
-use Rattle.html_rules_rows.proofs.ReachedRows.{each_row_is_reached}
-use Rattle.html_rules_rows.proofs.whole_table.each_row_is_reached.Goals as goal
-
-pub returns : goal.returns
-returns c = each_row_is_reached

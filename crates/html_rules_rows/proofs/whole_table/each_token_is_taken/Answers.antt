@@ -1,5 +1,0 @@
-use Rattle.html_rules_rows.proofs.TotalRows.{each_token_is_taken}
-use Rattle.html_rules_rows.proofs.whole_table.each_token_is_taken.Goals as goal
-
-pub returns : goal.returns
-returns c = each_token_is_taken

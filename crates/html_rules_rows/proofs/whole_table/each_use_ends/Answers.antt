@@ -1,5 +1,0 @@
-use Rattle.html_rules_rows.proofs.Uses.{each_use_ends}
-use Rattle.html_rules_rows.proofs.whole_table.each_use_ends.Goals as goal
-
-pub returns : goal.returns
-returns c = each_use_ends
