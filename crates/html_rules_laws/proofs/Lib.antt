@@ -5,7 +5,7 @@ pub mod LouderAdoption
 pub mod LouderSteps
 pub mod LouderTurns
 pub mod Names
-pub mod PlainActions
+pub mod ActionsStanding
 pub mod ReachedRows
 pub mod Reopened
 pub mod Replies

@@ -1,12 +1,14 @@
 -- What the rules keep of the tree and of the open elements.
-use Rattle.std.specs.Prelude.{◌≡◌, ℕ, Bool, false, ◌&&◌, List, [], ◌∷◌, Some, None}
+use Rattle.std.specs.Prelude.{◌≡◌, ℕ, Bool, false, ◌&&◌, List, [], ◌∷◌, Some, None, IfSome, codes}
 use Rattle.std.specs.Str.{bytes_eq}
 use Rattle.markup.specs.Forest.{Above, Forest, above_of, data_of, element_name}
 use Rattle.markup.specs.Named.{IsTree}
 use Rattle.markup.specs.Names.{html_namespace}
 use Rattle.html_rules.specs.Names.{Namespace, Html, Other, element_name_of}
+use Rattle.html_tokens.specs.declared.tags.Tag.{Tag}
 use Rattle.html_tokens.specs.declared.token.Token.{Token}
-use Rattle.html_rules.specs.Actions.{act}
+use Rattle.html_rules.specs.Actions.{act, push_head_elem}
+use Rattle.html_rules.specs.ForeignContent.{foreign_start}
 use Rattle.html_rules.specs.State.{Open, Entry, Element, Marker, State}
 use Rattle.html_rules.specs.Table.{Action, AdoptNobr, AdoptionAgency, CloseMisnestedA, EnterForeign, InsertForeign, PushHeadElem, Then, When}
 
@@ -64,6 +66,10 @@ is_plain_action InsertForeign = false
 is_plain_action (EnterForeign (Other uri)) = false
 is_plain_action _ = Bool.true
 
--- such actions keep the tree a tree and the open elements in order
-abbrev pub ArePlainActionsStanding : Type 0
-ArePlainActionsStanding = (a : Action) → is_plain_action a ≡ Bool.true → (t : Token) (s : State) → Standing s → Standing (act a t s)
+-- what keeps the tree a tree and the open elements in order
+pub record AreActionsStanding : Type 0 where
+  pub plain : (a : Action) → is_plain_action a ≡ Bool.true → (t : Token) (s : State) → Standing s → Standing (act a t s)
+  -- a start tag in foreign content, where a context has a namespace of its own
+  pub foreign : (tag : Tag) (s : State) → IfSome s.context_elem (λ c. IsOwn c.namespace) → Standing s → Standing (foreign_start tag s)
+  -- a head that is opened again, which stands above nothing that is open
+  pub head : (n : ℕ) (s : State) → s.head_elem ≡ Some n → element_name (data_of s.forest n) ≡ Some (element_name_of Html (codes "head")) → IsClear s.forest n s.open_elems → Standing s → Standing (push_head_elem s)

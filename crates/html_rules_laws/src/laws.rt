@@ -1,7 +1,7 @@
 //! Laws of the rules of tree construction. Each function's contract is one law.
 ghost use Rattle.html_rules_laws.specs.Errors.{AreErrorsCounted};
 ghost use Rattle.html_rules_laws.specs.Lawful.{AreTokensTakenLawfully};
-ghost use Rattle.html_rules_laws.specs.Soundness.{ArePlainActionsStanding};
+ghost use Rattle.html_rules_laws.specs.Soundness.{AreActionsStanding};
 
 /// The rules do not look at the number of errors, and only count it on.
 pub fn errors_are_counted()
@@ -14,8 +14,8 @@ pub fn tokens_are_taken_lawfully()
     ensures { AreTokensTakenLawfully }
 {}
 
-/// Actions keep the tree a tree, the open elements elements of it, and no later one an earlier one or above one, but for
-/// the adoption agency, a head that is opened again, and start tags in foreign content, of which nothing is said here.
-pub fn plain_actions_keep_elements_standing()
-    ensures { ArePlainActionsStanding }
+/// Actions keep the tree a tree with the document on top, the open elements elements of it, and no later one an earlier
+/// one or above one. Of the adoption agency nothing is said here.
+pub fn actions_keep_elements_standing()
+    ensures { AreActionsStanding }
 {}

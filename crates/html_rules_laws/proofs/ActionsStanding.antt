@@ -1,24 +1,25 @@
--- Actions that neither call the adoption agency nor open the head again keep the open elements standing.
-use Rattle.std.proofs.Common.{false, [], ◌∷◌, sym, true≢false}
+-- Actions but the adoption agency keep the open elements standing.
+use Rattle.std.proofs.Common.{◌≡◌, ℕ, true, false, [], ◌∷◌, Some, sym, subst, true≢false, codes}
+use Rattle.markup.specs.Forest.{data_of, element_name}
 use Rattle.std.proofs.lemmas.Bool.{and_parts}
 use Rattle.markup.specs.declared.quirks.QuirksMode.TheVariants.{Quirks}
 use Rattle.html_tokens.specs.declared.tags.Tag.{Tag}
 use Rattle.html_tokens.specs.declared.token.Token.{Token}
 use Rattle.html_tokens.specs.declared.token.Token.TheVariants.{TagToken}
-use Rattle.html_rules.specs.Actions.{act, back_to_original, for_tag, forget_form_elem, frameset_not_ok, frameset_not_ok_unless_white, insert_form_void, keep_mode, keep_text, pop_template_mode, push_template_mode, remove_form_elem, remove_head_elem, set_form_elem, set_foster_parenting, set_head_elem, set_ignore_lf, set_mode, set_template_mode}
+use Rattle.html_rules.specs.Actions.{act, push_head, push_head_elem, back_to_original, for_tag, forget_form_elem, frameset_not_ok, frameset_not_ok_unless_white, insert_form_void, keep_mode, keep_text, pop_template_mode, push_template_mode, remove_form_elem, remove_head_elem, set_form_elem, set_foster_parenting, set_head_elem, set_ignore_lf, set_mode, set_template_mode}
 use Rattle.html_rules.specs.Conditions.{holds}
 use Rattle.html_rules.specs.ForeignContent.{enter_foreign}
 use Rattle.html_rules.specs.Formatting.{create_formatting_element_for}
-use Rattle.html_rules.specs.Names.{Html, MathMl, Svg, Other}
+use Rattle.html_rules.specs.Names.{element_name_of, Html, MathMl, Svg, Other}
 use Rattle.html_rules.specs.Places.{insert_and_pop_element_for, insert_element_for}
 use Rattle.html_rules.specs.Reset.{reset_insertion_mode}
 use Rattle.html_rules.specs.State.{State, is_in, is_named}
-use Rattle.html_rules.specs.Table.{Nothing, Then, When, ParseError, InsertElement, InsertVoid, InsertVoidAs, InsertFormVoid, InsertNew, InsertNewVoid, CreateRoot, CreateNewRoot, AppendText, AppendReplacement, AppendComment, AppendCommentToDocument, AppendCommentToRoot, InsertTemplate, AddAttributesToRoot, AddAttributesToBody, RemoveBody, Pop, PopUntil, ClearBackTo, Close, CloseToken, CloseP, CloseItem, ImpliedEndTags, ImpliedEndTagsExcept, ImpliedEndTagsExceptToken, ImpliedEndTagsThoroughly, AnyOtherEndTag, CheckBodyEnd, SetHeadElem, PushHeadElem, RemoveHeadElem, SetFormElem, ForgetFormElem, RemoveFormElem, Reconstruct, InsertFormatting, InsertMarker, ClearToMarker, AdoptionAgency, AdoptNobr, CloseMisnestedA, SwitchTo, KeepMode, BackToOriginal, ResetMode, PushTemplateMode, SetTemplateMode, PopTemplateMode, SetQuirks, FramesetNotOk, FramesetNotOkUnlessWhite, IgnoreLineFeed, EnableFosterParenting, DisableFosterParenting, KeepText, TellPendingText, EnterForeign, InsertForeign, PopForeign, CloseForeign}
+use Rattle.html_rules.specs.Table.{Action, Nothing, Then, When, ParseError, InsertElement, InsertVoid, InsertVoidAs, InsertFormVoid, InsertNew, InsertNewVoid, CreateRoot, CreateNewRoot, AppendText, AppendReplacement, AppendComment, AppendCommentToDocument, AppendCommentToRoot, InsertTemplate, AddAttributesToRoot, AddAttributesToBody, RemoveBody, Pop, PopUntil, ClearBackTo, Close, CloseToken, CloseP, CloseItem, ImpliedEndTags, ImpliedEndTagsExcept, ImpliedEndTagsExceptToken, ImpliedEndTagsThoroughly, AnyOtherEndTag, CheckBodyEnd, SetHeadElem, PushHeadElem, RemoveHeadElem, SetFormElem, ForgetFormElem, RemoveFormElem, Reconstruct, InsertFormatting, InsertMarker, ClearToMarker, AdoptionAgency, AdoptNobr, CloseMisnestedA, SwitchTo, KeepMode, BackToOriginal, ResetMode, PushTemplateMode, SetTemplateMode, PopTemplateMode, SetQuirks, FramesetNotOk, FramesetNotOkUnlessWhite, IgnoreLineFeed, EnableFosterParenting, DisableFosterParenting, KeepText, TellPendingText, EnterForeign, InsertForeign, PopForeign, CloseForeign}
 use Rattle.html_rules.specs.Templates.{insert_template}
 use Rattle.html_rules.specs.Tokens.{attributes_of, name_of, text_of}
 use Rattle.html_rules.specs.declared.tag_set.TagSet.TheVariants as set
-use Rattle.html_rules_laws.specs.Soundness.{ArePlainActionsStanding, is_plain_action}
-use Rattle.html_rules_laws.proofs.StandingActions.{body_attributes-Standing, close_foreign-Standing, enter_foreign-Standing, insert_template-Standing, pop_foreign-Standing, quirks-Standing, remove_body-Standing, remove_from_stack_if-Standing, root_attributes-Standing, tell_pending-Standing}
+use Rattle.html_rules_laws.specs.Soundness.{AreActionsStanding, IsClear, Standing, is_plain_action}
+use Rattle.html_rules_laws.proofs.StandingActions.{body_attributes-Standing, close_foreign-Standing, enter_foreign-Standing, foreign_start-Standing, insert_template-Standing, pop_foreign-Standing, push_head-Standing, quirks-Standing, remove_body-Standing, remove_from_stack_if-Standing, root_attributes-Standing, tell_pending-Standing}
 use Rattle.html_rules_laws.proofs.StandingSteps.{Keeps, append_comment-Standing, append_comment_to_doc-Standing, append_comment_to_html-Standing, append_text-Standing, check_body_end-Standing, choose-Standing, clear-Standing, close_item-Standing, close_p-Standing, create_root-Standing, except-Standing, expect_to_close-Standing, formatting-Standing, generic-Standing, implied-Standing, insert_element-Standing, insert_element_for-Standing, marker-Standing, parse_error-Standing, pop_but_root-Standing, pop_until-Standing, pop_until_current-Standing, put_element-Standing, reconstruct-Standing}
 
 for_tag-Standing : (step : Tag → State → State) (t : Token) → ((tag : Tag) → Keeps (step tag)) → Keeps (for_tag step t)
@@ -31,7 +32,7 @@ void-Standing tag s is = put_element-Standing Html tag.name tag.attrs tag.had_du
 form_void-Standing : (tag : Tag) → Keeps (insert_form_void tag)
 form_void-Standing tag s is = void-Standing tag s is
 
-pub act-Standing : ArePlainActionsStanding
+act-Standing : (a : Action) → is_plain_action a ≡ true → (t : Token) (s : State) → Standing s → Standing (act a t s)
 unfolding set_mode keep_mode back_to_original push_template_mode pop_template_mode set_template_mode frameset_not_ok frameset_not_ok_unless_white set_ignore_lf set_foster_parenting set_head_elem remove_head_elem set_form_elem forget_form_elem remove_form_elem keep_text reset_insertion_mode
 act-Standing Nothing p t s is = is
 act-Standing (Then a b) p t s is = let parts = and_parts (is_plain_action a) (is_plain_action b) p in act-Standing b parts.1 t (act a t s) (act-Standing a parts.0 t s is)
@@ -102,3 +103,14 @@ act-Standing (EnterForeign (Other uri)) p t s is = absurd (true≢false (sym p))
 act-Standing InsertForeign p t s is = absurd (true≢false (sym p))
 act-Standing PopForeign p t s is = pop_foreign-Standing s is
 act-Standing CloseForeign p t s is = close_foreign-Standing (name_of t) s is
+
+head-Standing : (n : ℕ) (s : State) → s.head_elem ≡ Some n → element_name (data_of s.forest n) ≡ Some (element_name_of Html (codes "head")) → IsClear s.forest n s.open_elems → Standing s → Standing (push_head_elem s)
+unfolding push_head_elem
+head-Standing n s e named clear is = subst (λ o. Standing (push_head o s)) (sym e) (push_head-Standing s n is named clear)
+
+pub actions-Standing : AreActionsStanding
+actions-Standing = record {
+  plain = act-Standing;
+  foreign = λ tag s own is. foreign_start-Standing tag s own is;
+  head = head-Standing;
+}
