@@ -14,9 +14,9 @@ ghost use Rattle.html_tokenizer.specs.Stops.{IsRunAt};
 use crate::characters::{ends_tag_name, ends_word, is_white_space, lowered, shown};
 use crate::held_reference::HeldReference;
 use crate::tokenizer::Tokenizer;
+use html_tokens::ProcessResult;
 use html_tokens::sink::TokenSink;
 use html_tokens::states::{AttrValueKind, State};
-use html_tokens::ProcessResult;
 use markup::{Attribute, LocalName, Namespace, ParseFault, QualName, Text};
 use std::mem;
 
