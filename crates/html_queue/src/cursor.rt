@@ -1,7 +1,9 @@
-ghost use Rattle.std.specs.Prelude.{◌≡◌, ◌+◌, ◌<◌, ◌≤◌, ◌++◌, [], if◌then◌else◌, is_ok, IfOk, OnOk, OnErr, length, take, drop};
-ghost use Rattle.std.specs.Str.{IsCharBoundary, IsUtf8};
+ghost use Rattle.std.specs.Prelude.{◌≡◌, ◌+◌, ◌<◌, ◌≤◌, ◌++◌, [], if◌then◌else◌, is_ok, IfOk, IfErr, OnOk, OnErr, length, take, drop};
+ghost use Rattle.std.specs.Str.{IsCharBoundary, IsUtf8, chars};
 ghost use Rattle.std.specs.String.{string_bytes};
+ghost use Rattle.markup.specs.declared.fault.ParseFault.TheVariants.{Memory};
 
+use markup::{ParseFault, Text};
 use std::alloc::{AllocError, Global};
 use std::marker::Model;
 
@@ -56,13 +58,14 @@ impl Cursor {
     }
 
     /// A copy of so many bytes, which stay.
-    pub(crate) fn copy_front(&self, width: usize) -> Result<String, AllocError>
+    pub(crate) fn copy_front(&self, width: usize) -> Result<Text, ParseFault>
         requires some { 0 < width }
         requires whole { IsCharBoundary self.now width }
-        ensures { IfOk result (λ text. string_bytes text ≡ take width self.now) }
+        ensures ok { IfOk result (λ text. text ≡ chars (take width self.now)) }
+        ensures err { IfErr result (λ fault. fault ≡ Memory) }
     {
         match &self.text {
-            Some(text) => String::from_str(
+            Some(text) => Text::from_str(
                 *text.allocator(),
                 &text.as_str()[self.place..self.place + width],
             ),

@@ -9,7 +9,7 @@ use crate::begins::begins_by;
 use crate::cursor::Cursor;
 use crate::set::{SetResult, SmallCharSet};
 use crate::taken::Taken;
-use markup::{ParseFault, Text};
+use markup::ParseFault;
 use std::marker::Model;
 use std::mem;
 
@@ -122,10 +122,10 @@ impl BufferQueue {
             self.taken.add_one();
             return Ok(Some(SetResult::FromSet(c)));
         }
-        let text = self.cursor.copy_front(width)?;
+        let run = self.cursor.copy_front(width)?;
+        self.taken.add(rest[..width].as_bytes());
         self.cursor.skip(width);
-        self.taken.add(text.as_bytes());
-        Ok(Some(SetResult::NotFromSet(Text::new(text))))
+        Ok(Some(SetResult::NotFromSet(run)))
     }
 
     /// Takes the pattern where the queue begins with it, byte by byte under `eq`: `Some(true)`.

@@ -1,4 +1,4 @@
-use Rattle.std.proofs.Common.{◌<◌, refl, sym, arith}
+use Rattle.std.proofs.Common.{◌≡◌, ◌<◌, ◌-◌, ◌∙◌, refl, sym, arith}
 use Rattle.std.proofs.lemmas.Bool.{eqb-true}
 use Rattle.html_queue.proofs.Taking.{chars_none, some_of, boundary_past_member, takes_member, takes_run}
 use Rattle.html_queue.proofs.queue.BufferQueue.pop_except_from.Goals as goal
@@ -23,5 +23,8 @@ returns-clause-ok c =
     let rest = c.as_str-rest.ensures in
     let width = c.nonmember_prefix_len-width.ensures in
     let some : 0 < c.nonmember_prefix_len-width.result = omega arith in
-    rw (← c.self.view_is, c.new.ensures)
-    (takes_run _ _ _ _ _ _ _ (rw rest at c.as_str-rest.utf8) c.in_ok-text.ensures some (rw rest at width.within) (rw rest at width.before) (rw rest at width.at) c.skip-2.ensures (rw c.as_bytes-2.ensures.value at c.add.ensures))
+    let run = c.as_bytes-2.ensures.value ∙ c.range.ensures.value in
+    let all : c.nonmember_prefix_len-width.result - 0 ≡ c.nonmember_prefix_len-width.result = omega arith in
+    let counted = rw (run, all) at c.add.ensures in
+    rw (← c.self.view_is, c.in_ok-run.ensures.ok)
+    (takes_run _ _ _ _ _ _ _ (rw rest at c.as_str-rest.utf8) refl some (rw rest at width.within) (rw rest at width.before) (rw rest at width.at) c.skip-2.ensures (rw rest at counted))
