@@ -1,3 +1,8 @@
+pub mod ActionsStanding
+pub mod AdoptionOrder
+pub mod AdoptionStanding
+pub mod AdoptionTurn
+pub mod AdoptionWalk
 pub mod CharacterTurns
 pub mod FirstFit
 pub mod LouderActions
@@ -5,7 +10,6 @@ pub mod LouderAdoption
 pub mod LouderSteps
 pub mod LouderTurns
 pub mod Names
-pub mod ActionsStanding
 pub mod ReachedRows
 pub mod Reopened
 pub mod Replies

@@ -1,3 +1,4 @@
+pub mod Adoptions
 pub mod Errors
 pub mod Lawful
 pub mod Ready

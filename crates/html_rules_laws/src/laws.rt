@@ -1,4 +1,5 @@
 //! Laws of the rules of tree construction. Each function's contract is one law.
+ghost use Rattle.html_rules_laws.specs.Adoptions.{AreAdoptionsStanding};
 ghost use Rattle.html_rules_laws.specs.Errors.{AreErrorsCounted};
 ghost use Rattle.html_rules_laws.specs.Lawful.{AreTokensTakenLawfully};
 ghost use Rattle.html_rules_laws.specs.Soundness.{AreActionsStanding};
@@ -18,4 +19,10 @@ pub fn tokens_are_taken_lawfully()
 /// one or above one. Of the adoption agency nothing is said here.
 pub fn actions_keep_elements_standing()
     ensures { AreActionsStanding }
+{}
+
+/// Behind a turn of the adoption agency the tree is a tree and the open elements are in order, if the last node of the walk
+/// was put at a place whose parent neither the furthest block nor a later element stands above.
+pub fn adoptions_keep_elements_standing()
+    ensures { AreAdoptionsStanding }
 {}
