@@ -80,9 +80,16 @@ impl TextForm {
     {
         match self {
             TextForm::Long(text) => text.push(character),
-            TextForm::Short(_, _) => {
-                let mut bytes = [0; 4];
-                self.push_str(character.encode_utf8(&mut bytes))
+            TextForm::Short(short, alloc) => {
+                let front = short.as_str();
+                if character.len_utf8() <= ROOM - front.len() {
+                    short.push(character);
+                } else {
+                    let mut bytes = [0; 4];
+                    let long = joined(*alloc, front, character.encode_utf8(&mut bytes))?;
+                    *self = TextForm::Long(long);
+                }
+                Ok(())
             }
         }
     }
