@@ -8,3 +8,6 @@ pub mod TextForm
 pub mod Namespaces
 pub mod LocalNames
 pub mod KnownNames
+pub mod Escape
+pub mod Trees
+pub mod WrittenRows

@@ -18,6 +18,7 @@ mod text_form;
 pub mod tokenizer_result;
 pub mod tree_laws;
 pub mod tree_sink;
+pub mod written_rows;
 
 pub use attributes::{Attribute, Attributes};
 pub use devices;
