@@ -11,3 +11,4 @@ pub mod KnownNames
 pub mod Escape
 pub mod Trees
 pub mod WrittenRows
+pub mod Calls
