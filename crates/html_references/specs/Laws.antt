@@ -25,11 +25,12 @@ IsWholeNameRead =
     → (row : ReferenceRow) → Contains rows row → ends_with nat_eq row.name (59 ∷ []) ≡ true
     → (in_value : Bool) (t : List ℕ) → reference_at in_value rows (row.name ++ t) ≡ Some (record { chars = values row; len = length row.name })
 
--- a table that has the names "amp;", "lt;", "gt;" and "nbsp;" for their characters
+-- a table that has the names "amp;", "lt;", "gt;", "quot;" and "nbsp;" for their characters
 pub record HasEscapes (rows : List ReferenceRow) : Type 0 where
   pub amp : Contains rows (row_of (codes "amp;") 0x26)
   pub lt : Contains rows (row_of (codes "lt;") 0x3C)
   pub gt : Contains rows (row_of (codes "gt;") 0x3E)
+  pub quot : Contains rows (row_of (codes "quot;") 0x22)
   pub nbsp : Contains rows (row_of (codes "nbsp;") 0xA0)
 
 -- such a table, if it is checked, reads what escaping writes

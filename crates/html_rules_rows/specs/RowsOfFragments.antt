@@ -1,6 +1,6 @@
 -- Worked rows: fragments, by their context.
 use Prim.Native.String.{String}
-use Rattle.std.specs.Prelude.{◌≡◌, ℕ, suc, true, false, List, [], ◌∷◌, map, codes, None, Ok, Err, Result}
+use Rattle.std.specs.Prelude.{◌≡◌, ℕ, true, false, List, [], ◌∷◌, map, codes, None, Ok, Err, Result}
 use Rattle.markup.specs.Forest.{Forest, children_of, empty_forest, node_count}
 use Rattle.html_tokens.specs.RowForms.{five}
 use Rattle.html_tokens.specs.Sink.{Refusal}
@@ -8,7 +8,7 @@ use Rattle.html_rules.specs.Documents.{fragment}
 use Rattle.html_rules.specs.Names.{Namespace, Html, MathMl, Svg, Other}
 use Rattle.html_rules.specs.Places.{with_element}
 use Rattle.html_rules.specs.State.{State}
-use Rattle.html_rules_rows.specs.RowForms.{default_options, default_setting, write_nodes}
+use Rattle.html_rules_rows.specs.RowForms.{default_options, default_setting, written_nodes}
 
 -- the namespace and the name of the context, the text, and what is written of the children of the root
 pub record FragmentRow : Type 0 where
@@ -29,7 +29,7 @@ with_context r = with_element empty_forest r.namespace r.context [] false
 
 -- the root is made next
 abbrev inner_by : ℕ → Result State Refusal → List ℕ
-inner_by root (Ok s) = write_nodes (suc (node_count s.forest)) s.forest false (children_of s.forest root)
+inner_by root (Ok s) = written_nodes s.forest (children_of s.forest root)
 inner_by root (Err refusal) = codes "refused"
 
 abbrev read_fragment : FragmentRow → List ℕ

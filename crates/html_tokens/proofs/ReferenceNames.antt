@@ -87,17 +87,18 @@ named-faultless rows (c ∷ t) h =
     let parts = and_parts (not (nat_eq c 35)) (Reference.ends_in_semicolon (longest rows (c ∷ t))) (and_parts _ _ h).0 in
     rw (none-true (nat_eq c 35) parts.0, parts.1) refl
 
--- a name as long as the word at the front is that word
-whole-row : (o : Option Row) (w u : List ℕ) (r : Reference.Reference) → Stands o (w ++ u) → Reference.named_row false o (w ++ u) ≡ Some r → r.len ≡ length w → ends_with nat_eq w (codes ";") ≡ true → Reference.ends_in_semicolon o ≡ true
-whole-row None w u r h e n k = absurd cc
-whole-row (Some row) w u r h e n k =
+-- a name as long as the word at the front is that word, and ends in ";" and has no quote where the word does so
+whole-row : (o : Option Row) (w u : List ℕ) (r : Reference.Reference) → Stands o (w ++ u) → Reference.named_row false o (w ++ u) ≡ Some r → r.len ≡ length w → ends_with nat_eq w (codes ";") ≡ true → list_any (nat_eq 34) w ≡ false
+    → (Reference.ends_in_semicolon o && lacks_quote o) ≡ true
+whole-row None w u r h e n k q = absurd cc
+whole-row (Some row) w u r h e n k q =
     let long : length row.name ≡ length w = ap reference_len e ∙ n in
     let name : row.name ≡ w = sym (begins-take row.name (w ++ u) h) ∙ ap (λ m. take m (w ++ u)) long ∙ take-append_seam w u in
-    rw name k
+    rw (name, k, q) refl
 
--- nothing is wrong with a reference that is a word with ";"
-pub whole-faultless : (rows : List Row) (c : ℕ) (w u : List ℕ) (r : Reference.Reference) → nat_eq c 35 ≡ false → Reference.reference_at false rows ((c ∷ w) ++ u) ≡ Some r → r.len ≡ length (c ∷ w) → ends_with nat_eq (c ∷ w) (codes ";") ≡ true
-    → Reference.fault_of_reference rows ((c ∷ w) ++ u) ≡ None
-whole-faultless rows c w u r z e n k =
+-- a reference that is a word with ";" and without a quote is a named one
+pub whole-named : (rows : List Row) (c : ℕ) (w u : List ℕ) (r : Reference.Reference) → nat_eq c 35 ≡ false → Reference.reference_at false rows ((c ∷ w) ++ u) ≡ Some r → r.len ≡ length (c ∷ w) → ends_with nat_eq (c ∷ w) (codes ";") ≡ true → list_any (nat_eq 34) (c ∷ w) ≡ false
+    → is_named rows ((c ∷ w) ++ u) ≡ true
+whole-named rows c w u r z e n k q =
     let e' : Reference.named_row false (longest rows ((c ∷ w) ++ u)) ((c ∷ w) ++ u) ≡ Some r = rw z at e in
-    rw (z, whole-row (longest rows ((c ∷ w) ++ u)) (c ∷ w) u r (longest-stands rows ((c ∷ w) ++ u)) e' n k) refl
+    rw z (whole-row (longest rows ((c ∷ w) ++ u)) (c ∷ w) u r (longest-stands rows ((c ∷ w) ++ u)) e' n k q)

@@ -1,8 +1,8 @@
 -- How text is read: character by character, and as one.
-use Rattle.std.proofs.Common.{◌≡◌, ◌∙◌, ℕ, ◌+◌, Bool, true, false, nat_eq, List, [], ◌∷◌, ◌++◌, take, drop, Option, Result, Ok, Err, refl, sym, ap, arith, append_assoc, append-nil}
-use Rattle.std.specs.Prelude.{not, IfOk, codes}
+use Rattle.std.proofs.Common.{◌≡◌, ◌∙◌, ℕ, ◌+◌, Bool, true, false, nat_eq, List, [], ◌∷◌, ◌++◌, take, drop, Option, Result, Ok, Err, refl, sym, ap, arith, append-nil}
+use Rattle.std.specs.Prelude.{not, IfOk}
 use Rattle.std.specs.List.{list_all}
-use Rattle.std.proofs.lemmas.Bool.{and_parts, eqb-true}
+use Rattle.std.proofs.lemmas.Bool.{and_parts}
 use Rattle.std.proofs.lemmas.Result.{IfOk-weaker}
 use Rattle.html_tokens.specs.declared.replies.TokenSinkResult.{TokenSinkResult}
 use Rattle.html_tokens.specs.declared.replies.TokenSinkResult.TheVariants.{Continue}
@@ -10,11 +10,10 @@ use Rattle.html_tokens.specs.declared.token.Token.{Token}
 use Rattle.html_tokens.specs.declared.token.Token.TheVariants.{CharacterTokens}
 use Rattle.html_tokens.specs.Item.{Fault, Stand, character, told}
 use Rattle.html_tokens.specs.Items.{item}
-use Rattle.html_tokens.specs.Laws.{JoinsText, is_itself, in_data, escaped_by, escaped, escape, ReadsEscapes, is_not_null}
+use Rattle.html_tokens.specs.Laws.{JoinsText, is_itself, in_data}
 use Rattle.html_tokens.specs.Reading.{◌>>=◌, next_stand, line_number, line_breaks, reading, play}
 use Rattle.html_tokens.specs.Table.{Row}
 use Rattle.html_tokens.proofs.Readings.{bind_where, reading-item}
-use Rattle.html_tokens.proofs.ReferenceNames.{whole-faultless}
 
 not-false : (b : Bool) → not b ≡ true → b ≡ false
 not-false true h = cc
@@ -24,13 +23,14 @@ pub line_breaks-append : (a b : List ℕ) → line_breaks (a ++ b) ≡ line_brea
 line_breaks-append [] b = omega arith
 line_breaks-append (c ∷ a) b = omega (arith, line_breaks-append a b)
 
-bind-assoc : {A B C F : Type 0} (r : Result A F) (f : A → Result B F) (g : B → Result C F) → ((r >>= f) >>= g) ≡ (r >>= λ x. f x >>= g)
+-- one step, the next, and the one behind both
+pub bind-assoc : {A B C F : Type 0} (r : Result A F) (f : A → Result B F) (g : B → Result C F) → ((r >>= f) >>= g) ≡ (r >>= λ x. f x >>= g)
 bind-assoc (Ok x) f g = refl
 bind-assoc (Err e) f g = refl
 
 module _ {S H F : Type 0} (step : S → Token → ℕ → Result (S × TokenSinkResult H) F) (erred : Fault → S → S) (cdata : S → Bool) (ends : S → S) (rows : List Row) (is_sound : S → Type 0) (joins : JoinsText is_sound step) where
   -- behind text the reading stands where it stood
-  stays : (st : Stand) (breaks : ℕ) (r : Result (S × TokenSinkResult H) F) (t : List ℕ) → IfOk r (λ p. p.1 ≡ Continue)
+  pub stays : (st : Stand) (breaks : ℕ) (r : Result (S × TokenSinkResult H) F) (t : List ℕ) → IfOk r (λ p. p.1 ≡ Continue)
       → (r >>= λ p. reading step erred cdata ends rows (next_stand st p.1) breaks p.0 t) ≡ (r >>= λ p. reading step erred cdata ends rows st breaks p.0 t)
   stays st breaks (Ok p) t h = ap (λ reply. reading step erred cdata ends rows (next_stand st reply) breaks p.0 t) h
   stays st breaks (Err e) t h = refl
@@ -44,7 +44,8 @@ module _ {S H F : Type 0} (step : S → Token → ℕ → Result (S × TokenSink
       ∙ sym (bind-assoc (step s (CharacterTokens a) k) (λ p. step p.0 (CharacterTokens b) l) (λ p. reading step erred cdata ends rows st breaks p.0 t))
       ∙ ap (λ r. r >>= λ p. reading step erred cdata ends rows st breaks p.0 t) (joins.pieces s sound a b k l m)
 
-  line_free : (s : S) → is_sound s → (a : List ℕ) (k m : ℕ) → step s (CharacterTokens a) k ≡ step s (CharacterTokens a) m
+  -- text is told alike on every line
+  pub line_free : (s : S) → is_sound s → (a : List ℕ) (k m : ℕ) → step s (CharacterTokens a) k ≡ step s (CharacterTokens a) m
   line_free s sound a k m =
       let e : step s (CharacterTokens (a ++ [])) k ≡ step s (CharacterTokens (a ++ [])) m = sym (joins.pieces s sound a [] 0 0 k) ∙ joins.pieces s sound a [] 0 0 m in
       rw append-nil at e
@@ -90,31 +91,3 @@ module _ {S H F : Type 0} (step : S → Token → ℕ → Result (S × TokenSink
       itself-one last breaks s sound c ((d ∷ front) ++ t) 0 parts.0
       ∙ grown (in_data last) breaks s sound c (d ∷ front) t line (λ q. reading step erred cdata ends rows (in_data last) (breaks + line_breaks (c ∷ [])) q ((d ∷ front) ++ t))
       (λ q k. run-one_text last (breaks + line_breaks (c ∷ [])) q k d front t 0 parts.1)
-
-  module _ (reads : ReadsEscapes rows) where
-    escaped_by-one : (last : Option (List ℕ)) (breaks : ℕ) (s : S) → is_sound s → (c : ℕ) (u : List ℕ) (l : ℕ) (a b d e : Bool) → nat_eq c 38 ≡ a → nat_eq c 60 ≡ b → nat_eq c 62 ≡ d → nat_eq c 0xA0 ≡ e → nat_eq c 0 ≡ false
-        → reading step erred cdata ends rows (in_data last) breaks s (escaped_by a b d e c ++ u) ≡ (step s (CharacterTokens (c ∷ [])) l >>= λ p. reading step erred cdata ends rows (in_data last) (breaks + line_breaks (c ∷ [])) p.0 u)
-    escaped_by-one last breaks s sound c u l true b d e ea eb ed ee z =
-        rw (eqb-true c 38 ea) (told_text (in_data last) breaks s sound 38 (codes "amp;" ++ u) (38 ∷ []) 5 l (rw (whole-faultless rows 97 (codes "mp;") u _ refl (reads.amp u) refl refl, reads.amp u) refl))
-    escaped_by-one last breaks s sound c u l false true d e ea eb ed ee z =
-        rw (eqb-true c 60 eb) (told_text (in_data last) breaks s sound 38 (codes "lt;" ++ u) (60 ∷ []) 4 l (rw (whole-faultless rows 108 (codes "t;") u _ refl (reads.lt u) refl refl, reads.lt u) refl))
-    escaped_by-one last breaks s sound c u l false false true e ea eb ed ee z =
-        rw (eqb-true c 62 ed) (told_text (in_data last) breaks s sound 38 (codes "gt;" ++ u) (62 ∷ []) 4 l (rw (whole-faultless rows 103 (codes "t;") u _ refl (reads.gt u) refl refl, reads.gt u) refl))
-    escaped_by-one last breaks s sound c u l false false false true ea eb ed ee z =
-        rw (eqb-true c 0xA0 ee) (told_text (in_data last) breaks s sound 38 (codes "nbsp;" ++ u) (0xA0 ∷ []) 6 l (rw (whole-faultless rows 110 (codes "bsp;") u _ refl (reads.nbsp u) refl refl, reads.nbsp u) refl))
-    escaped_by-one last breaks s sound c u l false false false false ea eb ed ee z =
-        told_text (in_data last) breaks s sound c u (c ∷ []) 1 l (plain_item last (cdata s) c u eb ea z)
-
-    escaped-one : (last : Option (List ℕ)) (breaks : ℕ) (s : S) → is_sound s → (c : ℕ) (u : List ℕ) (l : ℕ) → is_not_null c ≡ true
-        → reading step erred cdata ends rows (in_data last) breaks s (escaped c ++ u) ≡ (step s (CharacterTokens (c ∷ [])) l >>= λ p. reading step erred cdata ends rows (in_data last) (breaks + line_breaks (c ∷ [])) p.0 u)
-    escaped-one last breaks s sound c u l h = escaped_by-one last breaks s sound c u l _ _ _ _ refl refl refl refl (not-false _ h)
-
-    pub escape-read : (last : Option (List ℕ)) (breaks : ℕ) (s : S) → is_sound s → (c : ℕ) (cs t : List ℕ) (line : ℕ) → list_all is_not_null (c ∷ cs) ≡ true
-        → reading step erred cdata ends rows (in_data last) breaks s (escape (c ∷ cs) ++ t) ≡ (step s (CharacterTokens (c ∷ cs)) line >>= λ p. reading step erred cdata ends rows (in_data last) (breaks + line_breaks (c ∷ cs)) p.0 t)
-    escape-read last breaks s sound c [] t line h = rw append-nil (escaped-one last breaks s sound c t line (and_parts _ _ h).0)
-    escape-read last breaks s sound c (d ∷ cs) t line h =
-        let parts = and_parts (is_not_null c) (list_all is_not_null (d ∷ cs)) h in
-        ap (λ w. reading step erred cdata ends rows (in_data last) breaks s w) (append_assoc (escaped c) (escape (d ∷ cs)) t)
-        ∙ (escaped-one last breaks s sound c (escape (d ∷ cs) ++ t) 0 parts.0
-        ∙ grown (in_data last) breaks s sound c (d ∷ cs) t line (λ q. reading step erred cdata ends rows (in_data last) (breaks + line_breaks (c ∷ [])) q (escape (d ∷ cs) ++ t))
-        (λ q k. escape-read last (breaks + line_breaks (c ∷ [])) q k d cs t 0 parts.1))

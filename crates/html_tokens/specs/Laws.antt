@@ -80,21 +80,6 @@ IsRunOneText {S} is_sound step cdata ends =
     → reading step erred cdata ends rows (in_data last) breaks s ((c ∷ front) ++ t)
     ≡ (step s (CharacterTokens (c ∷ front)) line >>= λ p. reading step erred cdata ends rows (in_data last) (breaks + line_breaks (c ∷ front)) p.0 t)
 
-abbrev pub escaped_by : Bool → Bool → Bool → Bool → ℕ → List ℕ
-escaped_by true b d e c = codes "&amp;"
-escaped_by false true d e c = codes "&lt;"
-escaped_by false false true e c = codes "&gt;"
-escaped_by false false false true c = codes "&nbsp;"
-escaped_by false false false false c = c ∷ []
-
--- the text of a character, with "&", "<", ">" and U+00A0 written as references (section 13.3, "escaping a string")
-abbrev pub escaped : ℕ → List ℕ
-escaped c = escaped_by (nat_eq c 38) (nat_eq c 60) (nat_eq c 62) (nat_eq c 0xA0) c
-
-abbrev pub escape : List ℕ → List ℕ
-escape [] = []
-escape (c ∷ cs) = escaped c ++ escape cs
-
 -- a text that is read without anything that is not clean owes no error, and is quiet
 abbrev pub IsCleanQuiet : {S H F : Type 0} → (S → Token → ℕ → Result (S × TokenSinkResult H) F) → (S → Token → Bool) → (S → Bool) → (S → S) → Type 0
 IsCleanQuiet {S} step quiet cdata ends =
@@ -107,24 +92,16 @@ IsNotedReadAlike {S} {H} step quiet cdata ends =
     (rows : List Row) (st : Stand) (breaks : ℕ) (s : S) (notes : Notes H) (t : List ℕ)
     → without_notes (noted_reading step quiet cdata ends rows st breaks (s, notes) t) ≡ reading step (λ fault s. s) cdata ends rows st breaks s t
 
--- the references that escaping writes are read by a table as their characters
+-- the references that escaping writes are read by a table as their characters, in text and in a value
 pub record ReadsEscapes (rows : List Row) : Type 0 where
-  pub amp : (t : List ℕ) → reference_at false rows (codes "amp;" ++ t) ≡ Some (record { chars = 38 ∷ []; len = 4 })
-  pub lt : (t : List ℕ) → reference_at false rows (codes "lt;" ++ t) ≡ Some (record { chars = 60 ∷ []; len = 3 })
-  pub gt : (t : List ℕ) → reference_at false rows (codes "gt;" ++ t) ≡ Some (record { chars = 62 ∷ []; len = 3 })
-  pub nbsp : (t : List ℕ) → reference_at false rows (codes "nbsp;" ++ t) ≡ Some (record { chars = 0xA0 ∷ []; len = 5 })
+  pub amp : (in_value : Bool) (t : List ℕ) → reference_at in_value rows (codes "amp;" ++ t) ≡ Some (record { chars = 38 ∷ []; len = 4 })
+  pub lt : (in_value : Bool) (t : List ℕ) → reference_at in_value rows (codes "lt;" ++ t) ≡ Some (record { chars = 60 ∷ []; len = 3 })
+  pub gt : (in_value : Bool) (t : List ℕ) → reference_at in_value rows (codes "gt;" ++ t) ≡ Some (record { chars = 62 ∷ []; len = 3 })
+  pub quot : (in_value : Bool) (t : List ℕ) → reference_at in_value rows (codes "quot;" ++ t) ≡ Some (record { chars = 34 ∷ []; len = 5 })
+  pub nbsp : (in_value : Bool) (t : List ℕ) → reference_at in_value rows (codes "nbsp;" ++ t) ≡ Some (record { chars = 0xA0 ∷ []; len = 5 })
 
 abbrev pub is_not_null : ℕ → Bool
 is_not_null c = not (nat_eq c 0)
-
--- escaped text without U+0000, read in data from a sound state, is told as that text
-abbrev pub IsEscapeRead : {S H F : Type 0} → (S → Type 0) → (S → Token → ℕ → Result (S × TokenSinkResult H) F) → (S → Bool) → (S → S) → Type 0
-IsEscapeRead {S} is_sound step cdata ends =
-    (erred : Fault → S → S) (rows : List Row) → ReadsEscapes rows
-    → (last : Option (List ℕ)) (breaks : ℕ) (s : S) → is_sound s
-    → (c : ℕ) (cs t : List ℕ) (line : ℕ) → list_all is_not_null (c ∷ cs) ≡ true
-    → reading step erred cdata ends rows (in_data last) breaks s (escape (c ∷ cs) ++ t)
-    ≡ (step s (CharacterTokens (c ∷ cs)) line >>= λ p. reading step erred cdata ends rows (in_data last) (breaks + line_breaks (c ∷ cs)) p.0 t)
 
 -- text without a carriage return is its own normalised text
 abbrev pub IsOwnNormalText : Type 0

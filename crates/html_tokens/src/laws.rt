@@ -1,6 +1,6 @@
 //! Laws over the definitions of tokenizing. Each function's contract is one law.
 ghost use Rattle.std.specs.Prelude.{⊤};
-ghost use Rattle.html_tokens.specs.Laws.{IsCleanQuiet, IsItemInText, IsReadByItems, IsSkipped, AreNewlinesJoined, IsCutAnywhere, IsNotedReadAlike, IsRunOneText, IsEscapeRead, IsOwnNormalText, IsFirstKept, IsEachTokenSound, ReadsEscapes, AreLinesCounted, JoinsText};
+ghost use Rattle.html_tokens.specs.Laws.{IsCleanQuiet, IsItemInText, IsReadByItems, IsSkipped, AreNewlinesJoined, IsCutAnywhere, IsNotedReadAlike, IsRunOneText, IsOwnNormalText, IsFirstKept, IsEachTokenSound, ReadsEscapes, AreLinesCounted, JoinsText};
 ghost use Rattle.html_tokens.specs.RowForms.{five, raw_text};
 ghost use Rattle.html_tokens.specs.Listing;
 ghost use Rattle.html_tokens.specs.TagEquality.{IsTagEquivalence};
@@ -40,11 +40,6 @@ pub fn sinks_join_text<S: TokenSink>()
 /// A run of plain text in data is read as one text, wherever it is cut.
 pub fn runs_are_one_text<S: TokenSink>()
     ensures { IsRunOneText S.is_sound S.step S.asks_cdata S.ended }
-{}
-
-/// Escaped text, read in data, is told as the text.
-pub fn escaped_text_is_read_back<S: TokenSink>()
-    ensures { IsEscapeRead S.is_sound S.step S.asks_cdata S.ended }
 {}
 
 /// Text without a carriage return is its own normalised text.

@@ -1,0 +1,13 @@
+pub mod Attributes
+pub mod CleanItems
+pub mod Gathered
+pub mod Items
+pub mod Names
+pub mod Noted
+pub mod Readers
+pub mod References
+pub mod Returns
+pub mod SpelledForms
+pub mod Spells
+pub mod Texts
+pub mod Values

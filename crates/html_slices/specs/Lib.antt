@@ -1,0 +1,4 @@
+pub mod Forms
+pub mod Slices
+pub mod Laws
+pub mod Rows
