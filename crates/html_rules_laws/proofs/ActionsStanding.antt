@@ -1,4 +1,4 @@
--- Actions but the adoption agency keep the open elements standing.
+-- Actions keep the open elements standing.
 use Rattle.std.proofs.Common.{◌≡◌, ℕ, true, false, [], ◌∷◌, Some, sym, subst, true≢false, codes}
 use Rattle.markup.specs.Forest.{data_of, element_name}
 use Rattle.std.proofs.lemmas.Bool.{and_parts}
@@ -19,6 +19,7 @@ use Rattle.html_rules.specs.Templates.{insert_template}
 use Rattle.html_rules.specs.Tokens.{attributes_of, name_of, text_of}
 use Rattle.html_rules.specs.declared.tag_set.TagSet.TheVariants as set
 use Rattle.html_rules_laws.specs.Soundness.{AreActionsStanding, IsClear, Standing, is_plain_action}
+use Rattle.html_rules_laws.proofs.AdoptionAgency.{agency-Standing, misnested_a-Standing}
 use Rattle.html_rules_laws.proofs.StandingActions.{body_attributes-Standing, close_foreign-Standing, enter_foreign-Standing, foreign_start-Standing, insert_template-Standing, pop_foreign-Standing, push_head-Standing, quirks-Standing, remove_body-Standing, remove_from_stack_if-Standing, root_attributes-Standing, tell_pending-Standing}
 use Rattle.html_rules_laws.proofs.StandingSteps.{Keeps, append_comment-Standing, append_comment_to_doc-Standing, append_comment_to_html-Standing, append_text-Standing, check_body_end-Standing, choose-Standing, clear-Standing, close_item-Standing, close_p-Standing, create_root-Standing, except-Standing, expect_to_close-Standing, formatting-Standing, generic-Standing, implied-Standing, insert_element-Standing, insert_element_for-Standing, marker-Standing, parse_error-Standing, pop_but_root-Standing, pop_until-Standing, pop_until_current-Standing, put_element-Standing, reconstruct-Standing}
 
@@ -78,9 +79,9 @@ act-Standing Reconstruct p t s is = reconstruct-Standing s is
 act-Standing InsertFormatting p t s is = for_tag-Standing create_formatting_element_for t formatting-Standing s is
 act-Standing InsertMarker p t s is = marker-Standing s is
 act-Standing ClearToMarker p t s is = clear-Standing s is
-act-Standing AdoptionAgency p t s is = absurd (true≢false (sym p))
-act-Standing AdoptNobr p t s is = absurd (true≢false (sym p))
-act-Standing CloseMisnestedA p t s is = absurd (true≢false (sym p))
+act-Standing AdoptionAgency p t s is = agency-Standing (name_of t) s is
+act-Standing AdoptNobr p t s is = agency-Standing (codes "nobr") s is
+act-Standing CloseMisnestedA p t s is = misnested_a-Standing s is
 act-Standing (SwitchTo mode) p t s is = is
 act-Standing KeepMode p t s is = is
 act-Standing BackToOriginal p t s is = is

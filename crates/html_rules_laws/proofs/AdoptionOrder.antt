@@ -6,10 +6,14 @@ use Rattle.markup.proofs.Walks.{Above-IsNode}
 use Rattle.html_tokens.specs.declared.tags.Tag.{Tag}
 use Rattle.html_rules.specs.Names.{Html, element_name_of}
 use Rattle.html_rules.specs.State.{Open, Entry}
-use Rattle.html_rules_laws.specs.Adoptions.{NoneAbove}
 use Rattle.html_rules_laws.specs.Soundness.{AreListed, AreOpened, IsApart, IsClear, IsStanding}
 use Rattle.html_rules_laws.proofs.AdoptionTurn.{Adopted, AreNewOr, Placed}
 use Rattle.html_rules_laws.proofs.AdoptionWalk.{AreClear, append-apart, append-clear, append-opened}
+
+-- none of these stands above a node
+abbrev pub NoneAbove : Forest → List Open → ℕ → Type 0
+NoneAbove f [] n = Unit {0}
+NoneAbove f (x ∷ xs) n = (Above f x.number n → ⊥) × NoneAbove f xs n
 
 abbrev pub Each : (Open → Type 0) → List Open → Type 0
 Each P [] = Unit {0}
@@ -23,7 +27,7 @@ each-clear : (g : Forest) (P Q : Open → Type 0) (xs ys : List Open) → ((x y 
 each-clear g P Q [] ys never h k = tt
 each-clear g P Q (x ∷ xs) ys never h k = (clear-by g x.number Q ys (λ y q up. never x y h.0 q up) k, each-clear g P Q xs ys never h.1 k)
 
-each-map : (P Q : Open → Type 0) (xs : List Open) → ((x : Open) → P x → Q x) → Each P xs → Each Q xs
+pub each-map : (P Q : Open → Type 0) (xs : List Open) → ((x : Open) → P x → Q x) → Each P xs → Each Q xs
 each-map P Q [] f h = tt
 each-map P Q (x ∷ xs) f h = (f x h.0, each-map P Q xs f h.1)
 
@@ -47,7 +51,7 @@ opened-each : (f : Forest) (xs : List Open) → AreOpened f xs → Each (λ x. x
 opened-each f [] h = tt
 opened-each f (x ∷ xs) h = (element-IsNode f x.number (element_name_of x.namespace x.name) h.0.named, opened-each f xs h.1)
 
-named-opened : (f g : Forest) (xs : List Open) → KeepsNames f g → AreOpened f xs → AreOpened g xs
+pub named-opened : (f g : Forest) (xs : List Open) → KeepsNames f g → AreOpened f xs → AreOpened g xs
 named-opened f g [] names h = tt
 named-opened f g (x ∷ xs) names h = (record { named = names.names x.number (element_name_of x.namespace x.name) h.0.named; own = h.0.own }, named-opened f g xs names h.1)
 
@@ -64,7 +68,7 @@ new-each f0 f q [] h = tt
 new-each f0 f q (x ∷ xs) h = (h.0, new-each f0 f q xs h.1)
 
 -- lists in two parts
-opened-left : (f : Forest) (xs ys : List Open) → AreOpened f (xs ++ ys) → AreOpened f xs
+pub opened-left : (f : Forest) (xs ys : List Open) → AreOpened f (xs ++ ys) → AreOpened f xs
 opened-left f [] ys h = tt
 opened-left f (x ∷ xs) ys h = (h.0, opened-left f xs ys h.1)
 
@@ -84,15 +88,15 @@ apart-left : (f : Forest) (xs ys : List Open) → IsApart f (xs ++ ys) → IsApa
 apart-left f [] ys h = tt
 apart-left f (x ∷ xs) ys h = (clear-left f x.number xs ys h.0, apart-left f xs ys h.1)
 
-apart-right : (f : Forest) (xs ys : List Open) → IsApart f (xs ++ ys) → IsApart f ys
+pub apart-right : (f : Forest) (xs ys : List Open) → IsApart f (xs ++ ys) → IsApart f ys
 apart-right f [] ys h = h
 apart-right f (x ∷ xs) ys h = apart-right f xs ys h.1
 
-apart-between : (f : Forest) (xs ys : List Open) → IsApart f (xs ++ ys) → AreClear f xs ys
+pub apart-between : (f : Forest) (xs ys : List Open) → IsApart f (xs ++ ys) → AreClear f xs ys
 apart-between f [] ys h = tt
 apart-between f (x ∷ xs) ys h = (clear-right f x.number xs ys h.0, apart-between f xs ys h.1)
 
-clear-rows : (f : Forest) (xs ys : List Open) → AreClear f xs ys → Each (λ x. IsClear f x.number ys) xs
+pub clear-rows : (f : Forest) (xs ys : List Open) → AreClear f xs ys → Each (λ x. IsClear f x.number ys) xs
 clear-rows f [] ys h = tt
 clear-rows f (x ∷ xs) ys h = (h.0, clear-rows f xs ys h.1)
 

@@ -1,19 +1,18 @@
 -- A turn of the adoption agency keeps the open elements standing, where the last node is put at a place outside the block.
-use Rattle.std.proofs.Common.{◌≡◌, ◌∙◌, ℕ, ◌<◌, false, List, [], ◌∷◌, Option, Some, None, refl, ap, subst, arith, inl}
-use Rattle.markup.specs.Forest.{Above, Forest, Last, NodeData, above_of, data_of, element_name, is_contents, node_count, parent_at, put, remove, reparent_children}
+use Rattle.std.proofs.Common.{◌≡◌, ◌∙◌, ℕ, ◌<◌, false, List, [], ◌∷◌, ◌++◌, Option, Some, None, refl, ap, subst, arith, inl}
+use Rattle.markup.specs.Forest.{Above, Forest, IsPlace, Last, NodeData, Place, above_of, data_of, element_name, is_contents, node_count, parent_at, put, remove, reparent_children}
 use Rattle.markup.specs.Forest.NodeData.{Contents}
 use Rattle.markup.specs.Named.{IsTree}
 use Rattle.markup.specs.declared.names.QualName.{QualName}
 use Rattle.markup.proofs.PutTexts.{IsParent-element, element-IsNode}
 use Rattle.markup.proofs.Walks.{Above-child}
 use Rattle.html_tokens.specs.declared.tags.Tag.{Tag}
-use Rattle.html_rules.specs.Adoption.{Walk, relist, walk, with_copy}
+use Rattle.html_rules.specs.Adoption.{Walk, opened_for, relist, walk, with_copy}
 use Rattle.html_rules.specs.Formatting.{put_after, stands_for}
 use Rattle.html_rules.specs.Names.{Html, element_name_of}
 use Rattle.html_rules.specs.State.{Open, Entry, Element}
-use Rattle.html_rules_laws.specs.Adoptions.{AreAdoptionsStanding, begun}
-use Rattle.html_rules_laws.specs.Soundness.{AreListed, IsOpened}
-use Rattle.html_rules_laws.proofs.AdoptionOrder.{opened-right, turn-IsStanding}
+use Rattle.html_rules_laws.specs.Soundness.{AreListed, IsOpened, IsStanding}
+use Rattle.html_rules_laws.proofs.AdoptionOrder.{NoneAbove, opened-right, turn-IsStanding}
 use Rattle.html_rules_laws.proofs.AdoptionTurn.{Adopted, Placed, adopted-Adopted, walked-Placed}
 use Rattle.html_rules_laws.proofs.AdoptionWalk.{Walked, choose-listed, cons-listed, in_place-listed, named-listed, tail-listed, walk-Walked, without-listed}
 
@@ -28,7 +27,7 @@ relist-listed f n new tag [] entries e h = in_place-listed f n new tag entries e
 relist-listed f n new tag (x ∷ copies) entries e h = without-listed f n (put_after x.number (Element new tag) entries) (after-listed f x.number new tag entries e h)
 
 -- an element is no contents, and no document
-element-plain : (d : NodeData) (name : QualName) → element_name d ≡ Some name → is_contents d ≡ false
+pub element-plain : (d : NodeData) (name : QualName) → element_name d ≡ Some name → is_contents d ≡ false
 element-plain Contents name e = absurd (cc)
 element-plain _ name e = refl
 
@@ -37,7 +36,11 @@ above-top : (f : Forest) (a : ℕ) → above_of f 0 ≡ None → Above f a 0 →
 above-top f a e Above.here = refl
 above-top f a e (Above.further is up) = absurd (cc)
 
-begun-Walked : (f : Forest) (b : ℕ) (entries : List Entry) → IsTree f → AreListed f entries → b < node_count f → is_contents (data_of f b) ≡ false → Walked f b (begun f b entries)
+-- the walk before its first element
+abbrev pub begun : Forest → ℕ → List Entry → Walk
+begun f block entries = record { forest = f; active_formatting = entries; copies = []; last_node = block }
+
+pub begun-Walked : (f : Forest) (b : ℕ) (entries : List Entry) → IsTree f → AreListed f entries → b < node_count f → is_contents (data_of f b) ≡ false → Walked f b (begun f b entries)
 begun-Walked f b entries tree listed there plain = record {
   tree = tree;
   names = record { names = λ k name e. e; holds = λ k at. at };
@@ -53,7 +56,7 @@ begun-Walked f b entries tree listed there plain = record {
   last = inl refl;
 }
 
-not_above_document : (f : Forest) (block : Open) → IsTree f → above_of f 0 ≡ None → IsOpened f block → Above f block.number 0 → ⊥
+pub not_above_document : (f : Forest) (block : Open) → IsTree f → above_of f 0 ≡ None → IsOpened f block → Above f block.number 0 → ⊥
 not_above_document f block tree top is up =
     let same = above-top f block.number top up in
     let named : element_name (data_of f 0) ≡ Some (element_name_of block.namespace block.name) = subst (λ k. element_name (data_of f k) ≡ Some (element_name_of block.namespace block.name)) same is.named in
@@ -74,8 +77,18 @@ stays-on_top f0 f g block q copies entries tag tree top is placed made = by (abo
       let itself : above_of g 0 ≡ Some 0 = e ∙ ap Some (above-top f0 m top old) in
       absurd (Above-child g made.tree.forest 0 0 itself Above.here)
 
-pub adoptions-standing : AreAdoptionsStanding
-adoptions-standing f0 block inner anc entries left between formatting_element tag place is at less out none =
+-- With a block, elements that were opened after it, and those that were opened before the formatting element: where the last node of the walk is put at a
+-- place whose parent neither the block nor a later element stands above, all that is open behind the turn is in order.
+pub outside-standing : (f0 : Forest) (block : Open) (later earlier : List Open) (entries : List Entry) (left : ℕ) (between : List Open) (formatting_element : ℕ) (tag : Tag) (place : Place)
+    → IsStanding f0 (later ++ block ∷ earlier) entries
+    → IsPlace (remove (walk left between (begun f0 block.number entries)).forest (walk left between (begun f0 block.number entries)).last_node) place
+    → parent_at place < node_count f0 → (Above f0 block.number (parent_at place) → ⊥) → NoneAbove f0 later (parent_at place)
+    → let w = walk left between (begun f0 block.number entries) in
+    let f = put (remove w.forest w.last_node) place w.last_node in
+    IsStanding (put (reparent_children (with_copy f tag) block.number (node_count f)) (Last block.number) (node_count f))
+    (later ++ (opened_for f tag ∷ block ∷ (w.copies ++ earlier)))
+    (relist formatting_element (Element (node_count f) tag) w.copies w.active_formatting)
+outside-standing f0 block inner anc entries left between formatting_element tag place is at less out none =
     let b : ℕ = block.number in
     let q : ℕ = parent_at place in
     let w : Walk = walk left between (begun f0 b entries) in

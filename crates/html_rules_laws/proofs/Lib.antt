@@ -1,5 +1,7 @@
 pub mod ActionsStanding
+pub mod AdoptionAgency
 pub mod AdoptionOrder
+pub mod AdoptionPlace
 pub mod AdoptionStanding
 pub mod AdoptionTurn
 pub mod AdoptionWalk
@@ -15,6 +17,7 @@ pub mod Reopened
 pub mod Replies
 pub mod Rises
 pub mod Standing
+pub mod SetFacts
 pub mod StandingActions
 pub mod StandingSteps
 pub mod StandingTrees

@@ -72,10 +72,13 @@ contents-Parent f n e = record {
   holds = ap holds_children e;
 }
 
-template-Parent : (f : Forest) (x : Open) → IsTree f → IsOpened f x → is_in set.Template x ≡ true → IsParent f (x.number + 1)
-template-Parent f x tree is t =
+pub template-data : (f : Forest) (x : Open) → IsTree f → IsOpened f x → is_in set.Template x ≡ true → data_of f (x.number + 1) ≡ Contents
+template-data f x tree is t =
     let named : is_named f x.number (codes "template") ≡ true = ap (λ o. is_html_name o (codes "template")) is.named ∙ template_in x.namespace x.name t in
-    contents-Parent f (x.number + 1) (tree.contents.follow x.number (tree.contents.templates x.number ∙ named))
+    tree.contents.follow x.number (tree.contents.templates x.number ∙ named)
+
+pub template-Parent : (f : Forest) (x : Open) → IsTree f → IsOpened f x → is_in set.Template x ≡ true → IsParent f (x.number + 1)
+template-Parent f x tree is t = contents-Parent f (x.number + 1) (template-data f x tree is t)
 
 inside-by : (f : Forest) (x : Open) (b : Bool) → is_in set.Template x ≡ b → IsTree f → IsOpened f x → IsPlace f (choose b (λ _. Last (x.number + 1)) (λ _. Last x.number))
 inside-by f x true e tree is = template-Parent f x tree is e

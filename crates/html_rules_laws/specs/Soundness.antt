@@ -10,7 +10,7 @@ use Rattle.html_tokens.specs.declared.token.Token.{Token}
 use Rattle.html_rules.specs.Actions.{act, push_head_elem}
 use Rattle.html_rules.specs.ForeignContent.{foreign_start}
 use Rattle.html_rules.specs.State.{Open, Entry, Element, Marker, State}
-use Rattle.html_rules.specs.Table.{Action, AdoptNobr, AdoptionAgency, CloseMisnestedA, EnterForeign, InsertForeign, PushHeadElem, Then, When}
+use Rattle.html_rules.specs.Table.{Action, EnterForeign, InsertForeign, PushHeadElem, Then, When}
 
 -- a namespace that is not one of the three is not HTML's either
 abbrev pub IsOwn : Namespace → Type 0
@@ -54,13 +54,10 @@ pub record IsStanding (f : Forest) (xs : List Open) (entries : List Entry) : Typ
 abbrev pub Standing : State → Type 0
 Standing s = IsStanding s.forest s.open_elems s.active_formatting
 
--- whether an action neither calls the adoption agency, nor opens the head again, nor asks for the namespace of a fragment's context
+-- whether an action neither opens the head again nor asks for the namespace of a fragment's context
 abbrev pub is_plain_action : Action → Bool
 is_plain_action (Then a b) = is_plain_action a && is_plain_action b
 is_plain_action (When c a) = is_plain_action a
-is_plain_action AdoptionAgency = false
-is_plain_action AdoptNobr = false
-is_plain_action CloseMisnestedA = false
 is_plain_action PushHeadElem = false
 is_plain_action InsertForeign = false
 is_plain_action (EnterForeign (Other uri)) = false

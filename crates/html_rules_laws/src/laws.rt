@@ -16,13 +16,13 @@ pub fn tokens_are_taken_lawfully()
 {}
 
 /// Actions keep the tree a tree with the document on top, the open elements elements of it, and no later one an earlier
-/// one or above one. Of the adoption agency nothing is said here.
+/// one or above one.
 pub fn actions_keep_elements_standing()
     ensures { AreActionsStanding }
 {}
 
-/// Behind a turn of the adoption agency the tree is a tree and the open elements are in order, if the last node of the walk
-/// was put at a place whose parent neither the furthest block nor a later element stands above.
+/// So do a turn of the adoption agency, all its turns, and the end of an `a` that a new one closes (HTML Standard, section
+/// 13.2.6.4.7).
 pub fn adoptions_keep_elements_standing()
     ensures { AreAdoptionsStanding }
 {}

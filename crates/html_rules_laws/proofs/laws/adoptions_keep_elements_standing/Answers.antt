@@ -1,5 +1,5 @@
-use Rattle.html_rules_laws.proofs.AdoptionStanding.{adoptions-standing}
+use Rattle.html_rules_laws.proofs.AdoptionAgency.{adoptions-Standing}
 use Rattle.html_rules_laws.proofs.laws.adoptions_keep_elements_standing.Goals as goal
 
 pub returns : goal.returns
-returns c = adoptions-standing
+returns c = adoptions-Standing
