@@ -1,0 +1,81 @@
+-- The names of plain elements.
+use Rattle.std.proofs.Common.{◌≡◌, ◌∙◌, ℕ, Bool, true, false, List, [], ◌∷◌, Option, Some, None, refl, ap}
+use Rattle.std.specs.Prelude.{◌&&◌, cond, is_none}
+use Rattle.std.specs.Str.{bytes_eq}
+use Rattle.std.proofs.lemmas.Bool.{and_parts}
+use Rattle.std.proofs.lemmas.Slice.Eq.{bytes_eq-Decides}
+use Rattle.markup.specs.Names.{html_namespace}
+use Rattle.markup.specs.declared.names.QualName.{QualName}
+use Rattle.html_plain.specs.Elements.{element_of, elements, first_spelled, html_name, local_element, spelled}
+use Rattle.html_plain.specs.declared.elements.CellKind.TheVariants.{Data, Header}
+use Rattle.html_plain.specs.declared.elements.Format.TheVariants.{Bold, Italic, Emphasis, Code}
+use Rattle.html_plain.specs.declared.elements.Level.TheVariants.{One, Two, Three, Four, Five, Six}
+use Rattle.html_plain.specs.declared.elements.ListKind.TheVariants.{Unordered, Ordered}
+use Rattle.html_plain.specs.declared.elements.PlainElement.{PlainElement}
+use Rattle.html_plain.specs.declared.elements.PlainElement.TheVariants.{Html, Head, Title, Body, Paragraph, Heading, Division, List as ListElement, Item, Table, TableBody, Row, Cell, Break, Formatted, Link}
+
+-- the element of its own name
+pub spelled-found : (k : PlainElement) → local_element (spelled k) ≡ Some k
+spelled-found Html = refl
+spelled-found Head = refl
+spelled-found Title = refl
+spelled-found Body = refl
+spelled-found Paragraph = refl
+spelled-found (Heading One) = refl
+spelled-found (Heading Two) = refl
+spelled-found (Heading Three) = refl
+spelled-found (Heading Four) = refl
+spelled-found (Heading Five) = refl
+spelled-found (Heading Six) = refl
+spelled-found Division = refl
+spelled-found (ListElement Unordered) = refl
+spelled-found (ListElement Ordered) = refl
+spelled-found Item = refl
+spelled-found Table = refl
+spelled-found TableBody = refl
+spelled-found Row = refl
+spelled-found (Cell Data) = refl
+spelled-found (Cell Header) = refl
+spelled-found Break = refl
+spelled-found (Formatted Bold) = refl
+spelled-found (Formatted Italic) = refl
+spelled-found (Formatted Emphasis) = refl
+spelled-found (Formatted Code) = refl
+spelled-found Link = refl
+
+first-by : (j : PlainElement) (ks : List PlainElement) (name : List ℕ) (k : PlainElement) (b : Bool) → bytes_eq name (spelled j) ≡ b → (first_spelled ks name ≡ Some k → name ≡ spelled k) → cond b (Some j) (first_spelled ks name) ≡ Some k → name ≡ spelled k
+first-by j ks name k true e f h = let same : j ≡ k = cc in (bytes_eq-Decides name (spelled j)).0 e ∙ ap spelled same
+first-by j ks name k false e f h = f h
+
+first-spelled : (ks : List PlainElement) (name : List ℕ) (k : PlainElement) → first_spelled ks name ≡ Some k → name ≡ spelled k
+first-spelled [] name k h = absurd cc
+first-spelled (j ∷ ks) name k h = first-by j ks name k _ refl (first-spelled ks name k) h
+
+-- a name is that of the element that is found of it
+pub found-spelled : (name : List ℕ) (k : PlainElement) → local_element name ≡ Some k → name ≡ spelled k
+found-spelled name k h = first-spelled elements name k h
+
+no-prefix : (o : Option (List ℕ)) → is_none o ≡ true → o ≡ None
+no-prefix None h = refl
+no-prefix (Some x) h = absurd cc
+
+-- a name of its parts
+abbrev made : Option (List ℕ) → List ℕ → List ℕ → QualName
+made prefix ns local = record { prefix = prefix; ns = ns; local = local }
+
+made-html : (prefix : Option (List ℕ)) (ns local : List ℕ) (k : PlainElement) → prefix ≡ None → ns ≡ html_namespace → local ≡ spelled k → made prefix ns local ≡ html_name (spelled k)
+made-html prefix ns local k h i j = rw (h, i, j) refl
+
+element-by : (name : QualName) (k : PlainElement) (b : Bool) → (is_none name.prefix && bytes_eq name.ns html_namespace) ≡ b → cond b (local_element name.local) None ≡ Some k → name ≡ html_name (spelled k)
+element-by name k true e h =
+    let p = and_parts (is_none name.prefix) (bytes_eq name.ns html_namespace) e in
+    made-html name.prefix name.ns name.local k (no-prefix name.prefix p.0) ((bytes_eq-Decides name.ns html_namespace).0 p.1) (found-spelled name.local k h)
+element-by name k false e h = absurd cc
+
+-- the same of a name with its prefix and its namespace
+pub element-named : (name : QualName) (k : PlainElement) → element_of name ≡ Some k → name ≡ html_name (spelled k)
+element-named name k h = element-by name k _ refl h
+
+pub named-element : (k : PlainElement) → element_of (html_name (spelled k)) ≡ Some k
+unfolding html_namespace
+named-element k = spelled-found k

@@ -1,0 +1,4 @@
+pub mod Elements
+pub mod Grammar
+pub mod Laws
+pub mod Rows
