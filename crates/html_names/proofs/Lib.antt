@@ -1,0 +1,5 @@
+pub mod SetNumbers
+pub mod FittingRows
+pub mod UnknownNames
+pub mod RowsOfSets
+pub mod AnyCase

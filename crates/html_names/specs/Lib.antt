@@ -1,0 +1,3 @@
+pub mod SetBits
+pub mod SetRows
+pub mod Classes

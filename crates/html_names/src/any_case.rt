@@ -1,0 +1,40 @@
+//! Texts that are compared in any case, with nothing lowered into memory.
+ghost use Rattle.std.specs.Prelude.{◌≡◌, IsTrue};
+ghost use Rattle.std.specs.Str.{chars};
+ghost use Rattle.markup.specs.Plain.{is_plain};
+ghost use Rattle.html_tokens.specs.Characters.{begins_any_case};
+ghost use Rattle.html_rules.specs.Names.{equals_any_case};
+
+/// Whether bytes begin with those of a word in any case, which is given lowered.
+fn bytes_begin(text: &[u8], word: &[u8]) -> bool
+    ensures { result ≡ begins_any_case word.now text.now }
+{
+    for (i, byte) in word.iter().enumerate() {
+        if i >= text.len() {
+            return false;
+        }
+        if text[i].to_ascii_lowercase() != *byte {
+            return false;
+        }
+    }
+    true
+}
+
+/// Whether a text begins with a word in any case. The word is given lowered, and is of ASCII alone.
+pub(crate) fn begins(text: &str, word: &str) -> bool
+    requires { IsTrue (is_plain word.now) }
+    ensures { result ≡ begins_any_case word.now (chars text.now) }
+{
+    bytes_begin(text.as_bytes(), word.as_bytes())
+}
+
+/// Whether a text is a word in any case. The word is given lowered, and is of ASCII alone.
+pub fn equals_any_case(text: &str, word: &str) -> bool
+    requires { IsTrue (is_plain word.now) }
+    ensures { result ≡ equals_any_case (chars text.now) word.now }
+{
+    if text.len() != word.len() {
+        return false;
+    }
+    begins(text, word)
+}

@@ -1,0 +1,12 @@
+//! What names and texts are to the rules of tree construction (HTML Standard, section 13.2.6): which sets of names an element is in, the
+//! names that change in foreign content, what a doctype says, and the encoding that a `meta` element names.
+#![tactic(auto)]
+
+mod any_case;
+mod doctypes;
+pub mod element_class;
+mod set_rows;
+
+pub use any_case::equals_any_case;
+pub use doctypes::doctype_error_and_quirks;
+pub use element_class::{ElementClass, ElementNamespace, is_in};

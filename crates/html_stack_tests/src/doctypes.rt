@@ -1,0 +1,269 @@
+//! Doctypes (HTML Standard, section 13.2.6.4.1), as the Standard writes their identifiers.
+
+use html_names::doctype_error_and_quirks;
+use html_tokens::Doctype;
+use markup::{QuirksMode, Text};
+use std::alloc::{AllocError, Global};
+use std::test::Fail;
+
+const PUBLIC_PREFIXES: [&str; 54] = [
+    "-//AdvaSoft Ltd//DTD HTML 3.0 asWedit + extensions//",
+    "-//AS//DTD HTML 3.0 asWedit + extensions//",
+    "-//IETF//DTD HTML 2.0 Level 1//",
+    "-//IETF//DTD HTML 2.0 Level 2//",
+    "-//IETF//DTD HTML 2.0 Strict Level 1//",
+    "-//IETF//DTD HTML 2.0 Strict Level 2//",
+    "-//IETF//DTD HTML 2.0 Strict//",
+    "-//IETF//DTD HTML 2.0//",
+    "-//IETF//DTD HTML 2.1E//",
+    "-//IETF//DTD HTML 3.0//",
+    "-//IETF//DTD HTML 3.2 Final//",
+    "-//IETF//DTD HTML 3.2//",
+    "-//IETF//DTD HTML 3//",
+    "-//IETF//DTD HTML Level 0//",
+    "-//IETF//DTD HTML Level 1//",
+    "-//IETF//DTD HTML Level 2//",
+    "-//IETF//DTD HTML Level 3//",
+    "-//IETF//DTD HTML Strict Level 0//",
+    "-//IETF//DTD HTML Strict Level 1//",
+    "-//IETF//DTD HTML Strict Level 2//",
+    "-//IETF//DTD HTML Strict Level 3//",
+    "-//IETF//DTD HTML Strict//",
+    "-//IETF//DTD HTML//",
+    "-//Metrius//DTD Metrius Presentational//",
+    "-//Microsoft//DTD Internet Explorer 2.0 HTML Strict//",
+    "-//Microsoft//DTD Internet Explorer 2.0 HTML//",
+    "-//Microsoft//DTD Internet Explorer 2.0 Tables//",
+    "-//Microsoft//DTD Internet Explorer 3.0 HTML Strict//",
+    "-//Microsoft//DTD Internet Explorer 3.0 HTML//",
+    "-//Microsoft//DTD Internet Explorer 3.0 Tables//",
+    "-//Netscape Comm. Corp.//DTD HTML//",
+    "-//Netscape Comm. Corp.//DTD Strict HTML//",
+    "-//O'Reilly and Associates//DTD HTML 2.0//",
+    "-//O'Reilly and Associates//DTD HTML Extended 1.0//",
+    "-//O'Reilly and Associates//DTD HTML Extended Relaxed 1.0//",
+    "-//SoftQuad Software//DTD HoTMetaL PRO 6.0::19990601::extensions to HTML 4.0//",
+    "-//SoftQuad//DTD HoTMetaL PRO 4.0::19971010::extensions to HTML 4.0//",
+    "-//Spyglass//DTD HTML 2.0 Extended//",
+    "-//SQ//DTD HTML 2.0 HoTMetaL + extensions//",
+    "-//Sun Microsystems Corp.//DTD HotJava HTML//",
+    "-//Sun Microsystems Corp.//DTD HotJava Strict HTML//",
+    "-//W3C//DTD HTML 3 1995-03-24//",
+    "-//W3C//DTD HTML 3.2 Draft//",
+    "-//W3C//DTD HTML 3.2 Final//",
+    "-//W3C//DTD HTML 3.2//",
+    "-//W3C//DTD HTML 3.2S Draft//",
+    "-//W3C//DTD HTML 4.0 Frameset//",
+    "-//W3C//DTD HTML 4.0 Transitional//",
+    "-//W3C//DTD HTML Experimental 19960712//",
+    "-//W3C//DTD HTML Experimental 970421//",
+    "-//W3C//DTD W3 HTML//",
+    "-//W3O//DTD W3 HTML 3.0//",
+    "-//WebTechs//DTD Mozilla HTML 2.0//",
+    "-//WebTechs//DTD Mozilla HTML//",
+];
+
+fn part(alloc: Global, text: Option<&str>) -> Result<Option<Text>, AllocError> {
+    match text {
+        None => Ok(None),
+        Some(text) => Ok(Some(Text::new(String::from_str(alloc, text)?))),
+    }
+}
+
+fn doctype(
+    alloc: Global,
+    name: &str,
+    public_id: Option<&str>,
+    system_id: Option<&str>,
+) -> Result<Doctype, AllocError> {
+    Ok(Doctype {
+        name: part(alloc, Some(name))?,
+        public_id: part(alloc, public_id)?,
+        system_id: part(alloc, system_id)?,
+        force_quirks: false,
+    })
+}
+
+#[test]
+fn old_public_identifiers_set_quirks_mode(rt: HostRuntime) -> Result<(), Fail> {
+    for prefix in PUBLIC_PREFIXES {
+        let whole = format!(in rt.alloc(); "{prefix}EN")?;
+        let old = doctype(rt.alloc(), "html", Some(whole.as_str()), None)?;
+        assert_eq!(rt;
+            doctype_error_and_quirks(&old, false),
+            (true, QuirksMode::Quirks)
+        );
+        assert_eq!(rt;
+            doctype_error_and_quirks(&old, true),
+            (true, QuirksMode::NoQuirks)
+        );
+        let with_system = doctype(rt.alloc(), "html", Some(prefix), Some("x"))?;
+        assert_eq!(rt;
+            doctype_error_and_quirks(&with_system, false),
+            (true, QuirksMode::Quirks)
+        );
+    }
+    Ok(())
+}
+
+#[test]
+fn identifiers_are_told_apart(rt: HostRuntime) -> Result<(), Fail> {
+    let rows: &[(Option<&str>, Option<&str>, bool, QuirksMode)] = &[
+        (None, None, false, QuirksMode::NoQuirks),
+        (
+            None,
+            Some("about:legacy-compat"),
+            false,
+            QuirksMode::NoQuirks,
+        ),
+        (None, Some("x"), true, QuirksMode::NoQuirks),
+        (
+            Some("-//W3C//DTD HTML 4.0//EN"),
+            None,
+            false,
+            QuirksMode::NoQuirks,
+        ),
+        (
+            Some("-//W3C//DTD HTML 4.0//EN"),
+            Some("http://www.w3.org/TR/REC-html40/strict.dtd"),
+            false,
+            QuirksMode::NoQuirks,
+        ),
+        (
+            Some("-//W3C//DTD HTML 4.0//EN"),
+            Some("x"),
+            true,
+            QuirksMode::NoQuirks,
+        ),
+        (
+            Some("-//W3C//DTD HTML 4.01//EN"),
+            None,
+            false,
+            QuirksMode::NoQuirks,
+        ),
+        (
+            Some("-//W3C//DTD HTML 4.01//EN"),
+            Some("http://www.w3.org/TR/html4/strict.dtd"),
+            false,
+            QuirksMode::NoQuirks,
+        ),
+        (
+            Some("-//W3C//DTD XHTML 1.0 Strict//EN"),
+            None,
+            true,
+            QuirksMode::NoQuirks,
+        ),
+        (
+            Some("-//W3C//DTD XHTML 1.0 Strict//EN"),
+            Some("http://www.w3.org/TR/xhtml1/DTD/xhtml1-strict.dtd"),
+            false,
+            QuirksMode::NoQuirks,
+        ),
+        (
+            Some("-//W3C//DTD XHTML 1.1//EN"),
+            Some("http://www.w3.org/TR/xhtml11/DTD/xhtml11.dtd"),
+            false,
+            QuirksMode::NoQuirks,
+        ),
+        (
+            Some("-//W3O//DTD W3 HTML Strict 3.0//EN//"),
+            None,
+            true,
+            QuirksMode::Quirks,
+        ),
+        (
+            Some("-//W3O//DTD W3 HTML Strict 3.0//EN//x"),
+            None,
+            true,
+            QuirksMode::NoQuirks,
+        ),
+        (
+            Some("-/W3C/DTD HTML 4.0 Transitional/EN"),
+            None,
+            true,
+            QuirksMode::Quirks,
+        ),
+        (Some("HTML"), None, true, QuirksMode::Quirks),
+        (
+            None,
+            Some("http://www.ibm.com/data/dtd/v11/ibmxhtml1-transitional.dtd"),
+            true,
+            QuirksMode::Quirks,
+        ),
+        (
+            Some("-//W3C//DTD XHTML 1.0 Frameset//EN"),
+            None,
+            true,
+            QuirksMode::LimitedQuirks,
+        ),
+        (
+            Some("-//W3C//DTD XHTML 1.0 Transitional//EN"),
+            Some("x"),
+            true,
+            QuirksMode::LimitedQuirks,
+        ),
+        (
+            Some("-//W3C//DTD HTML 4.01 Frameset//EN"),
+            None,
+            true,
+            QuirksMode::Quirks,
+        ),
+        (
+            Some("-//W3C//DTD HTML 4.01 Transitional//EN"),
+            None,
+            true,
+            QuirksMode::Quirks,
+        ),
+        (
+            Some("-//W3C//DTD HTML 4.01 Transitional//EN"),
+            Some("http://www.w3.org/TR/html4/loose.dtd"),
+            true,
+            QuirksMode::LimitedQuirks,
+        ),
+        (
+            Some("-//W3C//DTD HTML 4.01 Frameset//EN"),
+            Some(""),
+            true,
+            QuirksMode::LimitedQuirks,
+        ),
+        (
+            Some("-//w3c//dtd html 4.01 TRANSITIONAL//"),
+            Some("x"),
+            true,
+            QuirksMode::LimitedQuirks,
+        ),
+        (
+            Some("-//w3c//dtd html 4.0//en"),
+            None,
+            true,
+            QuirksMode::NoQuirks,
+        ),
+        (Some(""), None, true, QuirksMode::NoQuirks),
+    ];
+    for (public_id, system_id, error, mode) in rows {
+        let told = doctype(rt.alloc(), "html", *public_id, *system_id)?;
+        assert_eq!(rt; doctype_error_and_quirks(&told, false), (*error, *mode));
+    }
+    Ok(())
+}
+
+#[test]
+fn other_names_and_forced_quirks_set_quirks_mode(rt: HostRuntime) -> Result<(), Fail> {
+    let named = doctype(rt.alloc(), "htm", None, None)?;
+    assert_eq!(rt;
+        doctype_error_and_quirks(&named, true),
+        (true, QuirksMode::Quirks)
+    );
+    let nameless = Doctype::default();
+    assert_eq!(rt;
+        doctype_error_and_quirks(&nameless, false),
+        (true, QuirksMode::Quirks)
+    );
+    let mut forced = doctype(rt.alloc(), "html", None, None)?;
+    forced.force_quirks = true;
+    assert_eq!(rt;
+        doctype_error_and_quirks(&forced, true),
+        (false, QuirksMode::Quirks)
+    );
+    Ok(())
+}
