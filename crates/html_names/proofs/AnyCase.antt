@@ -15,7 +15,7 @@ use Rattle.html_rules.specs.Doctypes.{begins_with_one, lowered}
 use denote.Bor.{Bor}
 
 -- what is not ASCII isn't ASCII in lower case either
-high-lowered : (c w : ℕ) → 128 ≤ c → w < 128 → nat_eq w (to_ascii_lowercase c) ≡ false
+pub high-lowered : (c w : ℕ) → 128 ≤ c → w < 128 → nat_eq w (to_ascii_lowercase c) ≡ false
 high-lowered c w h l = grind (arith, nat_tests)
 
 self-eq : (n : ℕ) → nat_eq n n ≡ true

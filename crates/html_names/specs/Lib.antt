@@ -1,3 +1,5 @@
 pub mod SetBits
 pub mod SetRows
 pub mod Classes
+pub mod Stops
+pub mod Given

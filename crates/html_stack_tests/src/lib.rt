@@ -7,3 +7,5 @@
 mod classes;
 #[cfg(test)]
 mod doctypes;
+#[cfg(test)]
+mod encodings;
