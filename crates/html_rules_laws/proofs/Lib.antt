@@ -5,8 +5,10 @@ pub mod AdoptionPlace
 pub mod AdoptionStanding
 pub mod AdoptionTurn
 pub mod AdoptionWalk
+pub mod Aside
 pub mod CharacterTurns
 pub mod FirstFit
+pub mod KeptByRows
 pub mod LouderActions
 pub mod LouderAdoption
 pub mod LouderSteps
@@ -18,6 +20,7 @@ pub mod Replies
 pub mod Rises
 pub mod Standing
 pub mod SetFacts
+pub mod Settling
 pub mod StandingActions
 pub mod StandingSteps
 pub mod StandingTrees

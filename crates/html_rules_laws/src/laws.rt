@@ -2,6 +2,7 @@
 ghost use Rattle.html_rules_laws.specs.Adoptions.{AreAdoptionsStanding};
 ghost use Rattle.html_rules_laws.specs.Errors.{AreErrorsCounted};
 ghost use Rattle.html_rules_laws.specs.Lawful.{AreTokensTakenLawfully};
+ghost use Rattle.html_rules_laws.specs.Settled.{IsEachTokenSettled};
 ghost use Rattle.html_rules_laws.specs.Soundness.{AreActionsStanding};
 
 /// The rules do not look at the number of errors, and only count it on.
@@ -25,4 +26,9 @@ pub fn actions_keep_elements_standing()
 /// 13.2.6.4.7).
 pub fn adoptions_keep_elements_standing()
     ensures { AreAdoptionsStanding }
+{}
+
+/// Sixteen turns, and four for each open element, are enough for every token.
+pub fn each_token_is_settled()
+    ensures { IsEachTokenSettled }
 {}
