@@ -1,3 +1,4 @@
 pub mod Names
 pub mod Agreement
 pub mod WrittenForms
+pub mod Parts

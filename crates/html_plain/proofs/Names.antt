@@ -1,4 +1,10 @@
 -- The names of plain elements.
+use Rattle.std.proofs.Common.{length, slice_index_or, true≢false, sym}
+use Rattle.std.specs.Prelude.{map}
+use Rattle.std.specs.List.{list_any}
+use Rattle.std.proofs.Math.ListN.{get_or-map}
+use Rattle.markup.specs.KnownNames.{names}
+use Rattle.html_plain.specs.declared.known_elements.TheConstants.{ELEMENTS}
 use Rattle.std.proofs.Common.{◌≡◌, ◌∙◌, ℕ, Bool, true, false, List, [], ◌∷◌, Option, Some, None, refl, ap}
 use Rattle.std.specs.Prelude.{◌&&◌, cond, is_none}
 use Rattle.std.specs.Str.{bytes_eq}
@@ -16,6 +22,7 @@ use Rattle.html_plain.specs.declared.elements.PlainElement.TheVariants.{Html, He
 
 -- the element of its own name
 pub spelled-found : (k : PlainElement) → local_element (spelled k) ≡ Some k
+unfolding local_element
 spelled-found Html = refl
 spelled-found Head = refl
 spelled-found Title = refl
@@ -53,6 +60,7 @@ first-spelled (j ∷ ks) name k h = first-by j ks name k _ refl (first-spelled k
 
 -- a name is that of the element that is found of it
 pub found-spelled : (name : List ℕ) (k : PlainElement) → local_element name ≡ Some k → name ≡ spelled k
+unfolding local_element
 found-spelled name k h = first-spelled elements name k h
 
 no-prefix : (o : Option (List ℕ)) → is_none o ≡ true → o ≡ None
@@ -79,3 +87,61 @@ element-named name k h = element-by name k _ refl h
 pub named-element : (k : PlainElement) → element_of (html_name (spelled k)) ≡ Some k
 unfolding html_namespace
 named-element k = spelled-found k
+
+-- each name is a known one
+spelled-known : (k : PlainElement) → list_any (bytes_eq (spelled k)) names ≡ true
+unfolding names
+spelled-known Html = refl
+spelled-known Head = refl
+spelled-known Title = refl
+spelled-known Body = refl
+spelled-known Paragraph = refl
+spelled-known (Heading One) = refl
+spelled-known (Heading Two) = refl
+spelled-known (Heading Three) = refl
+spelled-known (Heading Four) = refl
+spelled-known (Heading Five) = refl
+spelled-known (Heading Six) = refl
+spelled-known Division = refl
+spelled-known (ListElement Unordered) = refl
+spelled-known (ListElement Ordered) = refl
+spelled-known Item = refl
+spelled-known Table = refl
+spelled-known TableBody = refl
+spelled-known Row = refl
+spelled-known (Cell Data) = refl
+spelled-known (Cell Header) = refl
+spelled-known Break = refl
+spelled-known (Formatted Bold) = refl
+spelled-known (Formatted Italic) = refl
+spelled-known (Formatted Emphasis) = refl
+spelled-known (Formatted Code) = refl
+spelled-known Link = refl
+
+unknown-by : (name : List ℕ) (o : Option PlainElement) → local_element name ≡ o → list_any (bytes_eq name) names ≡ false → o ≡ None
+unknown-by name None e h = refl
+unknown-by name (Some k) e h = absurd (true≢false (sym (spelled-known k) ∙ (ap (λ n. list_any (bytes_eq n) names) (sym (found-spelled name k e)) ∙ h)))
+
+-- what is no known name is that of no element
+pub unknown : (name : List ℕ) → list_any (bytes_eq name) names ≡ false → local_element name ≡ None
+unknown name h = unknown-by name (local_element name) refl h
+
+-- BY PLACES
+
+pub as_many : length ELEMENTS ≡ length names
+unfolding names
+as_many = refl
+
+all-elements : ELEMENTS ≡ map local_element names
+unfolding names local_element
+all-elements = refl
+
+none-element : local_element [] ≡ None
+unfolding local_element
+none-element = refl
+
+-- the table has the element of each known name at its place
+pub element-at : (n : ℕ) → slice_index_or ELEMENTS n None ≡ local_element (slice_index_or names n [])
+element-at n =
+    ap (λ l. slice_index_or l n None) all-elements
+    ∙ (ap (λ d. slice_index_or (map local_element names) n d) (sym none-element) ∙ get_or-map local_element names n [])

@@ -14,6 +14,8 @@ use Rattle.html_plain.specs.declared.elements.ListKind.TheVariants.{Unordered, O
 use Rattle.html_plain.specs.declared.elements.PlainElement.{PlainElement}
 use Rattle.html_plain.specs.declared.elements.PlainElement.TheVariants.{Html, Head, Title, Body, Paragraph, Heading, Division, List as ListElement, Item, Table, TableBody, Row, Cell, Break, Formatted, Link}
 use Rattle.html_plain.specs.declared.place.Place.{Place}
+use Rattle.html_plain.specs.declared.place.TextKind.{TextKind}
+use Rattle.html_plain.specs.declared.place.TextKind.TheVariants.{NoText, WhiteSpace, AnyText}
 use Rattle.html_plain.specs.declared.place.Place.TheVariants.{BeforeDoctype, BeforeRoot, BehindRoot, BeforeHead, BehindHead, BeforeBody, BehindBody, InHead, BehindTitle, InTitle, InFlow, InLine, InList, InTable, InTableBody, InRow, InBreak}
 
 -- NAMES
@@ -74,12 +76,16 @@ first_spelled [] name = None
 first_spelled (k ∷ ks) name = cond (bytes_eq name (spelled k)) (Some k) (first_spelled ks name)
 
 -- the element that a local name spells, if it is one of them
-abbrev pub local_element : List ℕ → Option PlainElement
+unfoldable pub local_element : List ℕ → Option PlainElement
 local_element name = first_spelled elements name
+
+-- whether a name is HTML's and has no prefix
+abbrev pub is_html : QualName → Bool
+is_html name = is_none name.prefix && bytes_eq name.ns html_namespace
 
 -- the element of a name, if it is one of them
 abbrev pub element_of : QualName → Option PlainElement
-element_of name = cond (is_none name.prefix && bytes_eq name.ns html_namespace) (local_element name.local) None
+element_of name = cond (is_html name) (local_element name.local) None
 
 -- WHAT STANDS WHERE
 
@@ -157,12 +163,7 @@ abbrev pub behind_text : Place → Place
 behind_text BehindHead = BeforeBody
 behind_text place = place
 
--- which texts may stand in a place: none, white space, or any
-pub data TextKind : Type 0 where
-  NoText : TextKind
-  WhiteSpace : TextKind
-  AnyText : TextKind
-
+-- which texts may stand in a place
 abbrev pub text_kind : Place → TextKind
 text_kind BehindHead = WhiteSpace
 text_kind InHead = WhiteSpace

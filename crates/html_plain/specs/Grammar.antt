@@ -6,7 +6,10 @@ use Rattle.std.specs.Str.{bytes_eq}
 use Rattle.markup.specs.Forest.{Forest, children_of}
 use Rattle.markup.specs.Trees.{Trees, Nothing, Text, Comment, ProcessingInstruction, Doctype, Element, trees_of}
 use Rattle.markup.specs.declared.attributes.Attribute.{Attribute}
-use Rattle.html_plain.specs.Elements.{AnyText, NoText, TextKind, WhiteSpace, behind_element, behind_text, element_of, holds, html_name, inside, may_end, spelled, text_kind}
+use Rattle.markup.specs.declared.names.QualName.{QualName}
+use Rattle.html_plain.specs.Elements.{behind_element, behind_text, element_of, holds, html_name, inside, may_end, spelled, text_kind}
+use Rattle.html_plain.specs.declared.place.TextKind.{TextKind}
+use Rattle.html_plain.specs.declared.place.TextKind.TheVariants.{NoText, WhiteSpace, AnyText}
 use Rattle.html_plain.specs.declared.elements.PlainElement.{PlainElement}
 use Rattle.html_plain.specs.declared.place.Place.{Place}
 use Rattle.html_plain.specs.declared.place.Place.TheVariants.{BeforeDoctype, BeforeRoot}
@@ -35,14 +38,22 @@ is_name_character c = is_ascii_lowercase c || is_ascii_digit c || nat_eq c 45
 abbrev pub is_plain_name : List ℕ → Bool
 is_plain_name name = not (is_empty name) && list_all is_name_character name
 
--- an attribute of such a name, without prefix and namespace, and a value of plain characters
+-- a name without prefix and namespace
+abbrev pub is_unprefixed : QualName → Bool
+is_unprefixed name = is_none name.prefix && is_empty name.ns
+
+-- an attribute of such a name, and a value of plain characters
 abbrev pub is_plain_attribute : Attribute → Bool
-is_plain_attribute a = (is_plain_name a.name.local && (is_none a.name.prefix && is_empty a.name.ns)) && list_all is_plain_character a.value
+is_plain_attribute a = is_plain_name a.name.local && is_unprefixed a.name && list_all is_plain_character a.value
+
+-- whether one of the attributes has that local name
+abbrev pub has_local_name : List ℕ → List Attribute → Bool
+has_local_name name attributes = list_any (λ a. bytes_eq name a.name.local) attributes
 
 -- attributes of which no two have one local name
 abbrev pub are_distinct : List Attribute → Bool
 are_distinct [] = true
-are_distinct (a ∷ rest) = not (list_any (λ b. bytes_eq a.name.local b.name.local) rest) && are_distinct rest
+are_distinct (a ∷ rest) = not (has_local_name a.name.local rest) && are_distinct rest
 
 abbrev pub are_plain_attributes : List Attribute → Bool
 are_plain_attributes attributes = list_all is_plain_attribute attributes && are_distinct attributes

@@ -1,10 +1,13 @@
 //! The plain grammar: documents that are read back as they are written.
 #![tactic(auto)]
 
+pub mod attributes;
 pub mod elements;
+mod known_elements;
 pub mod laws;
 pub mod place;
 pub mod rows;
+pub mod texts;
 
 pub use elements::{CellKind, Format, Level, ListKind, PlainElement};
-pub use place::Place;
+pub use place::{Place, TextKind};

@@ -1,4 +1,7 @@
 //! Where the nodes of plain documents stand.
+ghost use Rattle.std.specs.Prelude.{◌≡◌};
+
+use crate::elements::PlainElement;
 
 /// Where a node of a plain document stands among its parent's children.
 #[derive(Clone, Copy, Debug, PartialEq, Eq)]
@@ -40,4 +43,125 @@ pub enum Place {
     InRow,
     /// In `br`: nothing comes.
     InBreak,
+}
+
+/// Which texts may stand in a place.
+#[derive(Clone, Copy, Debug, PartialEq, Eq)]
+pub enum TextKind {
+    /// None.
+    NoText,
+    /// White space.
+    WhiteSpace,
+    /// Any.
+    AnyText,
+}
+
+impl Place {
+    ghost use Rattle.html_plain.specs.Elements.{behind_element, behind_text, holds, inside, may_end, text_kind};
+    ghost use Rattle.html_plain.specs.Grammar.{is_first};
+
+    /// Whether an element may stand here.
+    pub fn holds(self, element: PlainElement) -> bool
+        ensures { result ≡ holds self element }
+    {
+        match self {
+            Place::BeforeRoot => matches!(element, PlainElement::Html),
+            Place::BeforeHead => matches!(element, PlainElement::Head),
+            Place::BehindHead | Place::BeforeBody => matches!(element, PlainElement::Body),
+            Place::InHead => matches!(element, PlainElement::Title),
+            Place::InFlow => element.is_block() || element.is_inline(),
+            Place::InLine(in_link) => {
+                element.is_inline() && !(in_link && matches!(element, PlainElement::Link))
+            }
+            Place::InList => matches!(element, PlainElement::Item),
+            Place::InTable => matches!(element, PlainElement::TableBody),
+            Place::InTableBody => matches!(element, PlainElement::Row),
+            Place::InRow => matches!(element, PlainElement::Cell(_)),
+            _ => false,
+        }
+    }
+
+    /// Where the children of an element stand that stands here.
+    pub fn inside(self, element: PlainElement) -> Place
+        ensures { result ≡ inside self element }
+    {
+        match element {
+            PlainElement::Html => Place::BeforeHead,
+            PlainElement::Head => Place::InHead,
+            PlainElement::Title => Place::InTitle,
+            PlainElement::Paragraph | PlainElement::Heading(_) => Place::InLine(false),
+            PlainElement::Body
+            | PlainElement::Division
+            | PlainElement::Item
+            | PlainElement::Cell(_) => Place::InFlow,
+            PlainElement::List(_) => Place::InList,
+            PlainElement::Table => Place::InTable,
+            PlainElement::TableBody => Place::InTableBody,
+            PlainElement::Row => Place::InRow,
+            PlainElement::Break => Place::InBreak,
+            PlainElement::Formatted(_) => Place::InLine(matches!(self, Place::InLine(true))),
+            PlainElement::Link => Place::InLine(true),
+        }
+    }
+
+    /// Where the next node stands behind an element that stands here.
+    pub fn behind_element(self) -> Place
+        ensures { result ≡ behind_element self }
+    {
+        match self {
+            Place::BeforeRoot => Place::BehindRoot,
+            Place::BeforeHead => Place::BehindHead,
+            Place::BehindHead | Place::BeforeBody => Place::BehindBody,
+            Place::InHead => Place::BehindTitle,
+            place => place,
+        }
+    }
+
+    /// Where the next node stands behind a text that stands here.
+    pub fn behind_text(self) -> Place
+        ensures { result ≡ behind_text self }
+    {
+        match self {
+            Place::BehindHead => Place::BeforeBody,
+            place => place,
+        }
+    }
+
+    /// Which texts may stand here.
+    pub fn text_kind(self) -> TextKind
+        ensures { result ≡ text_kind self }
+    {
+        match self {
+            Place::InTitle | Place::InFlow | Place::InLine(_) => TextKind::AnyText,
+            Place::BehindHead
+            | Place::InHead
+            | Place::BehindTitle
+            | Place::InList
+            | Place::InTable
+            | Place::InTableBody
+            | Place::InRow => TextKind::WhiteSpace,
+            _ => TextKind::NoText,
+        }
+    }
+
+    /// Whether a doctype may stand here.
+    pub fn is_first(self) -> bool
+        ensures { result ≡ is_first self }
+    {
+        matches!(self, Place::BeforeDoctype)
+    }
+
+    /// Whether the children may end here.
+    pub fn may_end(self) -> bool
+        ensures { result ≡ may_end self }
+    {
+        !matches!(
+            self,
+            Place::BeforeDoctype
+                | Place::BeforeRoot
+                | Place::BeforeHead
+                | Place::BehindHead
+                | Place::BeforeBody
+        )
+    }
 }
