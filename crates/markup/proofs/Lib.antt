@@ -14,3 +14,4 @@ pub mod NamespaceNames
 pub mod NameSets
 pub mod RisingTexts
 pub mod PlainTexts
+pub mod WholeTrees
