@@ -164,6 +164,85 @@ fn local_names_are_found_among_few_and_many(rt: HostRuntime) -> Result<(), Fail>
     Ok(())
 }
 
+// `count` attributes in the order of their numbers, or against it; one of them may have a value of its own.
+fn turned(alloc: Global, count: usize, is_turned: bool, other: usize) -> Result<Attributes, Fail> {
+    let mut list = Attributes::new(alloc);
+    for place in 0..count {
+        let number = if is_turned { count - 1 - place } else { place };
+        let local = format!(in alloc; "a{number}")?;
+        let value = if number == other { "y" } else { "x" };
+        list.push(attribute(alloc, local.as_str(), value)?)?;
+    }
+    Ok(list)
+}
+
+#[test]
+fn orders_of_attributes_are_told_apart_from_values(rt: HostRuntime) -> Result<(), Fail> {
+    for count in [0, 1, 2, 16, 17, 40] {
+        let list = numbered(rt.alloc(), count)?;
+        assert!(rt; list.is_permutation(&turned(rt.alloc(), count, true, count)?));
+        assert!(rt; !list.is_permutation(&numbered(rt.alloc(), count + 1)?));
+        if count > 0 {
+            assert!(rt; !list.is_permutation(&turned(rt.alloc(), count, true, 0)?));
+        }
+    }
+    Ok(())
+}
+
+#[test]
+fn repeated_attributes_are_counted(rt: HostRuntime) -> Result<(), Fail> {
+    for count in [1, 20] {
+        let mut first = numbered(rt.alloc(), count)?;
+        let mut second = numbered(rt.alloc(), count)?;
+        first.push(attribute(rt.alloc(), "a0", "x")?)?;
+        second.push(attribute(rt.alloc(), "a0", "y")?)?;
+        assert!(rt; !first.is_permutation(&second));
+        assert!(rt; first.is_permutation(&first.copy(rt.alloc())?));
+    }
+    Ok(())
+}
+
+#[test]
+fn missing_attributes_are_added(rt: HostRuntime) -> Result<(), Fail> {
+    for (has, more, want) in [(0, 0, 0), (0, 3, 3), (3, 5, 5), (20, 5, 20), (5, 40, 40)] {
+        let mut list = numbered(rt.alloc(), has)?;
+        list.add_missing(turned(rt.alloc(), more, false, 0)?)?;
+        assert_eq!(rt; list.len(), want);
+        for number in 0..50 {
+            let local = format!(in rt.alloc(); "a{number}")?;
+            assert_eq!(rt;
+                list.has(&name(rt.alloc(), None, "", local.as_str())?),
+                number < want
+            );
+            assert!(rt; !list.has(&name(rt.alloc(), None, "x", local.as_str())?));
+        }
+        if has > 0 {
+            assert!(rt; list.as_slice()[0].value.is("x"));
+        }
+    }
+    Ok(())
+}
+
+#[test]
+fn prefixes_of_namespaces_are_their_texts(rt: HostRuntime) -> Result<(), Fail> {
+    for (known, want) in [
+        (KnownNamespace::NoNamespace, ""),
+        (KnownNamespace::Html, "html"),
+        (KnownNamespace::MathMl, "mathml"),
+        (KnownNamespace::Svg, "svg"),
+        (KnownNamespace::XLink, "xlink"),
+        (KnownNamespace::Xml, "xml"),
+        (KnownNamespace::Xmlns, "xmlns"),
+    ] {
+        let made = Prefix::from_known(known);
+        assert_eq!(rt; made.as_str(), want);
+        assert_eq!(rt; made.copy(rt.alloc())?.as_str(), want);
+        assert!(rt; made == prefix(rt.alloc(), want)?);
+        assert_eq!(rt; made.cmp(&prefix(rt.alloc(), want)?), Ordering::Equal);
+    }
+    Ok(())
+}
+
 #[test]
 fn texts_are_tested(rt: HostRuntime) -> Result<(), Fail> {
     let cases = [

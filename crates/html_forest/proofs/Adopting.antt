@@ -15,9 +15,6 @@ pub record IsAdopting (old : List Node) (first : Option ℕ) (parent : ℕ) (now
   pub abouts : abouts_of now ≡ abouts_of old
   pub len : length now ≡ length old
 
-pub IsAdopting-start : (old : List Node) (first : Option ℕ) (parent : ℕ) → IsWalk old first → IsAdopting old first parent old first
-IsAdopting-start old first parent walk = record { done = []; all = refl; walk = walk; links = λ n. refl; abouts = refl; len = refl }
-
 adopted-more : (parent c : ℕ) (done : List ℕ) (n : ℕ) (l : Links) → adopted parent (done ++ c ∷ []) n l ≡ cond (n == c) (record l { parent = Some parent }) (adopted parent done n l)
 adopted-more parent c [] n l = elim (cases_Bool (n == c)) [ inl same ↦ rw same refl | inr other ↦ rw other refl ]
 adopted-more parent c (d ∷ done) n l =

@@ -40,10 +40,6 @@ about_in f n = (data_of f n, contents_of f n)
 pub about_in-same : (f g : Forest) (n : ℕ) → data_of g n ≡ data_of f n → about_in g n ≡ about_in f n
 about_in-same f g n same = rw same refl
 
--- past the end of a forest nothing is, and has no links
-links_at-past : (f : Forest) → IsForest f → (n : ℕ) → node_count f ≤ n → links_at f n ≡ no_links
-links_at-past f is n past = rw (parent_of-past f is n past, children_of-past f n past) refl
-
 about_in-past : (f : Forest) (n : ℕ) → node_count f ≤ n → about_in f n ≡ no_about
 about_in-past f n past = rw (data_of-past f n past) refl
 
@@ -109,9 +105,6 @@ IsKept-with_template f ss ls name attributes point k named = record {
 
 -- a node is put at a place
 
-abbrev IsMovedAll : (ℕ → Links → Links) → List Links → List Links → Type 0
-IsMovedAll change ls new = (n : ℕ) → link_at new n ≡ change n (link_at ls n)
-
 not_own_parent : (f : Forest) (p c : ℕ) → IsLoose f p c → c ≢ p
 not_own_parent f p c loose same = let itself : Above f c c = here in loose.not_above (subst (λ (n : ℕ). Above f c n) same itself)
 
@@ -151,19 +144,6 @@ IsKept-put f ss ls new place c k at loose long links = record {
       lists = is_put.lists;
       apart = not_own_parent f (parent_at place) c loose;
     }
-
--- a new node at a place
-pub IsKept-put_new : (f : Forest) (ss : List About) (ls new : List Links) (place : Place) (about : NodeData) → IsKept f ss ls → IsPlace f place → IsOrdinary about → length new ≡ length (ls ++ no_links ∷ [])
-    → ((n : ℕ) → link_at new n ≡ placed (parent_at place) (previous_at f place) (next_in place) (node_count f) n (link_at (ls ++ no_links ∷ []) n)) → IsKept (put_new f place about) (ss ++ (about, None) ∷ []) new
-IsKept-put_new f ss ls new place about k at plain long links =
-    IsKept-put (with_node f about) (ss ++ (about, None) ∷ []) (ls ++ no_links ∷ []) new place (node_count f) (IsKept-with_node f ss ls about k plain)
-    (IsPlace-with_node f place about k.is_forest plain.contents at)
-    (made.loose (parent_at place) (IsParent-place f place k.is_forest at).there)
-    long
-    (λ n. rw (children_of-with_node f about (parent_at place)) (links n))
-  where
-    made : IsMade f (with_node f about) about
-    made = IsMade-with_node f about k.is_forest plain.contents
 
 -- a node is taken out of its parent
 pub IsKept-removed : (f : Forest) (ss : List About) (ls new : List Links) (c p : ℕ) → IsKept f ss ls → parent_of f c ≡ Some p → length new ≡ length ls

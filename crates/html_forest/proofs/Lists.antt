@@ -15,9 +15,6 @@ map-set_unseen f xs i x y read same =
 pub length-links_of : (nodes : List Node) → length (links_of nodes) ≡ length nodes
 length-links_of nodes = simp length-map
 
-pub length-abouts_of : (nodes : List Node) → length (abouts_of nodes) ≡ length nodes
-length-abouts_of nodes = simp length-map
-
 -- the links of n, after a write at one place
 pub link_at-set : (ls : List Links) (at : ℕ) (l : Links) (n : ℕ) → at < length ls → link_at (set ls at l) n ≡ cond (n == at) l (link_at ls n)
 link_at-set ls at l n there =

@@ -418,7 +418,7 @@ impl TreeSink for Forest {
         target: &NodeId,
         attributes: Attributes,
     ) -> Result<(), ParseFault> {
-        add_attributes(self.alloc, &mut self.nodes, *target, attributes)
+        add_attributes(&mut self.nodes, *target, attributes)
     }
 
     fn remove_from_parent(&mut self, target: &NodeId) {

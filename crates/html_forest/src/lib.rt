@@ -4,7 +4,6 @@
 mod children;
 mod forest;
 mod link;
-mod merge;
 mod node;
 mod nodes;
 

@@ -7,7 +7,6 @@ ghost use Rattle.html_forest.specs.Links.{adopted, before_set, behind_set, empti
 ghost use Rattle.html_forest.specs.Views.{about_at, about_of, about_with, abouts_of, joined_abouts, links_of, walk_from, IsWalk};
 
 use crate::link::{Link, Links};
-use crate::merge::merge;
 use crate::node::{Node, NodeData, NodeId};
 use markup::{Attributes, ParseFault, Text};
 use std::alloc::Global;
@@ -187,7 +186,6 @@ pub fn join_text(nodes: &mut Vec<Node>, at: NodeId, more: &Text) -> Result<bool,
 
 /// Gives an element, in order, those of the attributes whose name it lacks.
 pub fn add_attributes(
-    alloc: Global,
     nodes: &mut Vec<Node>,
     at: NodeId,
     others: Attributes,
@@ -202,7 +200,7 @@ pub fn add_attributes(
     let node = &mut nodes[at.number()];
     match &mut node.about {
         NodeData::Element { attrs, .. } => {
-            merge(alloc, attrs, others)?;
+            attrs.add_missing(others)?;
             Ok(())
         }
         _ => Ok(()),

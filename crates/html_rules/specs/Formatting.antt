@@ -1,7 +1,7 @@
 -- The list of active formatting elements (HTML Standard, section 13.2.4.3). The newest entry is first.
 use Rattle.std.specs.Prelude.{ℕ, suc, Bool, true, false, ◌||◌, ◌&&◌, nat_eq, nat_le, length, List, [], ◌∷◌, Option, Some, None}
 use Rattle.std.specs.Str.{bytes_eq}
-use Rattle.html_tokens.specs.TagEquality.{have_same_counts}
+use Rattle.markup.specs.Attributes.{have_same_counts}
 use Rattle.html_tokens.specs.declared.tags.Tag.{Tag}
 use Rattle.html_tokens.specs.declared.tags.TagKind.{TagKind}
 use Rattle.html_tokens.specs.declared.tags.TagKind.TheVariants.{StartTag, EndTag}

@@ -15,9 +15,6 @@ use Rattle.std.specs.List.{list_any}
 white-more : (c : ℕ) (t : List ℕ) → is_white_space c ≡ true → white (c ∷ t) ≡ suc (white t)
 white-more c t e = rw e refl
 
-white-none : (c : ℕ) (t : List ℕ) → is_white_space c ≡ false → white (c ∷ t) ≡ 0
-white-none c t e = rw e refl
-
 -- where an attribute's name ends
 pub name-ends : (rows : List Row) (st : Stand) (tag : Tag) (front : List ℕ) (c : ℕ) (t : List ℕ) → ends_attribute_name c ≡ true → attribute_after rows st tag front (c ∷ t) ≡ equals_at rows st tag front (c ∷ t)
 name-ends rows st tag front c t e = rw e (ap (λ name. equals_at rows st tag name (c ∷ t)) (append-nil front))

@@ -86,14 +86,6 @@ nothing-begun asks cs c part whole h =
       cdata = λ t. and_none asks _ (word-stops word.Cdata cs c t part whole.cdata p.1);
     }
 
--- "[CDATA[" where it opens no section
-pub nothing-asked : (asks : Bool) (cs : List ℕ) (c : ℕ) → becomes word.Cdata (cs ++ c ∷ []) ≡ true → asks ≡ false → OpensNothing asks cs c
-nothing-asked asks cs c h e = record {
-  dashes = λ t. ap (begins (codes "--")) (sym (append_assoc cs (c ∷ []) t)) ∙ word-apart word.Cdata word.Dashes (cs ++ c ∷ []) t refl h;
-  doctype = λ t. ap (begins_any_case (codes "doctype")) (sym (append_assoc cs (c ∷ []) t)) ∙ word-apart word.Cdata word.Doctype (cs ++ c ∷ []) t refl h;
-  cdata = λ t. ap (λ a. a && begins (codes "[CDATA[") (cs ++ c ∷ t)) e;
-}
-
 -- c goes on in a word
 pub part-more : (cs : List ℕ) (c : ℕ) → may_declare cs c ≡ true → IsPart (cs ++ c ∷ [])
 part-more cs c h = by-word (may_become word.Dashes (cs ++ c ∷ [])) (may_become word.Doctype (cs ++ c ∷ [])) (may_become word.Cdata (cs ++ c ∷ [])) refl refl refl h

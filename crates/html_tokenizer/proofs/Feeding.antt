@@ -114,13 +114,6 @@ module _ {K H : Type 0} (Sink : Ghosts K H) where
     exact = m.exact ∙ h.exact;
   }
 
-  -- fewer characters are left
-  pub going-less : (mid new : Tokenizer K) (via to : Queue) → Moved Sink mid new via to flow.Continue → length to.characters < length via.characters
-  going-less mid new via to m =
-      let sizes : length via.characters ≡ length m.taken + length to.characters = ap length m.takes.split ∙ length-append m.taken to.characters in
-      let some : 0 < length m.taken = m.left in
-      omega arith
-
   -- the call ends where a step ends so
   fed : (old mid new : Tokenizer K) (from via to : Queue) (result : ProcessResult H) (given : TokenizerResult H) (h : Going old mid from via) (m : Moved Sink mid new via to result)
       → ((pauses : List Reply) → paused_by Sink.number pauses result ≡ paused_with Sink.number pauses given) → Rests Sink given new (h.taken ++ m.taken) to → Fed Sink old new from to given
@@ -256,9 +249,3 @@ module _ {K H : Type 0} (Sink : Ghosts K H) where
   not-taken old new run fault result h is =
       let p = err_from_is_err_and result is in
       rw (p.1, p.2) h
-
-  -- The next piece could not be had for want of memory.
-  pub not-moved : (old new : Tokenizer K) (from to : Queue) (fault : ParseFault) (result : Result (ProcessResult H) ParseFault) → fault ≡ Memory → IsErrAnd result (λ y. y ≡ fault) → Moves Sink old new from to result
-  not-moved old new from to fault result e is =
-      let p = err_from_is_err_and result is in
-      rw (p.1, p.2 ∙ e) (λ notes t. tt)

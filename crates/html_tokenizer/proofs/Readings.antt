@@ -17,9 +17,6 @@ use Rattle.html_tokenizer.proofs.Lawful.{Lawful}
 sum-first : (b x y : ℕ) → b + (x + y) ≡ (b + x) + y
 sum-first b x y = omega arith
 
-sum-one : (b x : ℕ) → b + (x + 0) ≡ b + x
-sum-one b x = omega arith
-
 pub sum-zero : (b : ℕ) → b + 0 ≡ b
 sum-zero b = omega arith
 
@@ -91,14 +88,6 @@ module _ {T : Type 0} (step : NotedStep T) (erred : Fault → T → T) (cdata : 
   -- an item with a fault absorbs what is slight before it
   pub play-absorbs : (i : Item) (b : ℕ) (s : T) (t : List ℕ) → is_some i.fault ≡ true → play step erred cdata ends rows i b s t ≡ play step erred cdata ends rows i b (erred Slight s) t
   play-absorbs i b s t h = ap (λ i. play step erred cdata ends rows i b s t) (marked-again i h) ∙ play-marked true i b s t
-
-  -- so does a reading that begins with it, where the sink's answer to the CDATA question is as before
-  pub reading-absorbs : (st : Stand) (b : ℕ) (s : T) (c : ℕ) (t : List ℕ) → cdata (erred Slight s) ≡ cdata s → is_some (item rows (cdata s) st c t).fault ≡ true → reading step erred cdata ends rows st b s (c ∷ t) ≡ reading step erred cdata ends rows st b (erred Slight s) (c ∷ t)
-  reading-absorbs st b s c t same h =
-      reading-item step erred cdata ends rows st b s c t
-      ∙ play-absorbs (item rows (cdata s) st c t) b s (c ∷ t) h
-      ∙ ap (λ x. play step erred cdata ends rows (item rows x st c t) b (erred Slight s) (c ∷ t)) (sym same)
-      ∙ sym (reading-item step erred cdata ends rows st b (erred Slight s) c t)
 
 module _ {T : Type 0} (sound : T → Type 0) (step : NotedStep T) (erred : Fault → T → T) (cdata : T → Bool) (ends : T → T) (rows : List Row) (laws : Lawful sound step) where
   stays : (st : Stand) (b : ℕ) (r : Result (T × Reply) (Refusal × ℕ)) (t : List ℕ) → IfOk r (λ p. p.1 ≡ Continue)

@@ -75,15 +75,6 @@ more-more a b notes =
 pub heard-more : (quiet : Bool) (owed : Owed) (notes : Notes ℕ) → heard quiet (more owed notes) ≡ more (and_heard quiet owed) notes
 heard-more quiet owed notes = ap (λ q. record (more owed notes) { is_quiet = q }) (and-between owed.is_quiet notes.is_quiet quiet)
 
--- a fault is owed
-pub wronged-more : (fault : Fault) (notes : Notes ℕ) → wronged fault notes ≡ more (owed_for (Some fault)) notes
-wronged-more Grave notes = refl
-wronged-more Slight notes = refl
-
--- what is heard as quiet owes nothing more
-pub hearing-quiet : (owed : Owed) → and_heard true owed ≡ owed
-hearing-quiet owed = ap (λ q. record owed { is_quiet = q }) (and-true owed.is_quiet)
-
 -- One says no more than another of what errors rose by: it counts no more faults, and is quiet only where the other is.
 pub record IsNoMore (less greater : Owed) : Type 0 where
   pub faults : less.faults ≤ greater.faults
@@ -195,10 +186,6 @@ module _ {K : Type 0} (errors : K → ℕ) where
   pub rises-slight : (odd : Bool) (a b : K) → b ≡ a → Rises errors (owed_for (slight_if odd)) a b
   rises-slight true a b h = record { enough = not-lowered (errors a) (errors b) (not-less (errors a) (errors b) (ap errors h)); stays = λ e. ap errors h }
   rises-slight false a b h = rises-same a b h
-
-  -- one error was told
-  pub rises-one : (a b : K) → errors b ≡ one_more (errors a) → Rises errors (owed_for (Some Grave)) a b
-  rises-one a b h = record { enough = one (errors a) (errors b) h; stays = λ e. absurd cc }
 
   -- a token that is no error was told
   pub rises-own : (quiet : Bool) (a b : K) → CountsOwn quiet (errors a) (errors b) → Rises errors (and_heard quiet nothing_owed) a b

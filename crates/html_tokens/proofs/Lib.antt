@@ -4,7 +4,6 @@ pub mod Lengths
 pub mod ListingLaws
 pub mod NewlineLaws
 pub mod NotedReadings
-pub mod Permutations
 pub mod Readings
 pub mod ReferenceNames
 pub mod SinkTexts

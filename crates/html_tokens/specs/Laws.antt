@@ -2,6 +2,7 @@
 use Rattle.std.specs.Prelude.{◌≡◌, ℕ, ◌+◌, ◌≤◌, Bool, nat_eq, List, [], ◌∷◌, ◌++◌, length, drop, codes, Option, Some, Result, IfOk, IfSome, false, true, not, ◌&&◌}
 use Rattle.std.specs.List.{list_all, list_any}
 use Rattle.std.specs.Str.{bytes_eq}
+pub use Rattle.markup.specs.Attributes.{are_distinct}
 use Rattle.markup.specs.declared.attributes.Attribute.{Attribute}
 use Rattle.html_tokens.specs.declared.tags.Tag.{Tag}
 use Rattle.html_tokens.specs.Characters.{lowered}
@@ -114,11 +115,6 @@ has_no_null cs = list_all is_not_null cs
 abbrev pub is_lowered_name : List ℕ → Bool
 is_lowered_name [] = false
 is_lowered_name (c ∷ cs) = list_all (λ d. nat_eq (lowered d) d) (c ∷ cs)
-
--- attributes of which no two have one name
-abbrev pub are_distinct : List Attribute → Bool
-are_distinct [] = true
-are_distinct (a ∷ rest) = not (list_any (λ b. bytes_eq a.name.local b.name.local) rest) && are_distinct rest
 
 -- what holds of each token that a reading tells
 abbrev pub IsSoundToken : Token → Type 0

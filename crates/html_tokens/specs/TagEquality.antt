@@ -1,9 +1,7 @@
 -- Tags that differ at most in the order of their attributes, and the value of an attribute.
-use Rattle.std.specs.Prelude.{◌≡◌, ℕ, List, find, IsPermutation, count_by, Option, Bool, nat_eq}
-use Rattle.std.specs.List.{list_all}
+use Rattle.std.specs.Prelude.{◌≡◌, ℕ, List, find, IsPermutation, Option}
 use Rattle.std.specs.Option.{option_map}
 use Rattle.std.specs.Str.{bytes_eq}
-use Rattle.markup.specs.Equality.{attribute_eq}
 use Rattle.markup.specs.declared.attributes.Attribute.{Attribute}
 use Rattle.html_tokens.specs.declared.tags.Tag.{Tag}
 
@@ -12,14 +10,6 @@ pub record IsEquivModuloAttrOrder (a b : Tag) : Type 0 where
   pub kind : a.kind ≡ b.kind
   pub name : a.name ≡ b.name
   pub attrs : IsPermutation a.attrs b.attrs
-
--- how often an attribute is in a list
-abbrev pub count_of : Attribute → List Attribute → ℕ
-count_of a list = count_by (attribute_eq a) list
-
--- whether each attribute of the first list is as often in the second
-abbrev pub have_same_counts : List Attribute → List Attribute → Bool
-have_same_counts first second = list_all (λ a. nat_eq (count_of a first) (count_of a second)) first
 
 -- the value of the first attribute with this local name
 abbrev pub value_of : List ℕ → List Attribute → Option (List ℕ)

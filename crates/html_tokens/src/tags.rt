@@ -1,9 +1,9 @@
 //! Tags (HTML Standard, section 13.2.5).
-ghost use Rattle.std.specs.Prelude.{◌≡◌, ◌↔◌, IfOk, IfErr, IsTrue, IsPermutation};
-ghost use Rattle.html_tokens.specs.TagEquality.{IsEquivModuloAttrOrder, count_of, have_same_counts, value_of};
+ghost use Rattle.std.specs.Prelude.{◌≡◌, ◌↔◌, IfOk, IfErr, IsTrue};
+ghost use Rattle.html_tokens.specs.TagEquality.{IsEquivModuloAttrOrder, value_of};
 ghost use Rattle.markup.specs.declared.fault.ParseFault.TheVariants.{Memory};
 
-use markup::{Attribute, Attributes, LocalName, ParseFault, Text};
+use markup::{Attributes, LocalName, ParseFault, Text};
 use std::alloc::Global;
 
 /// Whether a tag opens or closes an element.
@@ -52,7 +52,7 @@ impl Tag {
     {
         self.kind == other.kind
             && self.name == other.name
-            && is_permutation(self.attrs.as_slice(), other.attrs.as_slice())
+            && self.attrs.is_permutation(&other.attrs)
     }
 
     /// The value of the first attribute with this local name, in any namespace.
@@ -70,28 +70,4 @@ impl Tag {
             Some(attribute) => Ok(Some(attribute.value.copy(alloc)?)),
         }
     }
-}
-
-// How often an attribute is in a list.
-fn count(attributes: &[Attribute], attribute: &Attribute) -> usize
-    ensures { result ≡ count_of attribute.now attributes.now }
-{
-    attributes
-        .iter()
-        .filter(|other| attribute == *other)
-        .count()
-}
-
-// Whether each attribute of the first list is as often in the second.
-fn has_same_counts(first: &[Attribute], second: &[Attribute]) -> bool
-    ensures { result ≡ have_same_counts first.now second.now }
-{
-    first.iter().all(|attribute| count(first, attribute) == count(second, attribute))
-}
-
-// Whether two lists are the same in some order. Tags have few attributes, so each is counted.
-fn is_permutation(first: &[Attribute], second: &[Attribute]) -> bool
-    ensures { IsTrue result ↔ IsPermutation first.now second.now }
-{
-    first.len() == second.len() && has_same_counts(first, second)
 }

@@ -11,7 +11,9 @@ pub mod Trees
 pub mod ErrorsApart
 pub mod TextPieces
 pub mod NamespaceNames
-pub mod NameSets
+pub mod AttributeIndex
+pub mod DistinctNames
+pub mod Permutations
 pub mod RisingTexts
 pub mod PlainTexts
 pub mod WholeTrees

@@ -4,7 +4,7 @@ use Rattle.std.specs.Str.{chars}
 use Rattle.markup.specs.declared.namespaces.KnownNamespace.{KnownNamespace}
 use Rattle.markup.specs.declared.namespaces.KnownNamespace.TheVariants.{NoNamespace, Html, MathMl, Svg, XLink, Xml, Xmlns}
 use Rattle.markup.specs.Names.{html_namespace}
-use Rattle.markup.specs.Namespaces.{name_of}
+use Rattle.markup.specs.Namespaces.{name_of, prefix_of}
 use Rattle.markup.proofs.Plain.{chars-plain}
 
 pub chars-name_of : (known : KnownNamespace) → chars (name_of known) ≡ name_of known
@@ -20,3 +20,13 @@ chars-name_of Xmlns = chars-plain (name_of Xmlns) refl
 pub html-name_of : name_of Html ≡ html_namespace
 unfolding name_of html_namespace
 html-name_of = refl
+
+pub chars-prefix_of : (known : KnownNamespace) → chars (prefix_of known) ≡ prefix_of known
+unfolding prefix_of
+chars-prefix_of NoNamespace = chars-plain (prefix_of NoNamespace) refl
+chars-prefix_of Html = chars-plain (prefix_of Html) refl
+chars-prefix_of MathMl = chars-plain (prefix_of MathMl) refl
+chars-prefix_of Svg = chars-plain (prefix_of Svg) refl
+chars-prefix_of XLink = chars-plain (prefix_of XLink) refl
+chars-prefix_of Xml = chars-plain (prefix_of Xml) refl
+chars-prefix_of Xmlns = chars-plain (prefix_of Xmlns) refl

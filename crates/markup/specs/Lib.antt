@@ -6,7 +6,8 @@ pub mod Named
 pub mod TreeLaws
 pub mod TextForm
 pub mod Namespaces
-pub mod LocalNames
+pub mod Attributes
+pub mod AttributeIndex
 pub mod KnownNames
 pub mod Escape
 pub mod Trees

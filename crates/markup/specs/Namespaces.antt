@@ -6,8 +6,8 @@ use Rattle.std.specs.String.{string_bytes}
 use Rattle.std.proofs.lemmas.Slice.Eq.{bytes_eq-Decides}
 use Rattle.markup.specs.declared.namespaces.KnownNamespace.{KnownNamespace}
 use Rattle.markup.specs.declared.namespaces.KnownNamespace.TheVariants.{NoNamespace, Html, MathMl, Svg, XLink, Xml, Xmlns}
-use Rattle.markup.specs.declared.namespaces.NamespaceForm.{NamespaceForm}
-use Rattle.markup.specs.declared.namespaces.NamespaceForm.TheVariants.{Known, Other}
+use Rattle.markup.specs.declared.namespaces.KnownForm.{KnownForm}
+use Rattle.markup.specs.declared.namespaces.KnownForm.TheVariants.{Known, Other}
 
 -- the name of a known namespace
 unfoldable pub name_of : KnownNamespace → List ℕ
@@ -19,6 +19,16 @@ name_of XLink = codes "http://www.w3.org/1999/xlink"
 name_of Xml = codes "http://www.w3.org/XML/1998/namespace"
 name_of Xmlns = codes "http://www.w3.org/2000/xmlns/"
 
+-- the usual prefix of a known namespace
+unfoldable pub prefix_of : KnownNamespace → List ℕ
+prefix_of NoNamespace = []
+prefix_of Html = codes "html"
+prefix_of MathMl = codes "mathml"
+prefix_of Svg = codes "svg"
+prefix_of XLink = codes "xlink"
+prefix_of Xml = codes "xml"
+prefix_of Xmlns = codes "xmlns"
+
 -- a namespace where a name is its name, else what another test gives
 abbrev pub if_named : List ℕ → KnownNamespace → Option KnownNamespace → Option KnownNamespace
 if_named name known other = cond (bytes_eq name (name_of known)) (Some known) other
@@ -29,16 +39,21 @@ known_namespace name =
     if_named name Html (if_named name NoNamespace (if_named name Svg (if_named name MathMl (if_named name XLink (if_named name Xml (if_named name Xmlns None))))))
 
 -- the name of a namespace as it is held
-abbrev pub form_name : NamespaceForm → List ℕ
+abbrev pub form_name : KnownForm → List ℕ
 form_name (Known known) = name_of known
 form_name (Other name) = chars (string_bytes name)
 
-abbrev pub form_known : NamespaceForm → Option KnownNamespace
+-- a prefix as it is held
+abbrev pub form_prefix : KnownForm → List ℕ
+form_prefix (Known known) = prefix_of known
+form_prefix (Other prefix) = chars (string_bytes prefix)
+
+abbrev pub form_known : KnownForm → Option KnownNamespace
 form_known (Known known) = Some known
 form_known (Other name) = None
 
 -- a known namespace is held as such
-abbrev pub IsCanonical : NamespaceForm → Type 0
+abbrev pub IsCanonical : KnownForm → Type 0
 IsCanonical form = form_known form ≡ known_namespace (form_name form)
 
 -- the name of a known namespace is known as its name

@@ -1,13 +1,18 @@
 //! The attributes of elements and tags.
-ghost use Rattle.std.specs.Prelude.{◌≡◌, ◌==◌, ◌++◌, ◌∷◌, [], length, IfOk, IfErr, OnOk, OnErr};
+ghost use Rattle.std.specs.Prelude.{◌≡◌, ◌==◌, ◌++◌, ◌∷◌, ◌+◌, ◌≤◌, [], length, vec_len, IfOk, IfErr, OnOk, OnErr, true};
+ghost use Rattle.std.specs.List.{list_all, list_any};
+ghost use Rattle.std.specs.Vec.{vec_capacity};
+ghost use Rattle.markup.specs.AttributeIndex.{FitsIndex};
+ghost use Rattle.markup.specs.Attributes.{are_distinct, count_of, have_same_counts};
+ghost use Rattle.markup.specs.Equality.{attribute_eq};
+ghost use Rattle.markup.specs.Forest.{with_missing};
 ghost use Rattle.markup.specs.declared.fault.ParseFault.TheVariants.{Memory};
 
+use crate::attribute_index::{self, AttributeIndex};
 use crate::fault::ParseFault;
-use crate::local_names;
 use crate::names::{LocalName, QualName};
 use crate::text::Text;
 use std::alloc::Global;
-use std::collections::BTreeSet;
 use std::marker::Model;
 
 /// A name with its value.
@@ -36,7 +41,8 @@ impl Attribute {
 #[derive(Debug, Drop)]
 pub struct Attributes {
     list: Vec<Attribute>,
-    names: Option<BTreeSet<Text>>,
+    // Where they are, once there are many.
+    index: Option<AttributeIndex>,
 }
 
 impl Model for Attributes {
@@ -45,15 +51,17 @@ impl Model for Attributes {
 
     ghost Value = { List Attribute };
 
-    ghost use Rattle.markup.specs.LocalNames.{FitsNames};
+    ghost use Rattle.markup.specs.AttributeIndex.{FitsIndex};
 
     ghost view = { λ a. a.list.items };
 
-    ghost invariant = { λ a. FitsNames a.names a.list.items };
+    ghost invariant = { λ a. FitsIndex a.index a.list.items };
 }
 
 impl Attributes {
-    ghost use Rattle.markup.specs.LocalNames.{has_local_name};
+    ghost use Rattle.std.specs.Prelude.{IsTrue, IsPermutation, ◌↔◌};
+    ghost use Rattle.markup.specs.Attributes.{has_local_name};
+    ghost use Rattle.markup.specs.Names.{has_attribute};
 
     /// No attributes. The list grows in the memory of `alloc`.
     pub fn new(alloc: Global) -> Attributes
@@ -61,7 +69,7 @@ impl Attributes {
     {
         Attributes {
             list: Vec::new(alloc),
-            names: None,
+            index: None,
         }
     }
 
@@ -69,14 +77,14 @@ impl Attributes {
     pub fn from_vec(list: Vec<Attribute>) -> Attributes
         ensures { result ≡ list.items }
     {
-        Attributes { list, names: None }
+        Attributes { list, index: None }
     }
 
     /// Gives the vector back, with its memory.
     pub fn into_vec(self) -> Vec<Attribute>
         ensures { result.items ≡ self }
     {
-        let Attributes { list, names: _ } = self;
+        let Attributes { list, index: _ } = self;
         list
     }
 
@@ -107,10 +115,8 @@ impl Attributes {
         ensures err { OnErr result (self.new ≡ self.old) }
         ensures fault { IfErr result (λ fault. fault ≡ Memory) }
     {
-        let alloc = *self.list.allocator();
-        let names = local_names::with(self.names.take(), alloc, attribute.name.local.as_text());
-        self.list.push(attribute)?;
-        self.names = local_names::of(names, alloc, self.list.as_slice());
+        self.list.reserve(1)?;
+        self.index = put_last(&mut self.list, self.index.take(), attribute);
         Ok(())
     }
 
@@ -118,7 +124,61 @@ impl Attributes {
     pub fn has_local_name(&self, name: &LocalName) -> bool
         ensures { result ≡ has_local_name name.now self.now }
     {
-        local_names::has(&self.names, self.list.as_slice(), name)
+        attribute_index::has_local_name(&self.index, self.list.as_slice(), name)
+    }
+
+    /// Whether an attribute has this name, its prefix and namespace included.
+    pub fn has(&self, name: &QualName) -> bool
+        ensures { result ≡ has_attribute name.now self.now }
+    {
+        attribute_index::has(&self.index, self.list.as_slice(), name)
+    }
+
+    /// Adds, in order, those of others whose name is missing.
+    pub fn add_missing(&mut self, others: Attributes) -> Result<(), ParseFault>
+        ensures ok { OnOk result (self.new ≡ with_missing self.old others) }
+        ensures err { OnErr result (self.new ≡ self.old) }
+        ensures fault { IfErr result (λ fault. fault ≡ Memory) }
+    {
+        let others = others.into_vec();
+        self.list.reserve(others.len())?;
+        self.index = put_missing(&mut self.list, self.index.take(), others);
+        Ok(())
+    }
+
+    /// Whether two lists are the same in some order.
+    pub fn is_permutation(&self, other: &Attributes) -> bool
+        ensures { IsTrue result ↔ IsPermutation self.now other.now }
+    {
+        self.len() == other.len() && self.has_same_counts(other)
+    }
+
+    // Whether each attribute is as often in the other list, which is as long.
+    fn has_same_counts(&self, other: &Attributes) -> bool
+        ensures { result ≡ have_same_counts self.now other.now }
+    {
+        if self.are_known_distinct() && other.are_known_distinct() {
+            are_all_in(self.as_slice(), other)
+        } else {
+            has_same_counts(self.as_slice(), other.as_slice())
+        }
+    }
+
+    // Whether an index says that no local name comes twice.
+    fn are_known_distinct(&self) -> bool
+        ensures { IsTrue result → are_distinct self.now ≡ true }
+    {
+        match &self.index {
+            Some(index) => index.are_distinct,
+            None => false,
+        }
+    }
+
+    // Whether an attribute is in the list.
+    fn contains(&self, attribute: &Attribute) -> bool
+        ensures { result ≡ list_any (attribute_eq attribute.now) self.now }
+    {
+        attribute_index::contains(&self.index, self.list.as_slice(), attribute)
     }
 
     /// A list of its own with the same attributes.
@@ -132,6 +192,72 @@ impl Attributes {
         }
         Ok(copied)
     }
+}
+
+// Puts an attribute behind others, which have room for it.
+fn put_last(
+    list: &mut Vec<Attribute>,
+    index: Option<AttributeIndex>,
+    attribute: Attribute,
+) -> Option<AttributeIndex>
+    requires room { vec_len list.old + 1 ≤ vec_capacity list.old }
+    requires fits { FitsIndex index list.old.items }
+    ensures last { list.new.items ≡ list.old.items ++ attribute ∷ [] }
+    ensures room { vec_capacity list.new ≡ vec_capacity list.old }
+    ensures fits { FitsIndex result list.new.items }
+{
+    let alloc = *list.allocator();
+    let index = attribute_index::with(
+        index,
+        alloc,
+        attribute.name.local.as_text(),
+        list.as_slice().len(),
+    );
+    list.push_reserved(attribute);
+    attribute_index::of(index, alloc, list.as_slice())
+}
+
+// Puts behind attributes, in order, those of others whose name they lack. There is room for all of them.
+fn put_missing(
+    list: &mut Vec<Attribute>,
+    mut index: Option<AttributeIndex>,
+    others: Vec<Attribute>,
+) -> Option<AttributeIndex>
+    requires room { vec_len list.old + vec_len others ≤ vec_capacity list.old }
+    requires fits { FitsIndex index list.old.items }
+    ensures missing { list.new.items ≡ with_missing list.old.items others.items }
+    ensures fits { FitsIndex result list.new.items }
+{
+    for attribute in others {
+        if !attribute_index::has(&index, list.as_slice(), &attribute.name) {
+            index = put_last(list, index, attribute);
+        }
+    }
+    index
+}
+
+// Whether each attribute is in the other list.
+fn are_all_in(attributes: &[Attribute], other: &Attributes) -> bool
+    ensures { result ≡ list_all (λ attribute. list_any (attribute_eq attribute) other.now) attributes.now }
+{
+    attributes.iter().all(|attribute| other.contains(attribute))
+}
+
+// How often an attribute is in a list.
+fn count(attributes: &[Attribute], attribute: &Attribute) -> usize
+    ensures { result ≡ count_of attribute.now attributes.now }
+{
+    attributes
+        .iter()
+        .filter(|other| attribute == *other)
+        .count()
+}
+
+// Whether each attribute of the first list is as often in the second, each counted.
+fn has_same_counts(first: &[Attribute], second: &[Attribute]) -> bool
+    ensures { result ≡ have_same_counts first.now second.now }
+{
+    first.iter().all(|attribute| count(first, attribute) == count(second, attribute))
 }
 
 impl PartialEq for Attributes {

@@ -1,6 +1,7 @@
 //! The names, texts and attributes of marked-up documents, which every other crate speaks of, and the interface of who builds their tree.
 #![tactic(auto)]
 
+mod attribute_index;
 pub mod attributes;
 mod characters;
 pub mod fault;
@@ -8,7 +9,6 @@ pub mod flags;
 pub mod html_names;
 pub mod known_names;
 pub mod laws;
-mod local_names;
 pub mod names;
 pub mod namespaces;
 pub mod node_or_text;

@@ -8,7 +8,7 @@ ghost use Rattle.markup.specs.declared.fault.ParseFault.TheVariants.{Memory};
 use crate::characters;
 use crate::fault::ParseFault;
 use crate::known_names::{self, KnownName};
-use crate::namespaces::{self, KnownNamespace, NamespaceForm};
+use crate::namespaces::{self, KnownForm, KnownNamespace};
 use crate::text::Text;
 use std::alloc::Global;
 use std::cmp::Ordering;
@@ -126,7 +126,7 @@ impl LocalName {
 /// The name of a namespace, as `http://www.w3.org/1999/xhtml`; the empty text where there is none. A contract sees the list of its characters.
 #[derive(Debug, Drop)]
 pub struct Namespace {
-    form: NamespaceForm,
+    form: KnownForm,
 }
 
 impl Model for Namespace {
@@ -151,7 +151,7 @@ impl Namespace {
         match namespaces::known(text.as_str()) {
             Some(known) => Namespace::from_known(known),
             None => Namespace {
-                form: NamespaceForm::Other(text),
+                form: KnownForm::Other(text),
             },
         }
     }
@@ -161,7 +161,7 @@ impl Namespace {
         ensures { result ≡ name_of known }
     {
         Namespace {
-            form: NamespaceForm::Known(known),
+            form: KnownForm::Known(known),
         }
     }
 
@@ -178,8 +178,8 @@ impl Namespace {
         ensures { result ≡ known_namespace self.now }
     {
         match &self.form {
-            NamespaceForm::Known(known) => Some(*known),
-            NamespaceForm::Other(_) => None,
+            KnownForm::Known(known) => Some(*known),
+            KnownForm::Other(_) => None,
         }
     }
 
@@ -188,8 +188,8 @@ impl Namespace {
         ensures { result ≡ bytes_eq self.now (name_of known) }
     {
         match &self.form {
-            NamespaceForm::Known(own) => *own == known,
-            NamespaceForm::Other(_) => false,
+            KnownForm::Known(own) => *own == known,
+            KnownForm::Other(_) => false,
         }
     }
 
@@ -198,8 +198,8 @@ impl Namespace {
         ensures { chars result.now ≡ self.now }
     {
         match &self.form {
-            NamespaceForm::Known(known) => namespaces::name_of(*known),
-            NamespaceForm::Other(text) => text.as_str(),
+            KnownForm::Known(known) => namespaces::name_of(*known),
+            KnownForm::Other(text) => text.as_str(),
         }
     }
 
@@ -217,11 +217,8 @@ impl Namespace {
         ensures err { IfErr result (λ fault. fault ≡ Memory) }
     {
         match &self.form {
-            NamespaceForm::Known(known) => Ok(Namespace::from_known(*known)),
-            NamespaceForm::Other(text) => Ok(Namespace::new(String::from_str(
-                alloc,
-                text.as_str(),
-            )?)),
+            KnownForm::Known(known) => Ok(Namespace::from_known(*known)),
+            KnownForm::Other(text) => Ok(Namespace::new(String::from_str(alloc, text.as_str())?)),
         }
     }
 }
@@ -295,9 +292,9 @@ impl Hash for Namespace {
 }
 
 /// What stands before the colon of a name, as `xlink` in `xlink:href`. A contract sees the list of its characters.
-#[derive(Debug, Drop, PartialEq, Eq, PartialOrd, Ord, Hash)]
+#[derive(Debug, Drop)]
 pub struct Prefix {
-    label: Text,
+    form: KnownForm,
 }
 
 impl Model for Prefix {
@@ -305,26 +302,39 @@ impl Model for Prefix {
 
     ghost Value = { List ℕ };
 
-    ghost view = { λ n. n.label };
+    ghost use Rattle.markup.specs.Namespaces.{form_prefix};
 
-    ghost inverse = { λ characters. record { label = characters } };
+    ghost view = { λ n. form_prefix n.form };
 }
 
 impl Prefix {
+    ghost use Rattle.markup.specs.Namespaces.{prefix_of};
+
     /// The prefix of a string.
     pub fn new(text: String) -> Prefix
         ensures { result ≡ chars (string_bytes text) }
     {
         Prefix {
-            label: Text::new(text),
+            form: KnownForm::Other(text),
         }
+    }
+
+    /// The usual prefix of a known namespace, as `xlink`, which takes no memory.
+    pub fn from_known(known: KnownNamespace) -> Prefix
+        ensures { result ≡ prefix_of known }
+    {
+        let form = KnownForm::Known(known);
+        Prefix { form }
     }
 
     /// The prefix, lent.
     pub fn as_str(&self) -> &str
         ensures { chars result.now ≡ self.now }
     {
-        self.label.as_str()
+        match &self.form {
+            KnownForm::Known(known) => namespaces::prefix_of(*known),
+            KnownForm::Other(text) => text.as_str(),
+        }
     }
 
     /// A prefix of its own with the same characters.
@@ -332,9 +342,78 @@ impl Prefix {
         ensures ok { IfOk result (λ copied. copied ≡ self.now) }
         ensures err { IfErr result (λ fault. fault ≡ Memory) }
     {
-        Ok(Prefix {
-            label: self.label.copy(alloc)?,
-        })
+        match &self.form {
+            KnownForm::Known(known) => Ok(Prefix::from_known(*known)),
+            KnownForm::Other(text) => Ok(Prefix::new(String::from_str(alloc, text.as_str())?)),
+        }
+    }
+}
+
+impl PartialEq for Prefix {
+    ghost use Rattle.std.specs.Prelude.{nat_eq};
+    ghost use Rattle.std.specs.Cmp.{partial_equiv_from_equiv};
+    ghost use Rattle.std.specs.Cmp.Lexicographic.{pointwise, nat_list_eq_equiv};
+
+    ghost eq = { pointwise nat_eq };
+
+    ghost laws = { partial_equiv_from_equiv nat_list_eq_equiv };
+
+    fn eq(&self, other: &Prefix) -> bool {
+        characters::are_same(self.as_str(), other.as_str())
+    }
+}
+
+impl Eq for Prefix {
+    ghost use Rattle.std.specs.Cmp.Lexicographic.{nat_list_eq_equiv};
+
+    ghost laws = { nat_list_eq_equiv };
+}
+
+// Prefixes are ordered by their characters.
+impl PartialOrd for Prefix {
+    ghost use Rattle.std.specs.Prelude.{Some};
+    ghost use Rattle.std.specs.Ordering.{nat_cmp};
+    ghost use Rattle.std.specs.Cmp.Lexicographic.{slice_cmp, texts_po};
+
+    ghost partial_cmp = { λ a b. Some (slice_cmp nat_cmp a b) };
+
+    ghost laws = { texts_po };
+
+    fn partial_cmp(&self, other: &Prefix) -> Option<Ordering> {
+        Some(self.cmp(other))
+    }
+}
+
+impl Ord for Prefix {
+    ghost use Rattle.std.specs.Prelude.{refl};
+    ghost use Rattle.std.specs.Ordering.{nat_cmp};
+    ghost use Rattle.std.specs.Cmp.Lexicographic.{slice_cmp, nat_list_cmp_total, texts_ties};
+
+    ghost cmp = { slice_cmp nat_cmp };
+
+    ghost total = { nat_list_cmp_total };
+
+    ghost matches_partial_cmp = { λ a b. refl };
+
+    ghost matches_eq = { λ a b. texts_ties a b };
+
+    fn cmp(&self, other: &Prefix) -> Ordering {
+        characters::compared(self.as_str(), other.as_str())
+    }
+}
+
+impl Hash for Prefix {
+    ghost use Rattle.std.specs.Prelude.{encode_utf8_all};
+    ghost use Rattle.std.specs.Hash as fed;
+    ghost use Rattle.std.specs.Cmp.Rules.{hashing};
+    ghost use Rattle.std.proofs.Common.{rules};
+
+    ghost hash_input = { λ text. fed.str (encode_utf8_all text) };
+
+    ghost respects_eq = { Prim.search (hashing, rules) };
+
+    fn hash<H: Hasher>(&self, state: &mut H) {
+        characters::feed(self.as_str(), state);
     }
 }
 

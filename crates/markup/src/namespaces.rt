@@ -1,7 +1,7 @@
 //! The namespaces that the parser knows (Infra Standard, section 8).
 ghost use Rattle.std.specs.Prelude.{◌≡◌};
 ghost use Rattle.std.specs.Str.{bytes_eq, chars};
-ghost use Rattle.markup.specs.Namespaces.{name_of, known_namespace};
+ghost use Rattle.markup.specs.Namespaces.{name_of, known_namespace, prefix_of};
 
 use crate::characters;
 
@@ -45,9 +45,9 @@ pub enum KnownNamespace {
     Xmlns,
 }
 
-/// What a namespace is held as: a known one takes no memory, any other has its name.
+/// What a namespace or a prefix is held as: one of a known namespace takes no memory, any other has its text.
 #[derive(Debug, Drop)]
-pub(crate) enum NamespaceForm {
+pub(crate) enum KnownForm {
     Known(KnownNamespace),
     Other(String),
 }
@@ -65,6 +65,22 @@ pub(crate) fn name_of(known: KnownNamespace) -> &'static str
         KnownNamespace::XLink => XLINK,
         KnownNamespace::Xml => XML,
         KnownNamespace::Xmlns => XMLNS,
+    }
+}
+
+/// The usual prefix of a known namespace.
+#[tactic(auto, unfolding(crate::specs::Namespaces::prefix_of))]
+pub(crate) fn prefix_of(known: KnownNamespace) -> &'static str
+    ensures { result.now ≡ prefix_of known }
+{
+    match known {
+        KnownNamespace::NoNamespace => "",
+        KnownNamespace::Html => "html",
+        KnownNamespace::MathMl => "mathml",
+        KnownNamespace::Svg => "svg",
+        KnownNamespace::XLink => "xlink",
+        KnownNamespace::Xml => "xml",
+        KnownNamespace::Xmlns => "xmlns",
     }
 }
 

@@ -1,0 +1,156 @@
+//! Where many attributes are by their local names, so that one is found without a walk over all.
+ghost use Rattle.std.specs.Prelude.{◌≡◌, IfSome, true};
+ghost use Rattle.std.specs.List.{find, list_any};
+ghost use Rattle.std.specs.Option.{option_copied};
+ghost use Rattle.std.specs.Str.{bytes_eq};
+ghost use Rattle.markup.specs.AttributeIndex.{AddsPlace, AddsPlaceIf, FitsIndex, IsIndex};
+ghost use Rattle.markup.specs.Attributes.{has_local_name};
+ghost use Rattle.markup.specs.Equality.{attribute_eq};
+ghost use Rattle.markup.specs.Names.{has_attribute};
+
+use crate::attributes::Attribute;
+use crate::names::{LocalName, QualName};
+use crate::text::Text;
+use std::alloc::Global;
+use std::collections::BTreeMap;
+
+// So many attributes are looked through one by one.
+const MANY: usize = 16;
+
+/// The places of attributes by their local names.
+#[derive(Debug, Drop)]
+pub(crate) struct AttributeIndex {
+    // Where the first attribute with a local name is.
+    pub(crate) places: BTreeMap<Text, usize>,
+    // Whether no local name comes twice.
+    pub(crate) are_distinct: bool,
+}
+
+/// An index with one more; none where memory is short.
+fn add(
+    mut index: AttributeIndex,
+    alloc: Global,
+    name: &Text,
+    place: usize,
+) -> Option<AttributeIndex>
+    ensures { IfSome result (λ added. AddsPlace name.now place index added) }
+{
+    if index.places.contains_key(name) {
+        index.are_distinct = false;
+        return Some(index);
+    }
+    let Ok(copied) = name.copy(alloc) else {
+        return None;
+    };
+    match index.places.insert(copied, place) {
+        Ok(_) => Some(index),
+        Err(_) => None,
+    }
+}
+
+/// The index of all of these; none where memory is short.
+fn all(alloc: Global, attributes: &[Attribute]) -> Option<AttributeIndex>
+    ensures { IfSome result (λ index. IsIndex index attributes.now) }
+{
+    let mut index = AttributeIndex {
+        places: BTreeMap::new(alloc),
+        are_distinct: true,
+    };
+    for place in 0..attributes.len() {
+        index = add(index, alloc, attributes[place].name.local.as_text(), place)?;
+    }
+    Some(index)
+}
+
+/// The index with one more, where there is one; none where memory is short.
+pub(crate) fn with(
+    index: Option<AttributeIndex>,
+    alloc: Global,
+    name: &Text,
+    place: usize,
+) -> Option<AttributeIndex>
+    ensures { AddsPlaceIf name.now place index result }
+{
+    match index {
+        Some(index) => add(index, alloc, name, place),
+        None => None,
+    }
+}
+
+/// The index of attributes, which is made once there are many; none where memory is short.
+pub(crate) fn of(
+    index: Option<AttributeIndex>,
+    alloc: Global,
+    attributes: &[Attribute],
+) -> Option<AttributeIndex>
+    requires { FitsIndex index attributes.now }
+    ensures { FitsIndex result attributes.now }
+{
+    match index {
+        Some(index) => Some(index),
+        None if attributes.len() > MANY => all(alloc, attributes),
+        None => None,
+    }
+}
+
+/// Whether one of the attributes has that local name.
+pub(crate) fn has_local_name(
+    index: &Option<AttributeIndex>,
+    attributes: &[Attribute],
+    name: &LocalName,
+) -> bool
+    requires { FitsIndex index.now attributes.now }
+    ensures { result ≡ has_local_name name.now attributes.now }
+{
+    match index {
+        Some(index) => index.places.contains_key(name.as_text()),
+        None => attributes
+            .iter()
+            .any(|attribute| *name == attribute.name.local),
+    }
+}
+
+/// The first of the attributes that has that local name.
+fn first<'a>(
+    index: &AttributeIndex,
+    attributes: &'a [Attribute],
+    name: &LocalName,
+) -> Option<&'a Attribute>
+    requires { IsIndex index.now attributes.now }
+    ensures { option_copied result ≡ find (λ attribute. bytes_eq name.now attribute.name.local) attributes.now }
+{
+    let place = index.places.get(name.as_text())?;
+    attributes.get(*place)
+}
+
+/// Whether one of the attributes has that name.
+pub(crate) fn has(index: &Option<AttributeIndex>, attributes: &[Attribute], name: &QualName) -> bool
+    requires { FitsIndex index.now attributes.now }
+    ensures { result ≡ has_attribute name.now attributes.now }
+{
+    match index {
+        Some(index) if index.are_distinct => match first(index, attributes, &name.local) {
+            Some(attribute) => attribute.name == *name,
+            None => false,
+        },
+        _ => attributes.iter().any(|attribute| attribute.name == *name),
+    }
+}
+
+/// Whether an attribute is one of these.
+pub(crate) fn contains(
+    index: &Option<AttributeIndex>,
+    attributes: &[Attribute],
+    attribute: &Attribute,
+) -> bool
+    requires { FitsIndex index.now attributes.now }
+    ensures { result ≡ list_any (attribute_eq attribute.now) attributes.now }
+{
+    match index {
+        Some(index) if index.are_distinct => match first(index, attributes, &attribute.name.local) {
+            Some(other) => attribute == other,
+            None => false,
+        },
+        _ => attributes.iter().any(|other| attribute == other),
+    }
+}
