@@ -11,7 +11,7 @@ use Rattle.std.proofs.lemmas.Str.{utf8_valid_len-IsUtf8, utf8_valid_len-IsValidU
 use Rattle.std.proofs.lemmas.Bool.Decides.{nat_tests}
 use Rattle.std.specs.Io.KnownBytes.{IsAtEnd, prepend_known}
 use lib.Utf8.{scalar, scalars, scalar_cases}
-use Rattle.html_normal.specs.Reading.{BeginsText, IsAtFault, IsFront, IsReadFault, ShowsNotUtf8}
+use Rattle.html_normal.specs.Reading.{BeginsText, IsAtFault, IsFront, IsReadFault, HasBegun, ShowsNotUtf8}
 use Rattle.html_normal.specs.declared.fault.NormalFault.{NormalFault}
 use Rattle.html_normal.specs.declared.fault.NormalFault.TheVariants.{NotUtf8, Read, Memory, Write, Refused, NotYet}
 
@@ -280,7 +280,7 @@ pub fault-shown : (fault : NormalFault) (old new : Option (List ℕ)) (earlier l
     → length last ≤ 4096 → all ≡ earlier ++ last → IsAtFault all fault → IsReadFault old new fault
 fault-shown (NotUtf8 at) old new earlier last all moved soon piece same shown =
     shows-fault old new earlier last at moved soon piece (subst (λ (xs : List ℕ). (more : List ℕ) → IsValidUpTo (xs ++ more) at) same shown)
-fault-shown Read old new earlier last all moved soon piece same shown = tt
+fault-shown Read old new earlier last all moved soon piece same shown = absurd shown
 fault-shown Memory old new earlier last all moved soon piece same shown = tt
 fault-shown Write old new earlier last all moved soon piece same shown = absurd shown
 fault-shown Refused old new earlier last all moved soon piece same shown = absurd shown
@@ -308,3 +308,8 @@ shows-end old mid new bs n moved now end front cut whole left whole_is left_is =
       soon = BeginsText-front bs n front;
       piece = omega arith;
     }
+
+-- where a read failed, what was read before begins a text
+pub begun-shown : (old mid new : Option (List ℕ)) (bytes : List ℕ) → old ≡ prepend_known bytes mid → new ≡ mid → BeginsText bytes → (whole left : List ℕ) → old ≡ Some whole → new ≡ Some left → HasBegun whole left
+begun-shown old mid new bytes moved same soon whole left whole_is left_is =
+    record { read = bytes; moved = known_split old mid bytes whole left moved whole_is (sym same ∙ left_is); text = soon }

@@ -3,7 +3,7 @@ use Rattle.std.specs.Prelude.{◌≡◌, ℕ, ◌≤◌, Bool, true, false, List
 use Rattle.std.specs.Io.KnownBytes.{append_known}
 use Rattle.std.specs.Str.{chars}
 use Rattle.markup.specs.declared.quirks.QuirksMode.TheVariants.{NoQuirks}
-use Rattle.html_normal.specs.Reading.{ShowsNotUtf8}
+use Rattle.html_normal.specs.Reading.{HasBegun, ShowsNotUtf8}
 use Rattle.html_normal.specs.Thin.{Piece, document_of, pieces_of, unmatched}
 use Rattle.html_normal.specs.Tree.{written}
 use Rattle.html_normal.specs.declared.fault.NormalFault.{NormalFault}
@@ -48,7 +48,7 @@ pub record IsBegun (whole : List ℕ) (old new : Option (List ℕ)) : Type 0 whe
 -- What a fault says of the bytes of the input that were left before and are left now, and of those written before and now.
 abbrev pub IsFailed : (left left' : Option (List ℕ)) (old new : Option (List ℕ)) → NormalFault → Type 0
 IsFailed left left' old new (NotUtf8 at) = (new ≡ old) × ((whole rest : List ℕ) → left ≡ Some whole → left' ≡ Some rest → ShowsNotUtf8 whole rest at)
-IsFailed left left' old new Read = new ≡ old
+IsFailed left left' old new Read = (new ≡ old) × ((whole rest : List ℕ) → left ≡ Some whole → left' ≡ Some rest → HasBegun whole rest)
 IsFailed left left' old new Write = (whole : List ℕ) → left ≡ Some whole → IsBegun whole old new
 IsFailed left left' old new Memory = (new ≡ old) ⊎ ((whole : List ℕ) → left ≡ Some whole → IsBegun whole old new)
 IsFailed left left' old new Refused = ⊥

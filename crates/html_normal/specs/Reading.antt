@@ -18,6 +18,12 @@ pub record ShowsNotUtf8 (whole left : List ℕ) (at : ℕ) : Type 0 where
   pub soon : BeginsText earlier
   pub piece : length last ≤ 4096
 
+-- What was read begins a text.
+pub record HasBegun (whole left : List ℕ) : Type 0 where
+  pub read : List ℕ
+  pub moved : whole ≡ read ++ left
+  pub text : BeginsText read
+
 -- The longest front of bytes that begin a text has this length.
 pub record IsFront (bytes : List ℕ) (n : ℕ) : Type 0 where
   pub within : n ≤ length bytes
@@ -37,7 +43,7 @@ IsAtFault bytes NotYet = ⊥
 -- What a fault says of the bytes that were left before and are left behind a reading.
 abbrev pub IsReadFault : (old new : Option (List ℕ)) → NormalFault → Type 0
 IsReadFault old new (NotUtf8 at) = (whole left : List ℕ) → old ≡ Some whole → new ≡ Some left → ShowsNotUtf8 whole left at
-IsReadFault old new Read = Unit {0}
+IsReadFault old new Read = (whole left : List ℕ) → old ≡ Some whole → new ≡ Some left → HasBegun whole left
 IsReadFault old new Memory = Unit {0}
 IsReadFault old new Write = ⊥
 IsReadFault old new Refused = ⊥

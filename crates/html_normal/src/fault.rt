@@ -8,7 +8,7 @@ use std::error::Error;
 use std::fmt;
 
 /// Why a document was not normalised.
-#[derive(Clone, Copy, Debug, PartialEq, Eq)]
+#[derive(Clone, Copy, Debug, PartialEq, Eq, Hash)]
 pub enum NormalFault {
     /// The input is not UTF-8; its longest front that is takes `at` bytes.
     NotUtf8 { at: u64 },

@@ -4,7 +4,7 @@ use markup::QuirksMode;
 use std::fmt;
 
 /// Which layers tell every parse error; each switch may change only the number of errors.
-#[derive(Clone, Copy, Debug, Default, PartialEq, Eq)]
+#[derive(Clone, Copy, Debug, Default, PartialEq, Eq, Hash)]
 pub struct Exact {
     /// The tokenizer.
     pub tokenizer: bool,
@@ -13,7 +13,7 @@ pub struct Exact {
 }
 
 /// What a normalisation tells of a document.
-#[derive(Clone, Copy, Debug, PartialEq, Eq)]
+#[derive(Clone, Copy, Debug, PartialEq, Eq, Hash)]
 pub struct Report {
     /// Whether the document is plain: its written text, read again, gives the same document and the same bytes.
     pub plain: bool,

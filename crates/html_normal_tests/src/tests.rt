@@ -192,6 +192,27 @@ fn readers_that_fail(rt: HostRuntime) -> Result<(), Fail> {
 }
 
 #[test]
+fn bytes_at_fault_are_told_before_a_failed_read(rt: HostRuntime) -> Result<(), Fail> {
+    // bytes that begin no text, or end within a character, and then a read that fails
+    let rows: &[(&[u8], Result<Report, NormalFault>)] = &[
+        (b"\xFF", Err(NormalFault::NotUtf8 { at: 0 })),
+        (b"<p>\xFF", Err(NormalFault::NotUtf8 { at: 3 })),
+        (b"\xC3", Err(NormalFault::Read)),
+        (b"<p>", Err(NormalFault::Read)),
+    ];
+    for &(input, want) in rows {
+        let on = Devices {
+            read_fails: Some(2),
+            ..WHOLE
+        };
+        let seen = normal(rt.alloc(), input, &on, Exact::default())?;
+        assert_eq!(&rt; seen.answer, want);
+        assert!(&rt; seen.written.is_empty());
+    }
+    Ok(())
+}
+
+#[test]
 fn writers_that_fail(rt: HostRuntime) -> Result<(), Fail> {
     // 55 bytes by tens: six writes
     let input = b"<!DOCTYPE html>a";

@@ -2,12 +2,17 @@ use Rattle.std.proofs.Common.{◌≡◌, ◌≤◌, ◌<◌, ◌++◌, take, ref
 use Rattle.std.proofs.lemmas.Grind.{common_steps}
 use Rattle.std.proofs.lemmas.List.{length-take}
 use Rattle.std.proofs.lemmas.Result.{err_from_is_err_and}
-use Rattle.html_normal.proofs.Utf8.{IsFront-nil, moved-none, moved-more, fault-shown, shows-end, BeginsText-front}
+use Rattle.html_normal.proofs.Utf8.{IsFront-nil, moved-none, moved-more, fault-shown, shows-end, begun-shown, BeginsText-front}
 use Rattle.html_normal.proofs.read.read_text.Goals as goal
 
 pub loop-count-init : goal.loop-count-init
 loop-count-init g c =
     record { moved = moved-none _ _ c.new-bytes.ensures.items; front = IsFront-nil _ c.new-bytes.ensures.items; counted = refl; same_references = refl; room = refl }
+
+pub returns-in_default-clause-err : goal.returns-in_default-clause-err
+returns-in_default-clause-err g c =
+    let bytes = c.loop-count.bytes.items in
+    begun-shown _ _ _ bytes c.loop-count.invariant.moved c.in_default.ensures.kept (BeginsText-front bytes c.loop-count.valid c.loop-count.invariant.front)
 
 pub returns-in_err-valid-clause-err : goal.returns-in_err-valid-clause-err
 returns-in_err-valid-clause-err g c =
