@@ -216,8 +216,8 @@ fn missing_attributes_are_added(rt: HostRuntime) -> Result<(), Fail> {
             );
             assert!(rt; !list.has(&name(rt.alloc(), None, "x", local.as_str())?));
         }
-        if has > 0 {
-            assert!(rt; list.as_slice()[0].value.is("x"));
+        if let Some(first) = list.as_slice().first() {
+            assert_eq!(rt; first.value.as_str() == "x", has > 0);
         }
     }
     Ok(())
