@@ -4,7 +4,7 @@ ghost use Rattle.std.specs.Io.KnownBytes.{IsAtEnd, append_known, prepend_known};
 ghost use Rattle.devices.specs.Devices.{count_after, write_failed};
 
 /// A device failed.
-#[derive(Clone, Copy, Debug, PartialEq, Eq)]
+#[derive(Clone, Copy, Debug, PartialEq, Eq, Hash)]
 pub enum DeviceFault {
     Device,
 }

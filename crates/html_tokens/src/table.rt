@@ -42,7 +42,7 @@ impl ReferenceRow {
 }
 
 /// Why a table of references was not made. Rows count from 1.
-#[derive(Clone, Copy, Debug, PartialEq, Eq)]
+#[derive(Clone, Copy, Debug, PartialEq, Eq, Hash)]
 pub enum TableFault {
     /// The name is not letters and digits of ASCII, one at least, with `;` or nothing behind them.
     BadName(u64),
