@@ -1,0 +1,11 @@
+use Rattle.std.proofs.Common.{refl}
+use Rattle.std.proofs.lemmas.Str.{encodes-chars}
+use Rattle.html_serialize.proofs.TagBytes.{instruction-bytes}
+use Rattle.html_serialize.proofs.Steps.{answered-failed, answered-puts}
+use Rattle.html_serialize.proofs.serializer.HtmlSerializerSerializer.write_processing_instruction.Goals as goal
+
+pub returns-then-self-clause-answers : goal.returns-then-self-clause-answers
+returns-then-self-clause-answers g c = answered-failed _ _ c.if-self.true
+
+pub returns-clause-answers : goal.returns-clause-answers
+returns-clause-answers g c = answered-puts _ _ _ _ _ c.if-self.false c.is_fatal-self.ensures refl (rw (instruction-bytes _ _ c.args.target.now c.args.data.now (encodes-chars c.args.target.now c.utf8.target) (encodes-chars c.args.data.now c.utf8.data)) c.put_five-answer.ensures.puts)

@@ -1,0 +1,15 @@
+//! Writes trees as HTML (HTML Standard, section 13.3, "Serializing HTML fragments").
+#![tactic(auto)]
+
+mod calls;
+mod entries;
+mod escape;
+pub mod laws;
+mod names;
+mod opts;
+mod put;
+mod serializer;
+mod tags;
+
+pub use opts::SerializeOpts;
+pub use serializer::{HtmlSerializer, serialize};
