@@ -38,9 +38,9 @@ impl Model for Forest {
 
 impl Forest {
     ghost use Rattle.markup.specs.Names.{is_html_name};
-    ghost use Rattle.markup.specs.Named.{IsOrdinary};
+    ghost use Rattle.markup.specs.Named.{HasContents, IsOrdinary};
     ghost use Rattle.markup.specs.Forest.NodeData.{Contents, Element};
-    ghost use Rattle.markup.specs.Forest.{IsLoose, IsPlace, MayPut, children_of, contents_of, data_if, data_of, empty_forest, node_count, parent_at, parent_of, place_before, place_near, previous_at, put, put_child, put_new, put_text, text_of, with_node};
+    ghost use Rattle.markup.specs.Forest.{IsForest, IsLoose, IsPlace, MayPut, children_of, contents_of, data_if, data_of, empty_forest, node_count, parent_at, parent_of, place_before, place_near, previous_at, put, put_child, put_new, put_text, text_of, with_node};
 
     /// A document with nothing in it, in no quirks mode and with no error. It grows in the memory of `alloc`.
     pub fn new(alloc: Global) -> Result<Forest, ParseFault>
@@ -118,6 +118,14 @@ impl Forest {
         ensures { result ≡ self.now.errors }
     {
         self.errors
+    }
+
+    /// What every forest keeps, for whoever walks it.
+    pub(crate) fn keeps(&self)
+        ensures is_forest { IsForest self.now }
+        ensures contents { HasContents self.now }
+    {
+        let _nodes = &self.nodes;
     }
 
     /// Makes a node that is no template.

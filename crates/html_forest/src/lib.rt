@@ -6,10 +6,12 @@ mod forest;
 mod link;
 mod node;
 mod nodes;
+mod walk;
 
 pub use children::Children;
 pub use forest::Forest;
 pub use node::{NodeData, NodeId};
+pub use walk::ForestNode;
 
 #[cfg(test)]
 mod tests;

@@ -17,3 +17,4 @@ pub mod Permutations
 pub mod RisingTexts
 pub mod PlainTexts
 pub mod WholeTrees
+pub mod WalkCalls

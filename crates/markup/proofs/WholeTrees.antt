@@ -72,7 +72,7 @@ line-short f is ns n line there =
 -- LEVELS
 
 -- what stands in a node has no more than so many levels
-abbrev Within : Forest → ℕ → ℕ → Type 0
+abbrev pub Within : Forest → ℕ → ℕ → Type 0
 Within f zero n = ⊥
 Within f (suc l) n = (m : ℕ) → is_among m (inner_of f n) ≡ true → Within f l m
 
@@ -99,16 +99,22 @@ deep : (f : Forest) → IsForest f → HasContents f → (l n : ℕ) (ns : List 
 deep f is contents zero n ns line there fits = absurd (let short = line-short f is ns n line there in omega (arith, short, fits))
 deep f is contents (suc l) n ns line there fits = (inner-deep f is contents l n ns line fits (λ m ms line' there' fits'. deep f is contents l m ms line' there' fits') _ refl)
 
+-- so have the nodes in any node, where there is one node more than levels
+pub inner-within : (f : Forest) → IsForest f → HasContents f → (l : ℕ) → node_count f ≡ suc l → (n m : ℕ) → is_among m (inner_of f n) ≡ true → Within f l m
+inner-within f is contents l e n =
+    let fits : node_count f ≤ suc l + length {A = ℕ} [] = omega (arith, e) in
+    inner-deep f is contents l n [] start fits (λ m ms line there fits'. deep f is contents l m ms line there fits') _ refl
+
 -- THE SAME TREES
 
-among-first : (n : ℕ) (ns : List ℕ) → is_among n (n ∷ ns) ≡ true
+pub among-first : (n : ℕ) (ns : List ℕ) → is_among n (n ∷ ns) ≡ true
 among-first n ns = rw (eq-eqb n n refl) refl
 
 cond-later : (b x : Bool) → x ≡ true → cond b true x ≡ true
 cond-later true x h = refl
 cond-later false x h = h
 
-among-later : (m n : ℕ) (ns : List ℕ) → is_among m ns ≡ true → is_among m (n ∷ ns) ≡ true
+pub among-later : (m n : ℕ) (ns : List ℕ) → is_among m ns ≡ true → is_among m (n ∷ ns) ≡ true
 among-later m n ns h = cond-later (m == n) (is_among m ns) h
 
 node-same : (about : NodeData) (g h : Trees → Trees) → ((r : Trees) → g r ≡ h r) → (rest other : Trees) → rest ≡ other → node_before about g rest ≡ node_before about h other
@@ -141,8 +147,7 @@ first-by : (f : Forest) → IsForest f → HasContents f → (count : ℕ) → n
 unfolding trees_within
 first-by f is contents zero e n ns rest = absurd (let some = is.document in omega (arith, some, e))
 first-by f is contents (suc l) e n ns rest =
-    let fits : node_count f ≤ suc l + length {A = ℕ} [] = omega (arith, e) in
-    let all : (m : ℕ) → is_among m (inner_of f n) ≡ true → Within f l m = inner-deep f is contents l n [] start fits (λ m ms line there fits'. deep f is contents l m ms line there fits') _ refl in
+    let all : (m : ℕ) → is_among m (inner_of f n) ≡ true → Within f l m = inner-within f is contents l e n in
     node-same (data_of f n) (trees_within l f (inner_of f n)) (trees_within (suc l) f (inner_of f n)) (λ r. within-same f l (suc l) (inner_of f n) all (omega arith) r) _ _ refl
 
 -- the trees of nodes begin with that of the first, with all that stands in it

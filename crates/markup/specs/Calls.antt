@@ -1,5 +1,7 @@
 -- The calls of a serializer, and what they make of it one after the other.
-use Rattle.std.specs.Prelude.{◌≡◌, ℕ, List, [], ◌∷◌, ◌++◌, Result, Ok, Err, ◌⊎◌}
+use Rattle.std.specs.Prelude.{◌≡◌, ℕ, List, [], ◌∷◌, ◌++◌, Option, Some, None, Result, Ok, Err, ◌⊎◌}
+use Rattle.markup.specs.Forest.{NodeData}
+use Rattle.markup.specs.Forest.NodeData.{Document, Contents, Doctype, Text, Comment, ProcessingInstruction, Element}
 use Rattle.markup.specs.Trees as trees
 use Rattle.markup.specs.Trees.{Trees, Nothing}
 use Rattle.markup.specs.declared.attributes.Attribute.{Attribute}
@@ -27,6 +29,21 @@ calls_before (trees.Element name attributes template kids next) rest =
 
 abbrev pub calls_of : Trees → List Call
 calls_of trees = calls_before trees []
+
+-- the calls once a node is met
+abbrev pub first_calls : NodeData → List Call
+first_calls Document = []
+first_calls Contents = []
+first_calls (Doctype name public_id system_id) = WriteDoctype name ∷ []
+first_calls (Text text) = WriteText text ∷ []
+first_calls (Comment text) = WriteComment text ∷ []
+first_calls (ProcessingInstruction target text) = WriteProcessingInstruction target text ∷ []
+first_calls (Element name attributes template integration_point) = StartElem name attributes ∷ []
+
+-- the end of an element of that name, if there is one, before other calls
+abbrev pub ended : Option QualName → List Call → List Call
+ended None calls = calls
+ended (Some name) calls = EndElem name ∷ calls
 
 -- what a call makes of a state, or why it is refused whatever memory and devices do
 abbrev pub Step : Type 0 → Type 0

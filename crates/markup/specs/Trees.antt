@@ -114,3 +114,18 @@ trees_before f ns rest = trees_within (node_count f) f ns rest
 -- the trees of nodes of a forest; a number that names no node has none
 abbrev pub trees_of : Forest → List ℕ → Trees
 trees_of f ns = trees_before f ns Nothing
+
+-- HOW FAR A WALK HAS TO GO
+
+abbrev pub weights : (List ℕ → ℕ) → Forest → List ℕ → ℕ
+weights inner f [] = 0
+weights inner f (n ∷ ns) = suc (suc (inner (inner_of f n))) + weights inner f ns
+
+-- two for each node of so many levels
+unfoldable pub weight_within : ℕ → Forest → List ℕ → ℕ
+weight_within zero f ns = 0
+weight_within (suc levels) f ns = weights (weight_within levels f) f ns
+
+-- two for each node that a walk of nodes meets
+unfoldable pub weight : Forest → List ℕ → ℕ
+weight f ns = weight_within (node_count f) f ns
