@@ -6,3 +6,5 @@ pub mod AnyCase
 pub mod Runs
 pub mod SpaceRuns
 pub mod FirstBytes
+pub mod SameNames
+pub mod HeldNames

@@ -3,3 +3,4 @@ pub mod SetRows
 pub mod Classes
 pub mod Stops
 pub mod Given
+pub mod ElementNames

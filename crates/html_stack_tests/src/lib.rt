@@ -1,4 +1,4 @@
-//! Tests of `html_names`: its public calls on worked rows.
+//! Tests of `html_names` and `html_stack`: their public calls on worked rows.
 //!
 //! They stand in a crate of their own since a crate is proved twice, without its tests and with them.
 #![tactic(auto)]
@@ -9,3 +9,5 @@ mod classes;
 mod doctypes;
 #[cfg(test)]
 mod encodings;
+#[cfg(test)]
+mod stack;

@@ -1,0 +1,3 @@
+pub mod WalksBack
+pub mod Marks
+pub mod Implied

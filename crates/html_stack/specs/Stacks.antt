@@ -1,0 +1,32 @@
+-- The stack's part of the state of the rules.
+use Rattle.std.specs.Prelude.{ℕ, Bool, true, false, List, map, reverse}
+use Rattle.html_rules.specs.State.{Open, Entry, Element as Listed, Marker as Mark}
+use Rattle.html_rules.specs.declared.insertion_mode.InsertionMode.{InsertionMode}
+use Rattle.html_stack.specs.declared.entries.OpenElement.{OpenElement}
+use Rattle.html_stack.specs.declared.entries.FormatEntry.{FormatEntry}
+use Rattle.html_stack.specs.declared.entries.FormatEntry.TheVariants.{Element, Marker}
+
+-- the open elements, the current node first; the entries of the list, the newest first; the template insertion modes, the current one first
+pub record Stacked : Type 0 where
+  pub open_elems : List Open
+  pub active_formatting : List Entry
+  pub template_modes : List InsertionMode
+
+abbrev pub open_of : {H : Type 0} → (H → ℕ) → OpenElement H → Open
+open_of node x = record { number = node x.handle; namespace = x.name.namespace; name = x.name.name }
+
+abbrev pub entry_of : {H : Type 0} → (H → ℕ) → FormatEntry H → Entry
+entry_of node (Element handle tag) = Listed (node handle) tag
+entry_of node Marker = Mark
+
+-- elements as they lie, the root first
+abbrev pub opens_of : {H : Type 0} → (H → ℕ) → List (OpenElement H) → List Open
+opens_of node xs = reverse (map (open_of node) xs)
+
+abbrev pub entries_of : {H : Type 0} → (H → ℕ) → List (FormatEntry H) → List Entry
+entries_of node xs = reverse (map (entry_of node) xs)
+
+-- whether an entry is a marker
+abbrev pub is_mark : Entry → Bool
+is_mark (Listed number tag) = false
+is_mark Mark = true

@@ -1,0 +1,17 @@
+//! The stack of open elements and the list of active formatting elements (HTML Standard, sections 13.2.4.2 and 13.2.4.3).
+#![tactic(auto)]
+
+pub mod active_formatting_iter;
+pub mod entries;
+pub mod stack;
+mod walks;
+mod wanted;
+
+pub use active_formatting_iter::ActiveFormattingIter;
+pub use entries::{FormatEntry, InsertionPoint, OpenElement, PushFlag};
+pub use html_names::{
+    ElementClass, ElementName, ElementNamespace, doctype_error_and_quirks, equals_any_case,
+    extract_a_character_encoding_from_a_meta_element, is_in,
+};
+pub use html_rules::{InsertionMode, TagSet};
+pub use stack::Stack;

@@ -1,0 +1,260 @@
+//! The stack of open elements, the list of active formatting elements and the stack of template insertion modes.
+ghost use Rattle.std.specs.Prelude.{◌≡◌, [], ◌∷◌, IfOk, IfErr, OnOk, OnErr, MatchOption, ◌<◌, length, reverse, take};
+ghost use Rattle.markup.specs.declared.fault.ParseFault.TheVariants.{Memory};
+
+use crate::active_formatting_iter::ActiveFormattingIter;
+use crate::entries::{FormatEntry, OpenElement};
+use crate::walks;
+use crate::wanted::Wanted;
+use html_names::ElementClass;
+use html_rules::{InsertionMode, TagSet};
+use html_tokens::Tag;
+use markup::{LocalName, ParseFault, TreeSink};
+use std::alloc::Global;
+use std::marker::Model;
+
+/// The open elements, the active formatting elements and the template insertion modes over a sink's nodes. A contract sees the three
+/// lists as the rules do, the newest first.
+#[derive(Drop)]
+pub struct Stack<Sink: TreeSink> {
+    open_elems: Vec<OpenElement<Sink::Handle>>,
+    active_formatting: Vec<FormatEntry<Sink::Handle>>,
+    template_modes: Vec<InsertionMode>,
+}
+
+impl<Sink: TreeSink> Model for Stack<Sink> {
+    ghost use Rattle.std.specs.Prelude.{reverse};
+    ghost use Rattle.html_stack.specs.Stacks.{Stacked, opens_of, entries_of};
+
+    ghost Value = { Stacked };
+
+    ghost view = { λ s. record { open_elems = opens_of Sink.node s.open_elems.items; active_formatting = entries_of Sink.node s.active_formatting.items; template_modes = reverse s.template_modes.items } };
+}
+
+impl<Sink: TreeSink> Stack<Sink> {
+    ghost use Rattle.html_stack.specs.Stacks.{Stacked, entries_of, open_of, opens_of};
+    ghost use Rattle.html_rules.specs.Names.{Html};
+    ghost use Rattle.html_rules.specs.Formatting.{behind_marker};
+    ghost use Rattle.html_rules.specs.Stack.{in_scope, left_below, left_by_implied, left_from, nothing, without_current};
+    ghost use Rattle.html_rules_laws.specs.Soundness.{AreOpened};
+    ghost use Rattle.html_stack.specs.Wanted.{IsWanted, closes, passes};
+    ghost use Rattle.html_rules.specs.declared.tag_set.TagSet.TheVariants.{CursoryImpliedEnd};
+    ghost use Rattle.html_rules.specs.State.{Element, Marker as Mark, current_is, current_number, is_in, is_named};
+    ghost use Rattle.html_names.specs.Classes.{IsClassOf};
+
+    /// Nothing is open or listed. The lists grow in the memory of `alloc`.
+    pub fn new(alloc: Global) -> Stack<Sink>
+        ensures { result ≡ record { open_elems = []; active_formatting = []; template_modes = [] } }
+    {
+        Stack {
+            open_elems: Vec::new(alloc),
+            active_formatting: Vec::new(alloc),
+            template_modes: Vec::new(alloc),
+        }
+    }
+
+    /// The open elements, lent, the root first.
+    pub fn open_elems(&self) -> &[OpenElement<Sink::Handle>]
+        ensures { opens_of Sink.node result.now ≡ self.now.open_elems }
+    {
+        self.open_elems.as_slice()
+    }
+
+    /// The entries of the list, lent, the oldest first.
+    pub fn active_formatting(&self) -> &[FormatEntry<Sink::Handle>]
+        ensures { entries_of Sink.node result.now ≡ self.now.active_formatting }
+    {
+        self.active_formatting.as_slice()
+    }
+
+    /// The template insertion modes, lent, the oldest first.
+    pub fn template_modes(&self) -> &[InsertionMode]
+        ensures { reverse result.now ≡ self.now.template_modes }
+    {
+        self.template_modes.as_slice()
+    }
+
+    /// Opens an element.
+    pub fn push(&mut self, element: OpenElement<Sink::Handle>) -> Result<(), ParseFault>
+        ensures ok { OnOk result (self.new ≡ record self.old { open_elems = open_of Sink.node element ∷ self.old.open_elems }) }
+        ensures err { OnErr result (self.new ≡ self.old) }
+        ensures fault { IfErr result (λ fault. fault ≡ Memory) }
+    {
+        self.open_elems.push(element)?;
+        Ok(())
+    }
+
+    /// Puts a marker into the list.
+    pub fn push_marker(&mut self) -> Result<(), ParseFault>
+        ensures ok { OnOk result (self.new ≡ record self.old { active_formatting = Mark ∷ self.old.active_formatting }) }
+        ensures err { OnErr result (self.new ≡ self.old) }
+        ensures fault { IfErr result (λ fault. fault ≡ Memory) }
+    {
+        self.active_formatting.push(FormatEntry::Marker)?;
+        Ok(())
+    }
+
+    /// Lists the current node, with the tag that it was made for.
+    pub fn list_current(&mut self, tag: Tag) -> Result<(), ParseFault>
+        requires { 0 < length self.old.open_elems }
+        ensures ok { OnOk result (self.new ≡ record self.old { active_formatting = Element (current_number self.old.open_elems) tag ∷ self.old.active_formatting }) }
+        ensures err { OnErr result (self.new ≡ self.old) }
+        ensures fault { IfErr result (λ fault. fault ≡ Memory) }
+    {
+        let handle = walks::last(self.open_elems.as_slice());
+        self.active_formatting
+            .push(FormatEntry::Element(handle, tag))?;
+        Ok(())
+    }
+
+    /// Makes a template insertion mode the current one.
+    pub fn push_template_mode(&mut self, mode: InsertionMode) -> Result<(), ParseFault>
+        ensures ok { OnOk result (self.new ≡ record self.old { template_modes = mode ∷ self.old.template_modes }) }
+        ensures err { OnErr result (self.new ≡ self.old) }
+        ensures fault { IfErr result (λ fault. fault ≡ Memory) }
+    {
+        self.template_modes.push(mode)?;
+        Ok(())
+    }
+
+    /// Takes the current template insertion mode away.
+    pub fn pop_template_mode(&mut self) -> Option<InsertionMode>
+        ensures { MatchOption result ((self.old.template_modes ≡ []) × (self.new ≡ self.old)) (λ mode. (self.old.template_modes ≡ mode ∷ self.new.template_modes) × (self.new ≡ record self.old { template_modes = self.new.template_modes })) }
+    {
+        self.template_modes.pop()
+    }
+
+    /// Whether an element of a set is open, up to and with the first of a scope's bounds ("has an element in the specific scope", HTML
+    /// Standard, section 13.2.4.2). Time grows with the number of elements up to there.
+    pub fn in_scope(&self, scope: TagSet, set: TagSet) -> bool
+        ensures { result ≡ in_scope scope (is_in set) self.now.open_elems }
+    {
+        walks::is_in_scope(self.open_elems.as_slice(), scope, Wanted::In(set))
+    }
+
+    /// The same for HTML elements of a name, which comes with its class.
+    pub fn in_scope_named(&self, scope: TagSet, class: ElementClass, name: &LocalName) -> bool
+        requires { IsClassOf Html name.now class }
+        ensures { result ≡ in_scope scope (is_named name.now) self.now.open_elems }
+    {
+        walks::is_in_scope(
+            self.open_elems.as_slice(),
+            scope,
+            Wanted::Named(class, name),
+        )
+    }
+
+    /// Elements are popped until one of a set was popped. The sink is not told.
+    pub fn pop_until(&mut self, set: TagSet)
+        ensures { self.new ≡ record self.old { open_elems = left_below (is_in set) self.old.open_elems } }
+    {
+        let left = walks::count_below(self.open_elems.as_slice(), Wanted::In(set));
+        self.open_elems.truncate(left);
+    }
+
+    /// Elements are popped until an HTML element of a name was popped; the name comes with its class. The sink is not told.
+    pub fn pop_until_named(&mut self, class: ElementClass, name: &LocalName)
+        requires { IsClassOf Html name.now class }
+        ensures { self.new ≡ record self.old { open_elems = left_below (is_named name.now) self.old.open_elems } }
+    {
+        let left = walks::count_below(self.open_elems.as_slice(), Wanted::Named(class, name));
+        self.open_elems.truncate(left);
+    }
+
+    /// Elements are popped until the current node is in a set ("clear the stack back to" a context, sections 13.2.6.4.9 and following).
+    /// The sink is not told.
+    pub fn pop_until_current(&mut self, set: TagSet)
+        ensures { self.new ≡ record self.old { open_elems = left_from (is_in set) self.old.open_elems } }
+    {
+        let left = walks::count_from(self.open_elems.as_slice(), Wanted::In(set));
+        self.open_elems.truncate(left);
+    }
+
+    /// The elements that were opened first stay, so many. The sink is not told.
+    pub fn truncate(&mut self, count: usize)
+        ensures { self.new ≡ record self.old { open_elems = reverse (take count (reverse self.old.open_elems)) } }
+    {
+        self.open_elems.truncate(count);
+    }
+
+    /// Entries leave the list from its end, up to and with the last marker ("clear the list of active formatting elements up to the last
+    /// marker", HTML Standard, section 13.2.4.3).
+    pub fn clear_active_formatting_to_marker(&mut self)
+        ensures { self.new ≡ record self.old { active_formatting = behind_marker self.old.active_formatting } }
+    {
+        let left = walks::count_to_marker(self.active_formatting.as_slice());
+        self.active_formatting.truncate(left);
+    }
+
+    /// The entries since the last marker, the newest first.
+    pub fn active_formatting_end_to_marker(&self) -> ActiveFormattingIter<'_, Sink::Handle>
+        ensures { entries_of Sink.node result.entries.now ≡ self.now.active_formatting }
+    {
+        ActiveFormattingIter::new(self.active_formatting.as_slice())
+    }
+
+    /// Whether the current node is wanted.
+    pub(crate) fn current_is(&self, wanted: Wanted<'_>) -> bool
+        requires { IsWanted wanted }
+        ensures { result ≡ current_is (passes wanted.entry) self.now.open_elems }
+    {
+        walks::is_last(self.open_elems.as_slice(), wanted)
+    }
+
+    /// Pops the current node, and tells the sink. Nothing is popped where nothing is open.
+    pub fn pop(&mut self, sink: &mut Sink) -> Option<OpenElement<Sink::Handle>>
+        requires { AreOpened (Sink.forest sink.old) self.old.open_elems }
+        ensures popped { MatchOption result (self.old.open_elems ≡ []) (λ element. self.old.open_elems ≡ open_of Sink.node element ∷ self.new.open_elems) }
+        ensures rest { self.new ≡ record self.old { open_elems = without_current self.old.open_elems } }
+        ensures same { Sink.forest sink.new ≡ Sink.forest sink.old }
+    {
+        let element = self.open_elems.pop()?;
+        sink.pop(&element.handle);
+        Some(element)
+    }
+
+    /// Whether the end tag of the current node is implied, and it is not excepted.
+    fn current_is_implied(&self, implied: TagSet, except: Wanted<'_>) -> bool
+        requires { IsWanted except }
+        ensures { result ≡ current_is (closes implied (passes except.entry)) self.now.open_elems }
+    {
+        self.current_is(Wanted::In(implied)) && !self.current_is(except)
+    }
+
+    /// Pops elements whose end tags are implied, up to one that is excepted, and tells the sink of each.
+    pub(crate) fn close_implied(&mut self, sink: &mut Sink, implied: TagSet, except: Wanted<'_>)
+        requires wanted { IsWanted except }
+        requires opened { AreOpened (Sink.forest sink.old) self.old.open_elems }
+        ensures left { self.new ≡ record self.old { open_elems = left_by_implied implied (passes except.entry) self.old.open_elems } }
+        ensures same { Sink.forest sink.new ≡ Sink.forest sink.old }
+    {
+        while self.current_is_implied(implied, except) {
+            drop(self.pop(sink));
+        }
+    }
+
+    /// Pops elements whose end tags are implied, and tells the sink of each ("generate implied end tags", HTML Standard, section 13.2.6.3;
+    /// thoroughly, by that set).
+    pub fn generate_implied_end_tags(&mut self, sink: &mut Sink, implied: TagSet)
+        requires { AreOpened (Sink.forest sink.old) self.old.open_elems }
+        ensures left { self.new ≡ record self.old { open_elems = left_by_implied implied nothing self.old.open_elems } }
+        ensures same { Sink.forest sink.new ≡ Sink.forest sink.old }
+    {
+        self.close_implied(sink, implied, Wanted::Nothing);
+    }
+
+    /// The same, except for HTML elements of a name, which comes with its class.
+    pub fn generate_implied_end_except(
+        &mut self,
+        sink: &mut Sink,
+        class: ElementClass,
+        name: &LocalName,
+    )
+        requires name { IsClassOf Html name.now class }
+        requires opened { AreOpened (Sink.forest sink.old) self.old.open_elems }
+        ensures left { self.new ≡ record self.old { open_elems = left_by_implied CursoryImpliedEnd (is_named name.now) self.old.open_elems } }
+        ensures same { Sink.forest sink.new ≡ Sink.forest sink.old }
+    {
+        self.close_implied(sink, TagSet::CursoryImpliedEnd, Wanted::Named(class, name));
+    }
+}

@@ -1,0 +1,204 @@
+//! The stack of open elements and the list of active formatting elements, over a forest.
+
+use html_forest::Forest;
+use html_stack::{
+    ElementClass, ElementName, FormatEntry, InsertionMode, OpenElement, Stack, TagSet,
+};
+use html_tokens::{Tag, TagKind};
+use markup::{
+    Attributes, ElementFlags, KnownNamespace, LocalName, Namespace, ParseFault, QualName, TreeSink,
+};
+use std::alloc::Global;
+use std::test::Fail;
+
+// A new element of the forest, opened. None is a template.
+fn open(
+    alloc: Global,
+    forest: &mut Forest,
+    stack: &mut Stack<Forest>,
+    namespace: KnownNamespace,
+    name: &str,
+) -> Result<(), ParseFault> {
+    let space = Namespace::from_known(namespace);
+    let local = LocalName::from_str(alloc, name)?;
+    let opened = ElementName::new(alloc, &space, &local)?;
+    let comment = forest.create_comment(markup::Text::from_str(alloc, name)?)?;
+    stack.push(OpenElement {
+        handle: comment,
+        name: opened,
+    })
+}
+
+fn tag(alloc: Global, name: &str) -> Result<Tag, ParseFault> {
+    Ok(Tag {
+        kind: TagKind::StartTag,
+        name: LocalName::from_str(alloc, name)?,
+        self_closing: false,
+        attrs: Attributes::new(alloc),
+        had_duplicate_attributes: false,
+    })
+}
+
+// HTML elements of these names are open.
+fn opened(alloc: Global, forest: &mut Forest, names: &[&str]) -> Result<Stack<Forest>, ParseFault> {
+    let mut stack = Stack::new(alloc);
+    for name in names {
+        open(alloc, forest, &mut stack, KnownNamespace::Html, name)?;
+    }
+    Ok(stack)
+}
+
+#[test]
+fn scopes_end_at_their_bounds(rt: HostRuntime) -> Result<(), Fail> {
+    let rows: &[(&[&str], TagSet, &str, bool)] = &[
+        (&["html", "body", "p"], TagSet::DefaultScope, "p", true),
+        (
+            &["html", "body", "p", "button"],
+            TagSet::DefaultScope,
+            "p",
+            true,
+        ),
+        (
+            &["html", "body", "p", "button"],
+            TagSet::ButtonScope,
+            "p",
+            false,
+        ),
+        (
+            &["html", "p", "table", "tr", "td"],
+            TagSet::DefaultScope,
+            "p",
+            false,
+        ),
+        (
+            &["html", "p", "table", "tr", "td"],
+            TagSet::DefaultScope,
+            "td",
+            true,
+        ),
+        (
+            &["html", "table", "tr", "p"],
+            TagSet::TableScope,
+            "tr",
+            true,
+        ),
+        (
+            &["html", "table", "template", "p"],
+            TagSet::TableScope,
+            "table",
+            false,
+        ),
+        (
+            &["html", "ul", "li", "ul"],
+            TagSet::ListItemScope,
+            "li",
+            false,
+        ),
+        (
+            &["html", "my-tag", "b"],
+            TagSet::DefaultScope,
+            "my-tag",
+            true,
+        ),
+        (
+            &["html", "my-tag", "b"],
+            TagSet::DefaultScope,
+            "my-other",
+            false,
+        ),
+        (&["html"], TagSet::DefaultScope, "html", true),
+        (&[], TagSet::DefaultScope, "html", false),
+    ];
+    for (names, scope, name, want) in rows {
+        let mut forest = Forest::new(rt.alloc())?;
+        let stack = opened(rt.alloc(), &mut forest, names)?;
+        let name = LocalName::from_str(rt.alloc(), name)?;
+        let class = ElementClass::html(&name);
+        assert_eq!(rt; stack.in_scope_named(*scope, class, &name), *want);
+    }
+    Ok(())
+}
+
+#[test]
+fn sets_are_looked_for_in_scope(rt: HostRuntime) -> Result<(), Fail> {
+    let mut forest = Forest::new(rt.alloc())?;
+    let mut stack = opened(rt.alloc(), &mut forest, &["html", "body", "h2", "b"])?;
+    assert!(rt; stack.in_scope(TagSet::DefaultScope, TagSet::HeadingTag));
+    assert!(rt; !stack.in_scope(TagSet::DefaultScope, TagSet::TdTh));
+    open(
+        rt.alloc(),
+        &mut forest,
+        &mut stack,
+        KnownNamespace::Svg,
+        "desc",
+    )?;
+    assert!(rt; !stack.in_scope(TagSet::DefaultScope, TagSet::HeadingTag));
+    assert!(rt; stack.in_scope(TagSet::TableScope, TagSet::HeadingTag));
+    Ok(())
+}
+
+#[test]
+fn elements_leave_the_stack(rt: HostRuntime) -> Result<(), Fail> {
+    let names: &[&str] = &["html", "body", "table", "tbody", "tr", "td"];
+    let mut forest = Forest::new(rt.alloc())?;
+    let mut stack = opened(rt.alloc(), &mut forest, names)?;
+    stack.pop_until(TagSet::TdTh);
+    assert_eq!(rt; stack.open_elems().len(), 5);
+    stack.pop_until_current(TagSet::TableScope);
+    assert_eq!(rt; stack.open_elems().len(), 3);
+    let body = LocalName::from_str(rt.alloc(), "body")?;
+    stack.pop_until_named(ElementClass::html(&body), &body);
+    assert_eq!(rt; stack.open_elems().len(), 1);
+    stack.truncate(4);
+    assert_eq!(rt; stack.open_elems().len(), 1);
+    let mut longer = opened(rt.alloc(), &mut forest, names)?;
+    longer.truncate(2);
+    assert_eq!(rt; longer.open_elems().len(), 2);
+    Ok(())
+}
+
+#[test]
+fn entries_since_the_marker_come_newest_first(rt: HostRuntime) -> Result<(), Fail> {
+    let mut forest = Forest::new(rt.alloc())?;
+    let mut stack = opened(rt.alloc(), &mut forest, &["html", "body", "b"])?;
+    let Some(body) = stack.open_elems().get(1) else {
+        return Ok(());
+    };
+    assert!(rt; body.name.is_in(TagSet::Body));
+    stack.push_marker()?;
+    stack.list_current(tag(rt.alloc(), "b")?)?;
+    open(
+        rt.alloc(),
+        &mut forest,
+        &mut stack,
+        KnownNamespace::Html,
+        "i",
+    )?;
+    if stack.open_elems().is_empty() {
+        return Ok(());
+    }
+    stack.list_current(tag(rt.alloc(), "i")?)?;
+    let mut entries = stack.active_formatting_end_to_marker();
+    for (place, _, tag) in stack.active_formatting_end_to_marker() {
+        assert!(rt; (place == 2 && tag.name.is("i")) || (place == 1 && tag.name.is("b")));
+    }
+    assert!(rt; entries.next().is_some_and(|entry| entry.0 == 2));
+    assert!(rt; entries.next().is_some_and(|entry| entry.0 == 1));
+    assert!(rt; entries.next().is_none());
+    assert!(rt; entries.next().is_none());
+    stack.clear_active_formatting_to_marker();
+    assert!(rt; stack.active_formatting().is_empty());
+    Ok(())
+}
+
+#[test]
+fn template_modes_are_a_stack(rt: HostRuntime) -> Result<(), Fail> {
+    let mut stack: Stack<Forest> = Stack::new(rt.alloc());
+    stack.push_template_mode(InsertionMode::InTemplate)?;
+    stack.push_template_mode(InsertionMode::InTable)?;
+    assert_eq!(rt; stack.template_modes().len(), 2);
+    assert_eq!(rt; stack.pop_template_mode(), Some(InsertionMode::InTable));
+    assert_eq!(rt; stack.pop_template_mode(), Some(InsertionMode::InTemplate));
+    assert_eq!(rt; stack.pop_template_mode(), None);
+    Ok(())
+}
