@@ -5,6 +5,7 @@ ghost use Rattle.html_forest.specs.Views.{contents_in, data_view, joined_if, pla
 
 use crate::children::Children;
 use crate::node::{Node, NodeData, NodeId, Place};
+use crate::plain;
 use crate::nodes::{
     add_attributes, add_node, join_text, link_between, links, move_children, unlink,
 };
@@ -38,6 +39,7 @@ impl Model for Forest {
 
 impl Forest {
     ghost use Rattle.markup.specs.Names.{is_html_name};
+    ghost use Rattle.html_plain.specs.Grammar.{is_plain_forest};
     ghost use Rattle.markup.specs.Named.{HasContents, IsOrdinary};
     ghost use Rattle.markup.specs.Forest.NodeData.{Contents, Element};
     ghost use Rattle.markup.specs.Forest.{IsForest, IsLoose, IsPlace, MayPut, children_of, contents_of, data_if, data_of, empty_forest, node_count, parent_at, parent_of, place_before, place_near, previous_at, put, put_child, put_new, put_text, text_of, with_node};
@@ -126,6 +128,17 @@ impl Forest {
         ensures contents { HasContents self.now }
     {
         let _nodes = &self.nodes;
+    }
+
+    /// Whether the document is plain, so that its written text is read back as it is: the plain grammar has its tree. The walk
+    /// is a loop that keeps what waits in memory, a few words for each level. Time grows with the number of nodes and
+    /// characters.
+    pub fn is_plain(&self) -> Result<bool, ParseFault>
+        ensures ok { IfOk result (λ plain. plain ≡ is_plain_forest self.now) }
+        ensures fault { IfErr result (λ fault. fault ≡ Memory) }
+    {
+        let _nodes = &self.nodes;
+        plain::is_plain(self, self.alloc, NodeId::new(0))
     }
 
     /// Makes a node that is no template.

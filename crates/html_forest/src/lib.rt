@@ -6,6 +6,7 @@ mod forest;
 mod link;
 mod node;
 mod nodes;
+mod plain;
 mod walk;
 
 pub use children::Children;

@@ -8,6 +8,7 @@ use Rattle.markup.specs.Forest as forest
 use Rattle.markup.specs.Forest.{Above, Forest, IsForest, NodeData, above_of, children_of, data_of, is_among, is_contents, node_count, parent_of, template_of}
 use Rattle.markup.specs.Forest.Above.{here, further}
 use Rattle.markup.specs.Named.{HasContents}
+use Rattle.markup.specs.NodeCounts.{count_each, count_within, nodes_in}
 use Rattle.markup.specs.Trees.{Trees, Nothing, Text, Comment, ProcessingInstruction, Doctype, Element, inner_of, node_before, nodes_before, trees_before, trees_within}
 use Rattle.markup.proofs.Parents.{above-IsNode}
 use Rattle.markup.proofs.Walks.{Above-child}
@@ -162,3 +163,38 @@ none-by f (suc count) rest = refl
 -- and end with what stands behind the last
 pub trees-none : (f : Forest) (rest : Trees) → trees_before f [] rest ≡ rest
 trees-none f rest = none-by f (node_count f) rest
+
+-- HOW MANY
+
+each-same : (f : Forest) (g h : List ℕ → ℕ) (ns : List ℕ) → ((n : ℕ) → is_among n ns ≡ true → g (inner_of f n) ≡ h (inner_of f n)) → count_each g f ns ≡ count_each h f ns
+each-same f g h [] same = refl
+each-same f g h (n ∷ ns) same =
+    ap (λ k. suc (k + count_each g f ns)) (same n (among-first n ns)) ∙ ap (λ k. suc (h (inner_of f n) + k)) (each-same f g h ns (λ m among. same m (among-later m n ns among)))
+
+count-same : (f : Forest) (l k : ℕ) (ns : List ℕ) → ((n : ℕ) → is_among n ns ≡ true → Within f l n) → l ≤ k → count_within l f ns ≡ count_within k f ns
+unfolding count_within
+count-same f zero zero ns h le = refl
+count-same f zero (suc k) [] h le = refl
+count-same f zero (suc k) (n ∷ ns) h le = absurd (h n (among-first n ns))
+count-same f (suc l) zero ns h le = absurd (omega (arith, le))
+count-same f (suc l) (suc k) ns h le = each-same f (count_within l f) (count_within k f) ns (λ n among. count-same f l k (inner_of f n) (h n among) (omega (arith, le)))
+
+count-by : (f : Forest) → IsForest f → HasContents f → (count : ℕ) → node_count f ≡ count → (n : ℕ) (ns : List ℕ) → count_within count f (n ∷ ns) ≡ suc (count_within count f (inner_of f n) + count_within count f ns)
+unfolding count_within
+count-by f is contents zero e n ns = absurd (let some = is.document in omega (arith, some, e))
+count-by f is contents (suc l) e n ns =
+    let fits : node_count f ≤ suc l + length {A = ℕ} [] = omega (arith, e) in
+    let all : (m : ℕ) → is_among m (inner_of f n) ≡ true → Within f l m = inner-deep f is contents l n [] start fits (λ m ms line there fits'. deep f is contents l m ms line there fits') _ refl in
+    ap (λ k. suc (k + count_each (count_within l f) f ns)) (count-same f l (suc l) (inner_of f n) all (omega arith))
+
+-- a node more is itself and those in it
+pub nodes-first : (f : Forest) → IsForest f → HasContents f → (n : ℕ) (ns : List ℕ) → nodes_in f (n ∷ ns) ≡ suc (nodes_in f (inner_of f n) + nodes_in f ns)
+nodes-first f is contents n ns = count-by f is contents (node_count f) refl n ns
+
+no-count : (f : Forest) (count : ℕ) → count_within count f [] ≡ 0
+unfolding count_within
+no-count f zero = refl
+no-count f (suc count) = refl
+
+pub nodes-none : (f : Forest) → nodes_in f [] ≡ 0
+nodes-none f = no-count f (node_count f)

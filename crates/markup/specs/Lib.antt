@@ -13,3 +13,4 @@ pub mod Escape
 pub mod Trees
 pub mod WrittenRows
 pub mod Calls
+pub mod NodeCounts
