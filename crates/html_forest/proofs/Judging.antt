@@ -1,21 +1,20 @@
 -- What is left to judge, behind a node.
 use Rattle.std.proofs.Common.{◌≡◌, ◌∙◌, ◌+◌, ◌<◌, ℕ, suc, arith, length, Bool, true, false, List, [], ◌∷◌, ◌++◌, Option, Some, None, refl, sym, ap}
-use Rattle.std.specs.Prelude.{◌&&◌, not, reverse}
+use Rattle.std.specs.Prelude.{◌&&◌, reverse}
 use Rattle.std.proofs.lemmas.List.{reverse-append}
 use Rattle.markup.specs.Forest as forest
 use Rattle.markup.specs.Forest.{Forest, children_of, data_of, template_of}
 use Rattle.markup.specs.Named.{IsTree}
 use Rattle.markup.specs.NodeCounts.{nodes_in}
 use Rattle.markup.proofs.WholeTrees.{trees-first, trees-none, nodes-first, nodes-none}
-use Rattle.markup.specs.Trees.{Trees, Nothing, Text, Comment, ProcessingInstruction, Doctype, Element, inner_of, node_before, trees_before}
+use Rattle.markup.specs.Trees.{Trees, Nothing, Comment, ProcessingInstruction, Element, inner_of, node_before, trees_before}
 use Rattle.markup.specs.declared.attributes.Attribute.{Attribute}
 use Rattle.markup.specs.declared.names.QualName.{QualName}
 use Rattle.html_plain.specs.Elements.{behind_element, behind_text, element_of, inside, may_end}
 use Rattle.html_plain.specs.Grammar.{is_plain, is_plain_start, is_some_and}
 use Rattle.html_plain.specs.declared.elements.PlainElement.{PlainElement}
 use Rattle.html_plain.specs.declared.place.Place.TheVariants.{BeforeRoot}
-use Rattle.html_forest.specs.Judging.{AreChildrenTaken, Descends, GoesOn, IsAround, IsAscent, IsBehindDoctype, IsBehindText, IsElementTaken, IsTaken, Walk, are_levels_plain, is_left_plain, is_walk_plain, nodes_left, plain_by, trees_behind, trees_by, waiting_nodes, around_of, both_at, goes_on_at, is_plain_at, opens_here, takes_here}
-use Rattle.html_forest.specs.declared.plain.Around.{Around}
+use Rattle.html_forest.specs.Judging.{AreChildrenTaken, Descends, GoesOn, IsAround, IsAscent, IsBehindDoctype, IsBehindText, IsElementTaken, IsTaken, Walk, are_levels_plain, is_left_plain, is_walk_plain, nodes_left, plain_by, trees_behind, trees_by, waiting_nodes, around_of, goes_on_at, is_plain_at, opens_here, takes_here}
 use Rattle.html_forest.specs.declared.plain.Level.{Level}
 use Rattle.html_forest.specs.declared.plain.Stand.{Stand}
 

@@ -4,17 +4,17 @@ use Rattle.std.proofs.lemmas.List.{length-set, get_or-set_same, get_or-set_other
 use Rattle.std.proofs.lemmas.Bool.{cases_eq, cases_Bool, cases_lt}
 use Rattle.markup.specs.Names.{is_html_name}
 use Rattle.markup.specs.Named.{IsOrdinary}
-use Rattle.markup.specs.Forest.{Above, above_of, Forest, IsForest, IsLoose, IsPlace, NodeData, Place, add_attributes, children_of, contents_of, data_of, element_name, empty_forest, is_among, is_contents, last_of, children_with, node_count, parent_at, parent_of, previous_at, previous_in, put, put_new, remove, template_of, text_of, with_attributes, with_data, with_node, without}
+use Rattle.markup.specs.Forest.{Above, above_of, Forest, IsForest, IsLoose, IsPlace, NodeData, Place, add_attributes, children_of, contents_of, data_of, element_name, empty_forest, is_among, is_contents, last_of, children_with, node_count, parent_at, parent_of, previous_at, previous_in, put, remove, template_of, text_of, with_attributes, with_data, with_node, without}
 use Rattle.markup.specs.Forest.Above.{here}
 use Rattle.markup.specs.Forest.NodeData.{Contents, Element, Text}
 use Rattle.markup.specs.declared.names.QualName.{QualName}
 use Rattle.markup.specs.declared.attributes.Attribute.{Attribute}
 use Rattle.markup.specs.declared.quirks.QuirksMode.{QuirksMode}
-use Rattle.markup.proofs.Parents.{children_of-past, children_of-with_node, data_of-past, data_of-with_data, data_of-with_data_other, data_of-with_node_new, data_of-with_node_old, is_among-parent, node_count-with_node, no_parent-from_loose, parent_of-none, parent_of-past, parent_of-with_node}
+use Rattle.markup.proofs.Parents.{children_of-with_node, data_of-past, data_of-with_data, data_of-with_data_other, data_of-with_node_new, data_of-with_node_old, is_among-parent, node_count-with_node, no_parent-from_loose, parent_of-none, parent_of-with_node}
 use Rattle.markup.proofs.Children.{without-absent}
 use Rattle.markup.proofs.Walks.{Above-child}
-use Rattle.markup.proofs.Forests.{IsForest-empty, IsForest-same_nodes, IsForest-with_node, IsInPlace, IsMade, IsMade-with_node, IsParent-place, IsPutAt, IsPutAt-put, IsRemoved, IsRemoved-remove}
-use Rattle.markup.proofs.PutTexts.{IsInPlace-add_attributes, IsInPlace-text, IsPlace-with_node, text-IsNode, text_of-is}
+use Rattle.markup.proofs.Forests.{IsForest-empty, IsForest-same_nodes, IsForest-with_node, IsInPlace, IsPutAt, IsPutAt-put, IsRemoved, IsRemoved-remove}
+use Rattle.markup.proofs.PutTexts.{IsInPlace-add_attributes, IsInPlace-text, text-IsNode, text_of-is}
 use Rattle.markup.proofs.TemplateContents.{HasContents-empty, HasContents-same_data, HasContents-with_data, HasContents-with_node, HasContents-with_template, IsAlike, IsAlike-with_attributes}
 use Rattle.html_forest.specs.Links.{Links, after_in, before_in, first_of, link_at, links_at, next_in, next_under, no_links, placed, previous_under, unplaced}
 use Rattle.html_forest.specs.Views.{About, IsKept, about_at, about_with, no_about}

@@ -6,7 +6,7 @@ use Rattle.markup.specs.Trees.{Trees, Nothing, Text, Doctype, Element, trees_bef
 use Rattle.markup.specs.declared.attributes.Attribute.{Attribute}
 use Rattle.markup.specs.declared.names.QualName.{QualName}
 use Rattle.html_plain.specs.Elements.{behind_element, inside, may_end, text_kind}
-use Rattle.html_plain.specs.Grammar.{is_first, is_plain, is_plain_doctype, is_plain_start, is_plain_text, takes_text}
+use Rattle.html_plain.specs.Grammar.{is_first, is_plain, is_plain_doctype, is_plain_text, takes_text}
 use Rattle.html_plain.specs.declared.elements.PlainElement.{PlainElement}
 use Rattle.html_forest.specs.declared.plain.Around.{Around}
 use Rattle.html_forest.specs.declared.plain.Level.{Level}

@@ -5,10 +5,10 @@ ghost use Rattle.html_forest.specs.Views.{contents_in, data_view, joined_if, pla
 
 use crate::children::Children;
 use crate::node::{Node, NodeData, NodeId, Place};
-use crate::plain;
 use crate::nodes::{
     add_attributes, add_node, join_text, link_between, links, move_children, unlink,
 };
+use crate::plain;
 use markup::{
     Attribute, Attributes, ElementFlags, NodeOrText, ParseFault, QualName, QuirksMode, Text,
     TreeSink,

@@ -242,24 +242,30 @@ impl<'a> Judge<'a> {
                 let behind = self.stand.behind_text(text);
                 Ok(self.go_on(behind))
             }
-            Some(NodeData::Doctype {
-                name,
-                public_id,
-                system_id,
-            }) => {
+            Some(
+                NodeData::Doctype {
+                    name,
+                    public_id,
+                    system_id,
+                },
+            ) => {
                 let behind = self.stand.behind_doctype(name, public_id, system_id);
                 Ok(self.go_on(behind))
             }
-            Some(NodeData::Element {
-                name,
-                attrs,
-                template_contents: None,
-                ..
-            }) => self.take_element(forest, alloc, id, name, attrs),
-            Some(NodeData::Element {
-                template_contents: Some(_),
-                ..
-            }) => Ok(false),
+            Some(
+                NodeData::Element {
+                    name,
+                    attrs,
+                    template_contents: None,
+                    ..
+                },
+            ) => self.take_element(forest, alloc, id, name, attrs),
+            Some(
+                NodeData::Element {
+                    template_contents: Some(_),
+                    ..
+                },
+            ) => Ok(false),
             Some(NodeData::Comment(_)) => Ok(false),
             Some(NodeData::ProcessingInstruction { .. }) => Ok(false),
             Some(NodeData::Document) => self.take_children(forest, id),

@@ -2,6 +2,7 @@
 mod both;
 mod conditions;
 mod hooks;
+mod judged;
 mod plain;
 mod refused;
 mod rows;

@@ -1,4 +1,4 @@
-use Rattle.std.proofs.Common.{◌≡◌, ◌∙◌, sym, ap, refl}
+use Rattle.std.proofs.Common.{◌∙◌, sym, ap}
 use Rattle.html_forest.proofs.Judging.{ended, ascent-odd, ascent-kept, ascent-less, none-left}
 use Rattle.html_forest.proofs.plain.is_plain.Goals as goal
 

@@ -1,4 +1,4 @@
-use Rattle.std.proofs.Common.{◌≡◌, ◌∙◌, true, sym, ap, subst, Some}
+use Rattle.std.proofs.Common.{◌∙◌, sym, subst, Some}
 use Rattle.html_forest.specs.Judging.{IsAround}
 use Rattle.html_forest.proofs.Judging.{element-goes_on, element-ends, no-element}
 use Rattle.html_forest.proofs.plain.Stand.around.Goals as goal

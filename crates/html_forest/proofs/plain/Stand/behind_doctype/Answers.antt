@@ -1,4 +1,4 @@
-use Rattle.std.proofs.Common.{◌≡◌, ◌∙◌, sym}
+use Rattle.std.proofs.Common.{◌∙◌, sym}
 use Rattle.html_forest.proofs.Judging.{doctype-goes_on, doctype-ends}
 use Rattle.html_forest.proofs.plain.Stand.behind_doctype.Goals as goal
 

@@ -1,4 +1,4 @@
-use Rattle.std.proofs.Common.{◌≡◌, ◌∙◌, true, sym, ap}
+use Rattle.std.proofs.Common.{◌∙◌, true, sym, ap}
 use Rattle.html_plain.specs.Grammar.{is_plain}
 use Rattle.html_forest.proofs.Judging.{text-goes_on, text-ends}
 use Rattle.html_forest.proofs.plain.Stand.behind_text.Goals as goal
