@@ -137,7 +137,7 @@ pub record IsCut (n : ℕ) (block : Open) (xs : List Open) (x : Open) : Type 0 w
   pub parts : xs ≡ opened_after n xs ++ x ∷ opened_before n xs
   pub part : IsPart (opened_after block.number xs ++ block ∷ x ∷ opened_before n xs) xs
 
-split-part : (n : ℕ) (xs : List Open) (x : Open) → IsSplit n xs x → IsPart (x ∷ opened_before n xs) xs
+pub split-part : (n : ℕ) (xs : List Open) (x : Open) → IsSplit n xs x → IsPart (x ∷ opened_before n xs) xs
 split-part n xs x is = subst (λ ys. IsPart (x ∷ opened_before n xs) ys) (sym is.parts) (part-behind (opened_after n xs) (x ∷ opened_before n xs)) where
   part-behind : (xs ys : List Open) → IsPart ys (xs ++ ys)
   part-behind [] ys = part-same ys
@@ -146,7 +146,7 @@ split-part n xs x is = subst (λ ys. IsPart (x ∷ opened_before n xs) ys) (sym 
 none-some : (x : Open) → None ≡ Some x → ⊥
 none-some x e = cc
 
-special-is : (b : Bool) (x block : Open) → choose b (λ _. Some x) (λ _. None) ≡ Some block → x ≡ block
+pub special-is : (b : Bool) (x block : Open) → choose b (λ _. Some x) (λ _. None) ≡ Some block → x ≡ block
 special-is true x block e = some-is x block e where
   some-is : (x y : Open) → Some x ≡ Some y → x ≡ y
   some-is x y e = cc

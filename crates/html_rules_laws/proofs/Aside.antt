@@ -40,106 +40,106 @@ pub record IsAside (s r : State) : Type 0 where
 abbrev pub Asides : (State → State) → Type 0
 Asides f = (s : State) → IsAside s (f s)
 
-same : (s : State) → IsAside s s
+pub same : (s : State) → IsAside s s
 same s = record { mode = refl; original = refl; modes = refl; head = refl; context = refl; ended = refl }
 
 -- another tree, other open elements, another list, other flags
-other : (s : State) (f : Forest) (xs : List Open) (entries : List Entry) (ok foster : Bool) → IsAside s (record s { forest = f; open_elems = xs; active_formatting = entries; frameset_ok = ok; foster_parenting = foster })
+pub other : (s : State) (f : Forest) (xs : List Open) (entries : List Entry) (ok foster : Bool) → IsAside s (record s { forest = f; open_elems = xs; active_formatting = entries; frameset_ok = ok; foster_parenting = foster })
 other s f xs entries ok foster = record { mode = refl; original = refl; modes = refl; head = refl; context = refl; ended = refl }
 
-after : (s r q : State) → IsAside s r → IsAside r q → IsAside s q
+pub after : (s r q : State) → IsAside s r → IsAside r q → IsAside s q
 after s r q h k = record { mode = k.mode ∙ h.mode; original = k.original ∙ h.original; modes = k.modes ∙ h.modes; head = k.head ∙ h.head; context = k.context ∙ h.context; ended = k.ended ∙ h.ended }
 
-either : (b : Bool) (s x y : State) → IsAside s x → IsAside s y → IsAside s (choose b (λ _. x) (λ _. y))
+pub either : (b : Bool) (s x y : State) → IsAside s x → IsAside s y → IsAside s (choose b (λ _. x) (λ _. y))
 either true s x y h k = h
 either false s x y h k = k
 
-parse_error-Aside : Asides parse_error
+pub parse_error-Aside : Asides parse_error
 unfolding parse_error
 parse_error-Aside s = other s _ _ _ _ _
 
-pop-Aside : Asides pop
+pub pop-Aside : Asides pop
 unfolding pop
 pop-Aside s = other s _ _ _ _ _
 
-pop_until-Aside : (p : Open → Bool) → Asides (pop_until p)
+pub pop_until-Aside : (p : Open → Bool) → Asides (pop_until p)
 unfolding pop_until
 pop_until-Aside p s = other s _ _ _ _ _
 
-pop_until_current-Aside : (p : Open → Bool) → Asides (pop_until_current p)
+pub pop_until_current-Aside : (p : Open → Bool) → Asides (pop_until_current p)
 unfolding pop_until_current
 pop_until_current-Aside p s = other s _ _ _ _ _
 
-expect_to_close-Aside : (p : Open → Bool) → Asides (expect_to_close p)
+pub expect_to_close-Aside : (p : Open → Bool) → Asides (expect_to_close p)
 unfolding expect_to_close
 expect_to_close-Aside p s = either (current_is p s.open_elems) s _ _ (pop_until-Aside p s) (after s _ _ (parse_error-Aside s) (pop_until-Aside p (parse_error s)))
 
-except-Aside : (except : Open → Bool) → Asides (generate_implied_end_except except)
+pub except-Aside : (except : Open → Bool) → Asides (generate_implied_end_except except)
 unfolding generate_implied_end_except
 except-Aside except s = other s _ _ _ _ _
 
-remove-Aside : (n : ℕ) → Asides (remove_from_stack n)
+pub remove-Aside : (n : ℕ) → Asides (remove_from_stack n)
 unfolding remove_from_stack
 remove-Aside n s = other s _ _ _ _ _
 
-close_p-Aside : Asides close_p_element_in_button_scope
+pub close_p-Aside : Asides close_p_element_in_button_scope
 unfolding close_p_element_in_button_scope close_p_element
 close_p-Aside s = either (in_scope set.ButtonScope (is_in set.P) s.open_elems) s _ s (after s _ _ (except-Aside (is_in set.P) s) (expect_to_close-Aside (is_in set.P) _)) (same s)
 
-close_named-Aside : (o : Option (List ℕ)) → Asides (close_item_named o)
+pub close_named-Aside : (o : Option (List ℕ)) → Asides (close_item_named o)
 close_named-Aside None s = same s
 close_named-Aside (Some name) s = after s _ _ (except-Aside (is_named name) s) (expect_to_close-Aside (is_named name) _)
 
-close_item-Aside : (items : TagSet) → Asides (close_item items)
+pub close_item-Aside : (items : TagSet) → Asides (close_item items)
 unfolding close_item
 close_item-Aside items s = close_named-Aside (item_name items s.open_elems) s
 
-generic-Aside : (name : List ℕ) → Asides (process_end_tag_in_body name)
+pub generic-Aside : (name : List ℕ) → Asides (process_end_tag_in_body name)
 unfolding process_end_tag_in_body
 generic-Aside name s =
     either (finds_generic (is_named name) s.open_elems) s _ _ (after s _ _ (except-Aside (is_named name) s) (expect_to_close-Aside (is_named name) _)) (parse_error-Aside s)
 
-check-Aside : Asides check_body_end
+pub check-Aside : Asides check_body_end
 unfolding check_body_end
 check-Aside s = either (list_all (is_in set.BodyEnd) s.open_elems) s s _ (same s) (parse_error-Aside s)
 
-append_text-Aside : (text : List ℕ) → Asides (append_text text)
+pub append_text-Aside : (text : List ℕ) → Asides (append_text text)
 unfolding append_text
 append_text-Aside text s = other s _ _ _ _ _
 
-put_element-Aside : (namespace : Namespace) (name : List ℕ) (attributes : List Attribute) (dup : Bool) → Asides (put_element namespace name attributes dup)
+pub put_element-Aside : (namespace : Namespace) (name : List ℕ) (attributes : List Attribute) (dup : Bool) → Asides (put_element namespace name attributes dup)
 unfolding put_element
 put_element-Aside namespace name attributes dup s = other s _ _ _ _ _
 
-insert_element-Aside : (namespace : Namespace) (name : List ℕ) (attributes : List Attribute) (dup : Bool) → Asides (insert_element namespace name attributes dup)
+pub insert_element-Aside : (namespace : Namespace) (name : List ℕ) (attributes : List Attribute) (dup : Bool) → Asides (insert_element namespace name attributes dup)
 unfolding insert_element
 insert_element-Aside namespace name attributes dup s = other s _ _ _ _ _
 
-insert-Aside : (tag : Tag) → Asides (insert_element_for tag)
+pub insert-Aside : (tag : Tag) → Asides (insert_element_for tag)
 insert-Aside tag s = insert_element-Aside Html tag.name tag.attrs tag.had_duplicate_attributes s
 
-list-Aside : (tag : Tag) → Asides (λ s. list_current tag (insert_element_for tag s))
+pub list-Aside : (tag : Tag) → Asides (λ s. list_current tag (insert_element_for tag s))
 list-Aside tag s = after s (insert_element_for tag s) _ (insert-Aside tag s) (other (insert_element_for tag s) _ _ _ _ _)
 
-reopen-Aside : (entries : List Entry) → Asides (reopen entries)
+pub reopen-Aside : (entries : List Entry) → Asides (reopen entries)
 reopen-Aside [] s = other s _ _ _ _ _
 reopen-Aside (Marker ∷ entries) s = other s _ _ _ _ _
 reopen-Aside (Element n tag ∷ entries) s = either (is_open n s.open_elems) s _ _ (other s _ _ _ _ _) (after s _ _ (reopen-Aside entries s) (list-Aside tag (reopen entries s)))
 
-reconstruct-Aside : Asides reconstruct_active_formatting_elements
+pub reconstruct-Aside : Asides reconstruct_active_formatting_elements
 unfolding reconstruct_active_formatting_elements
 reconstruct-Aside s = reopen-Aside s.active_formatting s
 
 -- the adoption agency
 
-from-Aside : (fe : Listed) (o : Option Open) (s : State) → IsAside s (adopt_from fe o s).state
+pub from-Aside : (fe : Listed) (o : Option Open) (s : State) → IsAside s (adopt_from fe o s).state
 from-Aside fe None s = other s _ _ _ _ _
 from-Aside fe (Some block) s = other s _ _ _ _ _
 
-error-Aside : (fe : Listed) → Asides (error_if_not_current fe)
+pub error-Aside : (fe : Listed) → Asides (error_if_not_current fe)
 error-Aside fe s = either (current_is (is_number fe.number) s.open_elems) s s _ (same s) (parse_error-Aside s)
 
-listed-Aside : (o : Option Listed) (name : List ℕ) (s : State) → IsAside s (adopt_listed o name s).state
+pub listed-Aside : (o : Option Listed) (name : List ℕ) (s : State) → IsAside s (adopt_listed o name s).state
 listed-Aside None name s = generic-Aside name s
 listed-Aside (Some fe) name s = by (is_open fe.number s.open_elems) (in_scope set.DefaultScope (is_number fe.number) s.open_elems) where
   by : (a b : Bool) → IsAside s (choose (not a) (λ _. record { state = unlist fe (parse_error s); goes_on = false }) (λ _. choose (not b) (λ _. record { state = parse_error s; goes_on = false }) (λ _. adopt_open fe s))).state
@@ -147,18 +147,18 @@ listed-Aside (Some fe) name s = by (is_open fe.number s.open_elems) (in_scope se
   by true false = parse_error-Aside s
   by true true = after s _ _ (error-Aside fe s) (from-Aside fe (furthest_block (opened_after fe.number s.open_elems)) (error_if_not_current fe s))
 
-turns-Aside : (n : ℕ) (name : List ℕ) → Asides (adoption_turns n name)
+pub turns-Aside : (n : ℕ) (name : List ℕ) → Asides (adoption_turns n name)
 unfolding adoption_turns adoption_turn
 turns-Aside zero name s = same s
 turns-Aside (suc n) name s =
     let turned = listed-Aside (last_named name s.active_formatting) name s in
     either (adoption_turn name s).goes_on s _ _ (after s _ _ turned (turns-Aside n name (adoption_turn name s).state)) turned
 
-agency-Aside : (name : List ℕ) → Asides (adoption_agency name)
+pub agency-Aside : (name : List ℕ) → Asides (adoption_agency name)
 unfolding adoption_agency
 agency-Aside name s = either (current_is (is_named name) s.open_elems && not (is_listed (current_number s.open_elems) s.active_formatting)) s _ _ (pop-Aside s) (turns-Aside 8 name s)
 
-misnested-Aside : (o : Option Listed) → Asides (close_misnested o)
+pub misnested-Aside : (o : Option Listed) → Asides (close_misnested o)
 misnested-Aside None s = same s
 misnested-Aside (Some a) s =
     let closed : State = adoption_agency (codes "a") (parse_error s) in
@@ -166,55 +166,55 @@ misnested-Aside (Some a) s =
 
 -- other steps
 
-body-Aside : (o : Option ℕ) (attributes : List Attribute) → Asides (add_attributes_to o attributes)
+pub body-Aside : (o : Option ℕ) (attributes : List Attribute) → Asides (add_attributes_to o attributes)
 body-Aside None attributes s = same s
 body-Aside (Some n) attributes s = other s _ _ _ _ _
 
-remove_if-Aside : (o : Option ℕ) → Asides (remove_if o)
+pub remove_if-Aside : (o : Option ℕ) → Asides (remove_if o)
 remove_if-Aside None s = same s
 remove_if-Aside (Some n) s = other s _ _ _ _ _
 
-unopened-Aside : (o : Option ℕ) → Asides (remove_from_stack_if o)
+pub unopened-Aside : (o : Option ℕ) → Asides (remove_from_stack_if o)
 unopened-Aside None s = same s
 unopened-Aside (Some n) s = remove-Aside n s
 
-push_head-Aside : (o : Option ℕ) → Asides (push_head o)
+pub push_head-Aside : (o : Option ℕ) → Asides (push_head o)
 push_head-Aside None s = same s
 push_head-Aside (Some n) s = other s _ _ _ _ _
 
-enter-Aside : (namespace : Namespace) (tag : Tag) → Asides (enter_foreign namespace tag)
+pub enter-Aside : (namespace : Namespace) (tag : Tag) → Asides (enter_foreign namespace tag)
 unfolding enter_foreign
 enter-Aside namespace tag s = either tag.self_closing s _ _ (put_element-Aside namespace tag.name _ tag.had_duplicate_attributes s) (insert_element-Aside namespace tag.name _ tag.had_duplicate_attributes s)
 
-foreign-Aside : (o : Option Open) (tag : Tag) → Asides (foreign_start_at o tag)
+pub foreign-Aside : (o : Option Open) (tag : Tag) → Asides (foreign_start_at o tag)
 foreign-Aside None tag s = same s
 foreign-Aside (Some x) tag s = enter-Aside x.namespace _ s
 
-close_by-Aside : (e : ForeignEnd) → Asides (close_foreign_by e)
+pub close_by-Aside : (e : ForeignEnd) → Asides (close_foreign_by e)
 close_by-Aside Dropped s = same s
 close_by-Aside AsInMode s = same s
 close_by-Aside (Closed left) s = other s _ _ _ _ _
 
-attach-Aside : (tag : Tag) (host : ℕ) → Asides (attach_shadow_root tag host)
+pub attach-Aside : (tag : Tag) (host : ℕ) → Asides (attach_shadow_root tag host)
 attach-Aside tag host s = either (s.answers.attaches_shadow (with_errors 0 s.forest) host (current_number s.open_elems) tag.attrs) s s _ (same s) (after s _ _ (pop-Aside s) (insert-Aside tag (pop s)))
 
-open-Aside : (tag : Tag) → Asides (open_element Html tag.name tag.attrs tag.had_duplicate_attributes)
+pub open-Aside : (tag : Tag) → Asides (open_element Html tag.name tag.attrs tag.had_duplicate_attributes)
 unfolding open_element
 open-Aside tag s = other s _ _ _ _ _
 
-template-Aside : (tag : Tag) → Asides (insert_template tag)
+pub template-Aside : (tag : Tag) → Asides (insert_template tag)
 unfolding insert_template
 template-Aside tag s = either (may_be_shadow_root tag s) s _ _ (after s _ _ (open-Aside tag s) (attach-Aside tag _ _)) (insert-Aside tag s)
 
-in_body-Aside : (text : List ℕ) → Asides (append_in_body text)
+pub in_body-Aside : (text : List ℕ) → Asides (append_in_body text)
 unfolding frameset_not_ok_unless_white
 in_body-Aside text s = after s _ _ (after s (reconstruct_active_formatting_elements s) _ (reconstruct-Aside s) (other (reconstruct_active_formatting_elements s) _ _ _ _ _)) (append_text-Aside text _)
 
-for_tag-Aside : (step : Tag → State → State) (t : Token) → ((tag : Tag) → Asides (step tag)) → Asides (for_tag step t)
+pub for_tag-Aside : (step : Tag → State → State) (t : Token) → ((tag : Tag) → Asides (step tag)) → Asides (for_tag step t)
 for_tag-Aside step (TagToken tag) h s = h tag s
 for_tag-Aside step t h s = same s
 
-tell-Aside : (text : List ℕ) → Asides (tell_text text)
+pub tell-Aside : (text : List ℕ) → Asides (tell_text text)
 unfolding set_foster_parenting
 tell-Aside text s =
     let fostered : State = set_foster_parenting true (parse_error s) in
@@ -254,7 +254,7 @@ first-modes : (modes : List InsertionMode) → are_template_modes modes ≡ true
 first-modes [] h = refl
 first-modes (m ∷ modes) h = (and_parts (is_template_mode m) (are_template_modes modes) h).1
 
-form-Aside : (tag : Tag) (s : State) → IsRest s (insert_form_void tag s)
+pub form-Aside : (tag : Tag) (s : State) → IsRest s (insert_form_void tag s)
 unfolding put_element
 form-Aside tag s = record { context = refl; ended = refl; modes = λ m. m }
 

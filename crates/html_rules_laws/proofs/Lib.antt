@@ -7,6 +7,8 @@ pub mod AdoptionTurn
 pub mod AdoptionWalk
 pub mod Aside
 pub mod CharacterTurns
+pub mod Firm
+pub mod FirmAdoption
 pub mod FirstFit
 pub mod KeptByRows
 pub mod LouderActions
@@ -18,6 +20,7 @@ pub mod ReachedRows
 pub mod Reopened
 pub mod Replies
 pub mod Rises
+pub mod Soundness
 pub mod Standing
 pub mod SetFacts
 pub mod Settling
@@ -25,5 +28,6 @@ pub mod StandingActions
 pub mod StandingSteps
 pub mod StandingTrees
 pub mod StepLaws
+pub mod Tame
 pub mod TotalRows
 pub mod Uses

@@ -197,7 +197,7 @@ unfolding pop_foreign
 pop_foreign-Standing s is = pop_until_current-Standing ends_foreign s is
 
 -- what an end tag in foreign content leaves is a part of what was open
-LeavesPart : List Open → ForeignEnd → Type 0
+abbrev pub LeavesPart : List Open → ForeignEnd → Type 0
 LeavesPart xs Dropped = Unit {0}
 LeavesPart xs AsInMode = Unit {0}
 LeavesPart xs (Closed left) = IsPart left xs
@@ -207,13 +207,11 @@ leaves-choose xs true e e' h k = h
 leaves-choose xs false e e' h k = k
 
 leaves-gone : (x : Open) (xs : List Open) (e : ForeignEnd) → LeavesPart xs e → LeavesPart (x ∷ xs) e
-unfolding LeavesPart
 leaves-gone x xs Dropped h = tt
 leaves-gone x xs AsInMode h = tt
 leaves-gone x xs (Closed left) h = gone x xs left h
 
-foreign_end-part : (first : Bool) (name : List ℕ) (xs : List Open) → LeavesPart xs (foreign_end_from first name xs)
-unfolding LeavesPart
+pub foreign_end-part : (first : Bool) (name : List ℕ) (xs : List Open) → LeavesPart xs (foreign_end_from first name xs)
 foreign_end-part first name [] = tt
 foreign_end-part first name (x ∷ []) = tt
 foreign_end-part first name (x ∷ y ∷ ys) =
@@ -222,7 +220,6 @@ foreign_end-part first name (x ∷ y ∷ ys) =
     (leaves-gone x (y ∷ ys) (foreign_end_from false name (y ∷ ys)) (foreign_end-part false name (y ∷ ys))))
 
 close_by-Standing : (e : ForeignEnd) (s : State) → LeavesPart s.open_elems e → Standing s → Standing (close_foreign_by e s)
-unfolding LeavesPart
 close_by-Standing Dropped s h is = is
 close_by-Standing AsInMode s h is = is
 close_by-Standing (Closed left) s h is = fewer-Standing s.forest s.active_formatting s.open_elems left h is

@@ -77,7 +77,7 @@ not_barred Text text = refl
 not_barred _ text = refl
 
 -- the refusal, by its tests
-refusal_with : Bool → Bool → Bool → Bool → Option Refusal
+unfoldable pub refusal_with : Bool → Bool → Bool → Bool → Option Refusal
 refusal_with ended idle fit barred =
     choose ended (λ _. Some AfterEnd) (λ _. choose idle (λ _. None) (λ _. choose fit (λ _. choose barred (λ _. Some InText) (λ _. None)) (λ _. Some Unfit)))
 
@@ -86,7 +86,7 @@ unfolding refusal_with
 refusal-is t s = refl
 
 -- a step by its refusal
-step-is : (s : State) (t : Token) (line : ℕ) (ended idle fit barred : Bool) → s.has_ended ≡ ended → is_idle t ≡ idle → is_fit s ≡ fit → is_barred s.mode t ≡ barred → step s t line ≡ step_by (refusal_with ended idle fit barred) t s
+pub step-is : (s : State) (t : Token) (line : ℕ) (ended idle fit barred : Bool) → s.has_ended ≡ ended → is_idle t ≡ idle → is_fit s ≡ fit → is_barred s.mode t ≡ barred → step s t line ≡ step_by (refusal_with ended idle fit barred) t s
 unfolding step
 step-is s t line ended idle fit barred e i f b =
     ap (λ r. step_by r t s)
@@ -153,13 +153,13 @@ behind-first c cs (d ∷ ds) s line x is h e f =
     ∙ ap (λ x. Ok (answered (left (d ∷ ds) (hushed x)))) is
     ∙ ap Ok (second c cs (d ∷ ds) (hushed s) h)
 
-pieces-by : (ended fit : Bool) (a b : List ℕ) (s : State) (line : ℕ) → s.has_ended ≡ ended → is_fit s ≡ fit → TextSound s
+pieces-by : (ended fit : Bool) (a b : List ℕ) (s : State) (line : ℕ) → s.has_ended ≡ ended → is_fit s ≡ fit → (s.has_ended ≡ false → is_fit s ≡ true → TextSound s)
     → (step s (CharacterTokens a) line >>= λ p. step p.0 (CharacterTokens b) line) ≡ step s (CharacterTokens (a ++ b)) line
 pieces-by true fit a b s line e f is = rw (ended-step s (CharacterTokens a) line e) (sym (ended-step s (CharacterTokens (a ++ b)) line e))
 pieces-by false fit [] b s line e f is = rw (idle-step s (CharacterTokens []) line e refl) refl
 pieces-by false false (c ∷ cs) b s line e f is = rw (unfit-step s c cs line e f) (sym (unfit-step s c (cs ++ b) line e f))
 pieces-by false true (c ∷ cs) b s line e f is =
-    let h = ready s is e f in
+    let h = ready s (is e f) e f in
     let x : State = (left (c ∷ cs) (hushed s)).state in
     let r = left-Ready (c ∷ cs) (hushed s) h in
     rw (text-step s c cs line e f) (behind-first c cs b s line (hushed x) refl h r.going (ready-fit x r) ∙ sym (text-step s c (cs ++ b) line e f))
@@ -235,12 +235,12 @@ quiet-joined c cs b s h =
     ∙ errors-joined b x
     ∙ ap₂ (λ p q. p && q) (sym (quiet-is (c ∷ cs) s)) (sym (quiet-is b (hushed x)))
 
-quiet-by : (ended fit : Bool) (a b : List ℕ) (s : State) (line : ℕ) → s.has_ended ≡ ended → is_fit s ≡ fit → TextSound s
+quiet-by : (ended fit : Bool) (a b : List ℕ) (s : State) (line : ℕ) → s.has_ended ≡ ended → is_fit s ≡ fit → (s.has_ended ≡ false → is_fit s ≡ true → TextSound s)
     → IfOk (step s (CharacterTokens a) line) (λ p. is_quiet s (CharacterTokens (a ++ b)) ≡ (is_quiet s (CharacterTokens a) && is_quiet p.0 (CharacterTokens b)))
 quiet-by true fit a b s line e f is = rw (ended-step s (CharacterTokens a) line e) tt
 quiet-by false fit [] b s line e f is = rw (idle-step s (CharacterTokens []) line e refl) (ap (λ q. q && is_quiet s (CharacterTokens b)) (sym (no_text-quiet s)))
 quiet-by false false (c ∷ cs) b s line e f is = rw (unfit-step s c cs line e f) tt
-quiet-by false true (c ∷ cs) b s line e f is = rw (text-step s c cs line e f) (quiet-joined c cs b s (ready s is e f))
+quiet-by false true (c ∷ cs) b s line e f is = rw (text-step s c cs line e f) (quiet-joined c cs b s (ready s (is e f) e f))
 
 pub tokens-lawful : AreTokensTakenLawfully
 tokens-lawful = record {
@@ -252,8 +252,8 @@ tokens-lawful = record {
   quiet = λ s h a b line. quiet-by s.has_ended (is_fit s) a b s line refl refl h;
 }
 
--- with sound states that lead to sound states, and are sound for text, the rules are a sink's
-pub rules-lawful : (is_sound : State → Type 0) → ((s : State) → is_sound s → TextSound s)
+-- with sound states that lead to sound states, and are sound for text where they take it, the rules are a sink's
+pub rules-lawful : (is_sound : State → Type 0) → ((s : State) → is_sound s → s.has_ended ≡ false → is_fit s ≡ true → TextSound s)
     → ((s : State) → is_sound s → (t : Token) (line : ℕ) → IfOk (step s t line) (λ p. is_sound p.0))
     → ((s : State) → is_sound s → is_sound (ended s))
     → SinkLaws is_sound step ended is_quiet

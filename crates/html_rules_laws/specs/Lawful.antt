@@ -1,8 +1,9 @@
 -- What the step of the rules keeps of the laws of sinks.
-use Rattle.std.specs.Prelude.{◌≡◌, ℕ, true, ◌&&◌, List, ◌++◌, IfOk, IsErr}
+use Rattle.std.specs.Prelude.{◌≡◌, ℕ, true, false, ◌&&◌, List, ◌++◌, IfOk, IsErr}
 use Rattle.html_tokens.specs.Sink.{◌>>=◌, IsIdle, IsReplyTo}
 use Rattle.html_tokens.specs.declared.token.Token.{Token}
 use Rattle.html_tokens.specs.declared.token.Token.TheVariants.{CharacterTokens}
+use Rattle.html_rules.specs.Shape.{is_fit}
 use Rattle.html_rules.specs.State.{State}
 use Rattle.html_rules.specs.Step.{is_quiet, step}
 use Rattle.html_rules_laws.specs.Ready.{are_formatting, fits_head}
@@ -14,8 +15,8 @@ pub record TextSound (s : State) : Type 0 where
 
 -- all laws of sinks but that sound states lead to sound states
 pub record AreTokensTakenLawfully : Type 0 where
-  -- text in two pieces is as in one, and its line is of no account
-  pub pieces : (s : State) → TextSound s → (a b : List ℕ) (line : ℕ) → (step s (CharacterTokens a) line >>= λ p. step p.0 (CharacterTokens b) line) ≡ step s (CharacterTokens (a ++ b)) line
+  -- in states that take text, text in two pieces is as in one, and its line is of no account
+  pub pieces : (s : State) → (s.has_ended ≡ false → is_fit s ≡ true → TextSound s) → (a b : List ℕ) (line : ℕ) → (step s (CharacterTokens a) line >>= λ p. step p.0 (CharacterTokens b) line) ≡ step s (CharacterTokens (a ++ b)) line
   pub lines : (s : State) (a : List ℕ) (line other : ℕ) → step s (CharacterTokens a) line ≡ step s (CharacterTokens a) other
   -- empty text and errors change nothing, and are refused only where every token is
   pub idle : (s : State) (t : Token) → IsIdle t → (line : ℕ) → IfOk (step s t line) (λ p. p.0 ≡ s)
@@ -23,4 +24,4 @@ pub record AreTokensTakenLawfully : Type 0 where
   -- each reply is one that the token may get
   pub replies : (s : State) (t : Token) (line : ℕ) → IfOk (step s t line) (λ p. IsReplyTo t p.1)
   -- text in two pieces is quiet exactly if both are
-  pub quiet : (s : State) → TextSound s → (a b : List ℕ) (line : ℕ) → IfOk (step s (CharacterTokens a) line) (λ p. is_quiet s (CharacterTokens (a ++ b)) ≡ (is_quiet s (CharacterTokens a) && is_quiet p.0 (CharacterTokens b)))
+  pub quiet : (s : State) → (s.has_ended ≡ false → is_fit s ≡ true → TextSound s) → (a b : List ℕ) (line : ℕ) → IfOk (step s (CharacterTokens a) line) (λ p. is_quiet s (CharacterTokens (a ++ b)) ≡ (is_quiet s (CharacterTokens a) && is_quiet p.0 (CharacterTokens b)))

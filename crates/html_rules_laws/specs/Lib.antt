@@ -1,7 +1,10 @@
 pub mod Adoptions
 pub mod Errors
 pub mod Lawful
+pub mod Placing
 pub mod Ready
 pub mod Settled
+pub mod Sink
+pub mod Sound
 pub mod Soundness
 pub mod WholeTable

@@ -3,6 +3,7 @@ ghost use Rattle.html_rules_laws.specs.Adoptions.{AreAdoptionsStanding};
 ghost use Rattle.html_rules_laws.specs.Errors.{AreErrorsCounted};
 ghost use Rattle.html_rules_laws.specs.Lawful.{AreTokensTakenLawfully};
 ghost use Rattle.html_rules_laws.specs.Settled.{IsEachTokenSettled};
+ghost use Rattle.html_rules_laws.specs.Sink.{AreRulesLawful};
 ghost use Rattle.html_rules_laws.specs.Soundness.{AreActionsStanding};
 
 /// The rules do not look at the number of errors, and only count it on.
@@ -31,4 +32,10 @@ pub fn adoptions_keep_elements_standing()
 /// Sixteen turns, and four for each open element, are enough for every token.
 pub fn each_token_is_settled()
     ensures { IsEachTokenSettled }
+{}
+
+/// The rules are a lawful sink: with sound states, in which every document and every fragment begins, and to which every
+/// token and the end lead, they keep all its laws.
+pub fn rules_are_a_lawful_sink()
+    ensures { AreRulesLawful }
 {}

@@ -13,17 +13,19 @@ use Rattle.html_rules.specs.Choice.{choose}
 use Rattle.html_rules.specs.ForeignContent.{is_start_tag, is_end_tag}
 use Rattle.html_rules.specs.Sets.{is_among, names_of}
 use Rattle.html_rules.specs.Table.{Class, StartTags, EndTags, AnyStartTag, AnyEndTag, WhiteSpace, Character, Null, Comment, EndOfFile, AnythingElse}
-use Rattle.html_rules.specs.Tokens.{class_fits}
+use Rattle.html_rules.specs.Tokens.{class_fits, is_white}
 
--- start tags with one of these names, or with none of them; end tags; characters; U+0000; the end; any other token
+-- start tags with one of these names, or with none of them; end tags; characters, of white space alone; U+0000; the end; comments; any other token that is no tag
 pub data Kind : Type 0 where
   Starts : (names : List (List ℕ)) → Kind
   StartsBut : (names : List (List ℕ)) → Kind
   Ends : (names : List (List ℕ)) → Kind
   EndsBut : (names : List (List ℕ)) → Kind
   Texts : Kind
+  Whites : Kind
   Nulls : Kind
   TheEnd : Kind
+  Comments : Kind
   Others : Kind
 
 abbrev pub is_of : Kind → Token → Bool
@@ -32,8 +34,10 @@ is_of (StartsBut names) (TagToken tag) = is_start_tag tag.kind && not (is_among 
 is_of (Ends names) (TagToken tag) = is_end_tag tag.kind && is_among tag.name names
 is_of (EndsBut names) (TagToken tag) = is_end_tag tag.kind && not (is_among tag.name names)
 is_of Texts (CharacterTokens text) = true
+is_of Whites (CharacterTokens text) = is_white text
 is_of Nulls NullCharacterToken = true
 is_of TheEnd EOFToken = true
+is_of Comments (CommentToken text) = true
 is_of Others (CommentToken text) = true
 is_of Others (DoctypeToken d) = true
 is_of Others (ParseError message) = true
@@ -67,10 +71,13 @@ hit (Starts names) AnyStartTag = Starts names
 hit (StartsBut names) AnyStartTag = StartsBut names
 hit (Ends names) AnyEndTag = Ends names
 hit (EndsBut names) AnyEndTag = EndsBut names
-hit Texts WhiteSpace = Texts
+hit Texts WhiteSpace = Whites
+hit Whites WhiteSpace = Whites
+hit Whites Character = Whites
 hit Texts Character = Texts
 hit Nulls Null = Nulls
-hit Others Comment = Others
+hit Others Comment = Comments
+hit Comments Comment = Comments
 hit TheEnd EndOfFile = TheEnd
 hit kind AnythingElse = kind
 hit kind class = no_token
@@ -84,8 +91,11 @@ left (StartsBut names) AnyStartTag = no_token
 left (Ends names) AnyEndTag = no_token
 left (EndsBut names) AnyEndTag = no_token
 left Texts Character = no_token
+left Whites Character = no_token
+left Whites WhiteSpace = no_token
 left Nulls Null = no_token
 left TheEnd EndOfFile = no_token
+left Comments Comment = no_token
 left kind AnythingElse = no_token
 left kind class = kind
 
@@ -163,26 +173,38 @@ tag-hit (StartsBut names) AnyStartTag tag h k = h
 tag-hit (Ends names) AnyEndTag tag h k = h
 tag-hit (EndsBut names) AnyEndTag tag h k = h
 tag-hit Texts c tag h k = no h
+tag-hit Whites c tag h k = no h
 tag-hit Nulls c tag h k = no h
 tag-hit TheEnd c tag h k = no h
+tag-hit Comments c tag h k = no h
 tag-hit Others c tag h k = no h
 tag-hit kind AnythingElse tag h k = h
 tag-hit kind c tag h k = no k
 
 text-hit : (kind : Kind) (c : Class) (text : List ℕ) → is_of kind (CharacterTokens text) ≡ true → class_fits c (CharacterTokens text) ≡ true → is_of (hit kind c) (CharacterTokens text) ≡ true
-text-hit Texts WhiteSpace text h k = refl
+text-hit Texts WhiteSpace text h k = k
+text-hit Whites WhiteSpace text h k = h
+text-hit Whites Character text h k = h
+text-hit Whites AnythingElse text h k = h
+text-hit Whites c text h k = no k
 text-hit Texts Character text h k = refl
 text-hit Texts AnythingElse text h k = refl
 text-hit Texts c text h k = no k
 text-hit kind c text h k = no h
 
 other-hit : (c : Class) (t : Token) → is_of Others t ≡ true → class_fits c t ≡ true → is_of (hit Others c) t ≡ true
-other-hit Comment t h k = h
+other-hit Comment (CommentToken text) h k = refl
+other-hit Comment t h k = no k
 other-hit AnythingElse t h k = h
 other-hit c (CommentToken text) h k = no k
 other-hit c (DoctypeToken d) h k = no k
 other-hit c (ParseError message) h k = no k
 other-hit c t h k = no h
+
+comment-hit : (c : Class) (text : List ℕ) → class_fits c (CommentToken text) ≡ true → is_of (hit Comments c) (CommentToken text) ≡ true
+comment-hit Comment text k = refl
+comment-hit AnythingElse text k = refl
+comment-hit c text k = no k
 
 null-hit : (c : Class) → class_fits c NullCharacterToken ≡ true → is_of (hit Nulls c) NullCharacterToken ≡ true
 null-hit Null k = refl
@@ -199,6 +221,7 @@ hit-is kind c (TagToken tag) h k = tag-hit kind c tag h k
 hit-is kind c (CharacterTokens text) h k = text-hit kind c text h k
 hit-is Nulls c NullCharacterToken h k = null-hit c k
 hit-is TheEnd c EOFToken h k = end-hit c k
+hit-is Comments c (CommentToken text) h k = comment-hit c text k
 hit-is Others c t h k = other-hit c t h k
 hit-is kind c t h k = no h
 
@@ -220,14 +243,20 @@ tag-left (StartsBut names) AnyStartTag tag h k = no (sym k ∙ (and_parts (is_st
 tag-left (Ends names) AnyEndTag tag h k = no (sym k ∙ (and_parts (is_end_tag tag.kind) _ h).0)
 tag-left (EndsBut names) AnyEndTag tag h k = no (sym k ∙ (and_parts (is_end_tag tag.kind) _ h).0)
 tag-left Texts c tag h k = no h
+tag-left Whites c tag h k = no h
 tag-left Nulls c tag h k = no h
 tag-left TheEnd c tag h k = no h
+tag-left Comments c tag h k = no h
 tag-left Others c tag h k = no h
 tag-left kind AnythingElse tag h k = absurd (true≢false k)
 tag-left kind c tag h k = h
 
 text-left : (kind : Kind) (c : Class) (text : List ℕ) → is_of kind (CharacterTokens text) ≡ true → class_fits c (CharacterTokens text) ≡ false → is_of (left kind c) (CharacterTokens text) ≡ true
 text-left Texts Character text h k = absurd (true≢false k)
+text-left Whites Character text h k = absurd (true≢false k)
+text-left Whites AnythingElse text h k = absurd (true≢false k)
+text-left Whites WhiteSpace text h k = no (sym k ∙ h)
+text-left Whites c text h k = h
 text-left Texts AnythingElse text h k = absurd (true≢false k)
 text-left Texts c text h k = refl
 text-left kind c text h k = no h
@@ -235,6 +264,11 @@ text-left kind c text h k = no h
 other-left : (c : Class) (t : Token) → is_of Others t ≡ true → class_fits c t ≡ false → is_of (left Others c) t ≡ true
 other-left AnythingElse t h k = absurd (true≢false k)
 other-left c t h k = h
+
+comment-left : (c : Class) (text : List ℕ) → class_fits c (CommentToken text) ≡ false → is_of (left Comments c) (CommentToken text) ≡ true
+comment-left Comment text k = absurd (true≢false k)
+comment-left AnythingElse text k = absurd (true≢false k)
+comment-left c text k = refl
 
 null-left : (c : Class) → class_fits c NullCharacterToken ≡ false → is_of (left Nulls c) NullCharacterToken ≡ true
 null-left Null k = absurd (true≢false k)
@@ -251,6 +285,7 @@ left-is kind c (TagToken tag) h k = tag-left kind c tag h k
 left-is kind c (CharacterTokens text) h k = text-left kind c text h k
 left-is Nulls c NullCharacterToken h k = null-left c k
 left-is TheEnd c EOFToken h k = end-left c k
+left-is Comments c (CommentToken text) h k = comment-left c text k
 left-is Others c t h k = other-left c t h k
 left-is kind c t h k = no h
 
