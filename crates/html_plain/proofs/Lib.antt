@@ -2,3 +2,4 @@ pub mod Names
 pub mod Agreement
 pub mod WrittenForms
 pub mod Parts
+pub mod Frames

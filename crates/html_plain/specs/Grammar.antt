@@ -1,8 +1,9 @@
 -- The plain grammar: which trees are read back as they are written.
 use Rattle.std.specs.Prelude.{◌≡◌, ℕ, Bool, true, false, ◌&&◌, ◌||◌, not, nat_eq, List, [], ◌∷◌, Option, Some, None, is_none, codes}
 use Rattle.std.specs.Char.{is_ascii_lowercase, is_ascii_digit}
-use Rattle.std.specs.List.{list_all, list_any}
+use Rattle.std.specs.List.{list_all}
 use Rattle.std.specs.Str.{bytes_eq}
+pub use Rattle.markup.specs.Attributes.{are_distinct, has_local_name}
 use Rattle.markup.specs.Forest.{Forest, children_of}
 use Rattle.markup.specs.Trees.{Trees, Nothing, Text, Comment, ProcessingInstruction, Doctype, Element, trees_of}
 use Rattle.markup.specs.declared.attributes.Attribute.{Attribute}
@@ -45,15 +46,6 @@ is_unprefixed name = is_none name.prefix && is_empty name.ns
 -- an attribute of such a name, and a value of plain characters
 abbrev pub is_plain_attribute : Attribute → Bool
 is_plain_attribute a = is_plain_name a.name.local && is_unprefixed a.name && list_all is_plain_character a.value
-
--- whether one of the attributes has that local name
-abbrev pub has_local_name : List ℕ → List Attribute → Bool
-has_local_name name attributes = list_any (λ a. bytes_eq name a.name.local) attributes
-
--- attributes of which no two have one local name
-abbrev pub are_distinct : List Attribute → Bool
-are_distinct [] = true
-are_distinct (a ∷ rest) = not (has_local_name a.name.local rest) && are_distinct rest
 
 abbrev pub are_plain_attributes : List Attribute → Bool
 are_plain_attributes attributes = list_all is_plain_attribute attributes && are_distinct attributes

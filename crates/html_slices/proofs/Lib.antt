@@ -11,3 +11,4 @@ pub mod SpelledForms
 pub mod Spells
 pub mod Texts
 pub mod Values
+pub mod PlainForms

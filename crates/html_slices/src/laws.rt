@@ -1,6 +1,7 @@
 //! Laws of reading written forms back, by a table that reads the references that escaping writes. Each function's contract is
 //! one law.
 ghost use Rattle.html_slices.specs.Laws.{AreFormsSpelled, AreFormsRead, AreFormsNoted, AreFormsClean, AreReaders, AreTextsRead, AreTextsNoted, AreTitlesRead, AreFormsNormal};
+ghost use Rattle.html_slices.specs.PlainForms.{ArePlainFormsRead};
 
 use html_tokens::sink::TokenSink;
 
@@ -47,4 +48,9 @@ pub fn titles_are_read<S: TokenSink>()
 /// Written forms of texts without a carriage return have none, so they are their own normal text.
 pub fn written_forms_are_normal()
     ensures { AreFormsNormal }
+{}
+
+/// The names, attributes and texts of plain documents are among those that are read back.
+pub fn plain_forms_are_read()
+    ensures { ArePlainFormsRead }
 {}
