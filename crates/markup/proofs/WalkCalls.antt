@@ -1,12 +1,12 @@
 -- The calls of a walk of a forest, node by node, and how far such a walk has to go.
-use Rattle.std.proofs.Common.{◌≡◌, ◌∙◌, ℕ, zero, suc, ◌+◌, ◌≤◌, Bool, true, false, List, [], ◌∷◌, ◌++◌, Option, Some, None, refl, ap, ap₂, sym, arith}
+use Rattle.std.proofs.Common.{◌≡◌, ◌∙◌, ℕ, zero, suc, ◌+◌, ◌≤◌, true, false, List, [], ◌∷◌, ◌++◌, refl, ap, ap₂, sym, arith}
 use Rattle.markup.specs.Calls.{Call, calls_before, ended, first_calls}
 use Rattle.markup.specs.Calls.Call.{StartElem, EndElem, WriteText, WriteComment, WriteDoctype, WriteProcessingInstruction}
 use Rattle.markup.specs.Forest as forest
 use Rattle.markup.specs.Forest.{Forest, IsForest, NodeData, data_of, element_name, holds_children, is_among, node_count}
 use Rattle.markup.specs.Named.{HasContents}
-use Rattle.markup.specs.Trees.{Trees, Nothing, Text, Comment, ProcessingInstruction, Doctype, Element, inner_of, node_before, nodes_before, trees_before, trees_of, trees_within, weight, weight_within, weights}
-use Rattle.markup.proofs.WholeTrees.{Within, among-first, among-later, inner-within, trees-first, trees-none}
+use Rattle.markup.specs.Trees.{Trees, Nothing, inner_of, node_before, nodes_before, trees_before, trees_of, trees_within, weight, weight_within, weights}
+use Rattle.markup.proofs.WholeTrees.{Within, among-first, among-later, inner-within}
 
 -- HOW FAR A WALK HAS TO GO
 
