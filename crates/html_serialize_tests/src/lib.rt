@@ -1,0 +1,7 @@
+//! Tests of `html_serialize`: worked rows, faults and devices, as tables on the public calls.
+//!
+//! They stand in a crate of their own since a crate is proved twice, without its tests and with them.
+#![tactic(auto)]
+
+#[cfg(test)]
+mod tests;

@@ -1,0 +1,3 @@
+//! Worked rows, faults and devices.
+mod calls;
+mod rows;
