@@ -1,3 +1,4 @@
 pub mod WalksBack
 pub mod Marks
 pub mod Implied
+pub mod ModesAsked

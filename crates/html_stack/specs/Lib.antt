@@ -1,3 +1,4 @@
 pub mod Stacks
 pub mod Wanted
 pub mod Entries
+pub mod Modes

@@ -1,6 +1,7 @@
 -- The stack's part of the state of the rules.
 use Rattle.std.specs.Prelude.{ℕ, Bool, true, false, List, map, reverse}
-use Rattle.html_rules.specs.State.{Open, Entry, Element as Listed, Marker as Mark}
+use Rattle.markup.specs.Forest.{Forest}
+use Rattle.html_rules.specs.State.{Open, Entry, State, Element as Listed, Marker as Mark}
 use Rattle.html_rules.specs.declared.insertion_mode.InsertionMode.{InsertionMode}
 use Rattle.html_stack.specs.declared.entries.OpenElement.{OpenElement}
 use Rattle.html_stack.specs.declared.entries.FormatEntry.{FormatEntry}
@@ -30,3 +31,7 @@ entries_of node xs = reverse (map (entry_of node) xs)
 abbrev pub is_mark : Entry → Bool
 is_mark (Listed number tag) = false
 is_mark Mark = true
+
+-- a state of the rules with this stack and this tree in place of its own
+abbrev pub joined : State → Stacked → Forest → State
+joined s stack f = record s { forest = f; open_elems = stack.open_elems; active_formatting = stack.active_formatting; template_modes = stack.template_modes }

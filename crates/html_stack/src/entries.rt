@@ -1,4 +1,5 @@
 //! What the stack and the list are made of.
+ghost use Rattle.std.specs.Prelude.{◌≡◌, ◌<◌, Some, length, slice_get};
 
 use html_names::ElementName;
 use html_tokens::Tag;
@@ -44,4 +45,12 @@ pub enum PushFlag {
     Push,
     /// It is not.
     NoPush,
+}
+
+/// The root, of elements that are lent with the root first.
+pub fn html_elem<Element>(open_elems: &[Element]) -> &Element
+    requires { 0 < length open_elems.now }
+    ensures { slice_get open_elems.now 0 ≡ Some result.now }
+{
+    &open_elems[0]
 }

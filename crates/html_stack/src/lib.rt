@@ -2,13 +2,15 @@
 #![tactic(auto)]
 
 pub mod active_formatting_iter;
+mod closing;
 pub mod entries;
+mod resetting;
 pub mod stack;
 mod walks;
 mod wanted;
 
 pub use active_formatting_iter::ActiveFormattingIter;
-pub use entries::{FormatEntry, InsertionPoint, OpenElement, PushFlag};
+pub use entries::{FormatEntry, InsertionPoint, OpenElement, PushFlag, html_elem};
 pub use html_names::{
     ElementClass, ElementName, ElementNamespace, doctype_error_and_quirks, equals_any_case,
     extract_a_character_encoding_from_a_meta_element, is_in,

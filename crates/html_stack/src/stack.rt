@@ -4,9 +4,9 @@ ghost use Rattle.markup.specs.declared.fault.ParseFault.TheVariants.{Memory};
 
 use crate::active_formatting_iter::ActiveFormattingIter;
 use crate::entries::{FormatEntry, OpenElement};
-use crate::walks;
 use crate::wanted::Wanted;
-use html_names::ElementClass;
+use crate::{resetting, walks};
+use html_names::{ElementClass, ElementName};
 use html_rules::{InsertionMode, TagSet};
 use html_tokens::Tag;
 use markup::{LocalName, ParseFault, TreeSink};
@@ -33,12 +33,17 @@ impl<Sink: TreeSink> Model for Stack<Sink> {
 
 impl<Sink: TreeSink> Stack<Sink> {
     ghost use Rattle.html_stack.specs.Stacks.{Stacked, entries_of, open_of, opens_of};
+    ghost use Rattle.std.specs.Prelude.{is_some};
     ghost use Rattle.html_rules.specs.Names.{Html};
+    ghost use Rattle.html_rules.specs.Reset.{current_template_mode, reset_insertion_mode};
+    ghost use Rattle.html_rules.specs.State.{State};
+    ghost use Rattle.html_stack.specs.Modes.{IsContext};
     ghost use Rattle.html_rules.specs.Formatting.{behind_marker};
-    ghost use Rattle.html_rules.specs.Stack.{in_scope, left_below, left_by_implied, left_from, nothing, without_current};
+    ghost use Rattle.html_rules.specs.Stack.{finds_generic, in_scope, left_below, left_by_implied, left_from, nothing, without_current};
     ghost use Rattle.html_rules_laws.specs.Soundness.{AreOpened};
     ghost use Rattle.html_stack.specs.Wanted.{IsWanted, closes, passes};
-    ghost use Rattle.html_rules.specs.declared.tag_set.TagSet.TheVariants.{CursoryImpliedEnd};
+    ghost use Rattle.html_rules.specs.declared.tag_set.TagSet.TheVariants.{BodyEnd, CursoryImpliedEnd};
+    ghost use Rattle.std.specs.List.{list_all};
     ghost use Rattle.html_rules.specs.State.{Element, Marker as Mark, current_is, current_number, is_in, is_named};
     ghost use Rattle.html_names.specs.Classes.{IsClassOf};
 
@@ -256,5 +261,52 @@ impl<Sink: TreeSink> Stack<Sink> {
         ensures same { Sink.forest sink.new ≡ Sink.forest sink.old }
     {
         self.close_implied(sink, TagSet::CursoryImpliedEnd, Wanted::Named(class, name));
+    }
+
+    /// Elements are popped until one that is wanted was popped. The sink is not told.
+    pub(crate) fn pop_until_wanted(&mut self, wanted: Wanted<'_>)
+        requires { IsWanted wanted }
+        ensures { self.new ≡ record self.old { open_elems = left_below (passes wanted.entry) self.old.open_elems } }
+    {
+        let left = walks::count_below(self.open_elems.as_slice(), wanted);
+        self.open_elems.truncate(left);
+    }
+
+    /// Whether an HTML element of a name is open and no special element stands before it. The name comes with its class.
+    pub(crate) fn finds_generic(&self, class: ElementClass, name: &LocalName) -> bool
+        requires { IsClassOf Html name.now class }
+        ensures { result ≡ finds_generic (is_named name.now) self.now.open_elems }
+    {
+        walks::finds_generic(self.open_elems.as_slice(), Wanted::Named(class, name))
+    }
+
+    /// Whether all open elements may be open where the body ends.
+    pub(crate) fn all_end_with_body(&self) -> bool
+        ensures { result ≡ list_all (is_in BodyEnd) self.now.open_elems }
+    {
+        walks::are_all_in(self.open_elems.as_slice(), TagSet::BodyEnd)
+    }
+
+    /// The mode that the open elements ask for ("reset the insertion mode appropriately", HTML Standard, section 13.2.4.1): with the current
+    /// template insertion mode, by whether there is a head element, and in a fragment by its context.
+    pub fn reset_insertion_mode(
+        &self,
+        has_head: bool,
+        context: Option<&ElementName>,
+    ) -> InsertionMode
+        ensures { (s : State) → s.open_elems ≡ self.now.open_elems → s.template_modes ≡ self.now.template_modes → is_some s.head_elem ≡ has_head → IsContext s.context_elem context.entry → result ≡ (reset_insertion_mode s).mode }
+    {
+        let template_mode = self.current_template_mode();
+        resetting::mode_of_open(self.open_elems.as_slice(), template_mode, has_head, context)
+    }
+
+    /// The current template insertion mode; "in body" where there is none.
+    fn current_template_mode(&self) -> InsertionMode
+        ensures { result ≡ current_template_mode self.now.template_modes }
+    {
+        match self.template_modes.last() {
+            Some(mode) => *mode,
+            None => InsertionMode::InBody,
+        }
     }
 }

@@ -1,7 +1,8 @@
 //! Walks from the current node back. Elements are lent as they lie, the root first.
 ghost use Rattle.std.specs.Prelude.{◌≡◌, ◌<◌, ◌≤◌, ℕ, length, take, not, ◌||◌};
+ghost use Rattle.std.specs.List.{list_all};
 ghost use Rattle.html_rules.specs.Formatting.{behind_marker};
-ghost use Rattle.html_rules.specs.Stack.{in_scope, left_below, left_from};
+ghost use Rattle.html_rules.specs.Stack.{finds_generic, in_scope, left_below, left_from};
 ghost use Rattle.html_rules.specs.State.{current_is, current_number, is_in};
 ghost use Rattle.html_stack.specs.Stacks.{entries_of, entry_of, is_mark, opens_of};
 ghost use Rattle.html_stack.specs.Wanted.{IsWanted, passes};
@@ -108,4 +109,37 @@ pub(crate) fn count_to_marker<Handle>(entries: &[FormatEntry<Handle>]) -> usize
         }
     }
     0
+}
+
+/// Whether a wanted element is open and no special one stands before it.
+pub(crate) fn finds_generic<Handle>(elements: &[OpenElement<Handle>], wanted: Wanted<'_>) -> bool
+    requires { IsWanted wanted }
+    ensures { (node : Handle → ℕ) → result ≡ finds_generic (passes wanted.entry) (opens_of node elements.now) }
+{
+    let mut i = elements.len();
+    while i > 0 {
+        i -= 1;
+        let element = &elements[i];
+        if is_wanted(wanted, element) {
+            return true;
+        }
+        if element.name.is_in(TagSet::SpecialTag) {
+            return false;
+        }
+    }
+    false
+}
+
+/// Whether all elements are in a set.
+pub(crate) fn are_all_in<Handle>(elements: &[OpenElement<Handle>], set: TagSet) -> bool
+    ensures { (node : Handle → ℕ) → result ≡ list_all (is_in set) (opens_of node elements.now) }
+{
+    let mut i = elements.len();
+    while i > 0 {
+        i -= 1;
+        if !elements[i].name.is_in(set) {
+            return false;
+        }
+    }
+    true
 }

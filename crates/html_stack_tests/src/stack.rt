@@ -202,3 +202,115 @@ fn template_modes_are_a_stack(rt: HostRuntime) -> Result<(), Fail> {
     assert_eq!(rt; stack.pop_template_mode(), None);
     Ok(())
 }
+
+#[test]
+fn the_insertion_mode_is_reset(rt: HostRuntime) -> Result<(), Fail> {
+    let rows: &[(&[&str], bool, Option<&str>, InsertionMode)] = &[
+        (&["html"], false, None, InsertionMode::BeforeHead),
+        (&["html"], true, None, InsertionMode::AfterHead),
+        (&["html", "head"], true, None, InsertionMode::InHead),
+        (&["html", "body", "div"], true, None, InsertionMode::InBody),
+        (
+            &["html", "body", "table", "b"],
+            true,
+            None,
+            InsertionMode::InTable,
+        ),
+        (
+            &["html", "table", "tbody", "tr", "td"],
+            true,
+            None,
+            InsertionMode::InCell,
+        ),
+        (
+            &["html", "table", "tbody", "tr"],
+            true,
+            None,
+            InsertionMode::InRow,
+        ),
+        (
+            &["html", "table", "tfoot"],
+            true,
+            None,
+            InsertionMode::InTableBody,
+        ),
+        (
+            &["html", "table", "caption"],
+            true,
+            None,
+            InsertionMode::InCaption,
+        ),
+        (
+            &["html", "table", "colgroup"],
+            true,
+            None,
+            InsertionMode::InColumnGroup,
+        ),
+        (
+            &["html", "template", "p"],
+            true,
+            None,
+            InsertionMode::InTable,
+        ),
+        (&["html", "frameset"], true, None, InsertionMode::InFrameset),
+        (&["html"], false, Some("td"), InsertionMode::InBody),
+        (&["html"], false, Some("head"), InsertionMode::InBody),
+        (&["html"], false, Some("tr"), InsertionMode::InRow),
+        (&["html"], false, Some("template"), InsertionMode::InTable),
+        (&["html", "td"], false, Some("tr"), InsertionMode::InCell),
+        (&[], false, None, InsertionMode::InBody),
+    ];
+    let html = Namespace::from_known(KnownNamespace::Html);
+    for (names, has_head, context, want) in rows {
+        let mut forest = Forest::new(rt.alloc())?;
+        let mut stack = opened(rt.alloc(), &mut forest, names)?;
+        stack.push_template_mode(InsertionMode::InTable)?;
+        let context = match context {
+            None => None,
+            Some(name) => {
+                let local = LocalName::from_str(rt.alloc(), name)?;
+                Some(ElementName::new(rt.alloc(), &html, &local)?)
+            }
+        };
+        assert_eq!(rt;
+            stack.reset_insertion_mode(*has_head, context.as_ref()),
+            *want
+        );
+    }
+    Ok(())
+}
+
+#[test]
+fn what_is_left_open_is_an_error(rt: HostRuntime) -> Result<(), Fail> {
+    let rows: &[(&[&str], &str, usize, u64)] = &[
+        (&["html", "body", "p"], "p", 2, 0),
+        (&["html", "body", "p", "b"], "p", 2, 1),
+        (&["html", "body", "my-tag", "my-other"], "my-tag", 2, 1),
+        (&["html", "body"], "p", 0, 1),
+    ];
+    for (names, name, left, errors) in rows {
+        let mut forest = Forest::new(rt.alloc())?;
+        let mut stack = opened(rt.alloc(), &mut forest, names)?;
+        let name = LocalName::from_str(rt.alloc(), name)?;
+        stack.expect_to_close(&mut forest, ElementClass::html(&name), &name);
+        assert_eq!(rt; stack.open_elems().len(), *left);
+        assert_eq!(rt; forest.error_count(), *errors);
+    }
+    Ok(())
+}
+
+#[test]
+fn the_end_of_the_body_is_checked(rt: HostRuntime) -> Result<(), Fail> {
+    let rows: &[(&[&str], u64)] = &[
+        (&["html", "body", "li", "p"], 0),
+        (&["html", "body", "b", "p"], 1),
+        (&["html", "body", "rb"], 1),
+    ];
+    for (names, errors) in rows {
+        let mut forest = Forest::new(rt.alloc())?;
+        let stack = opened(rt.alloc(), &mut forest, names)?;
+        stack.check_body_end(&mut forest);
+        assert_eq!(rt; forest.error_count(), *errors);
+    }
+    Ok(())
+}

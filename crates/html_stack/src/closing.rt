@@ -1,0 +1,94 @@
+//! Elements that end tags close, and those that end with the body (HTML Standard, sections 13.2.6.3 and 13.2.6.4.7).
+ghost use Rattle.std.specs.Prelude.{◌≡◌};
+ghost use Rattle.html_names.specs.Classes.{IsClassOf};
+ghost use Rattle.html_rules.specs.Names.{Html};
+ghost use Rattle.html_rules.specs.Stack.{check_body_end, close_p_element, close_p_element_in_button_scope, expect_to_close, process_end_tag_in_body};
+ghost use Rattle.html_rules.specs.State.{State, is_in, is_named};
+ghost use Rattle.html_rules_laws.specs.Soundness.{AreOpened};
+ghost use Rattle.html_stack.specs.Stacks.{joined};
+ghost use Rattle.html_stack.specs.Wanted.{IsWanted, passes};
+
+use crate::stack::Stack;
+use crate::walks;
+use crate::wanted::Wanted;
+use html_names::ElementClass;
+use html_rules::TagSet;
+use markup::{LocalName, TreeSink};
+use std::borrow::CowStr;
+
+impl<Sink: TreeSink> Stack<Sink> {
+    /// Pops up to a wanted element; an error, if that is not the current node.
+    #[tactic(auto, unfolding(html_rules::specs::Stack::expect_to_close, html_rules::specs::Stack::pop_until, html_rules::specs::Stack::parse_error))]
+    pub(crate) fn close_wanted(&mut self, sink: &mut Sink, wanted: Wanted<'_>)
+        requires { IsWanted wanted }
+        ensures { (s : State) → joined s self.new (Sink.forest sink.new) ≡ expect_to_close (passes wanted.entry) (joined s self.old (Sink.forest sink.old)) }
+    {
+        if !self.current_is(wanted) {
+            sink.parse_error(CowStr::Borrowed("elements are open within the one that ends"));
+        }
+        self.pop_until_wanted(wanted);
+    }
+
+    /// Pops elements up to an HTML element of a name, which comes with its class; an error, if that is not the current node. The sink is
+    /// told of the error alone.
+    pub fn expect_to_close(&mut self, sink: &mut Sink, class: ElementClass, name: &LocalName)
+        requires { IsClassOf Html name.now class }
+        ensures { (s : State) → joined s self.new (Sink.forest sink.new) ≡ expect_to_close (is_named name.now) (joined s self.old (Sink.forest sink.old)) }
+    {
+        self.close_wanted(sink, Wanted::Named(class, name));
+    }
+
+    /// "Close a p element" (HTML Standard, section 13.2.6.4.7).
+    #[tactic(auto, unfolding(html_rules::specs::Stack::close_p_element, html_rules::specs::Stack::generate_implied_end_except))]
+    pub fn close_p_element(&mut self, sink: &mut Sink)
+        requires { AreOpened (Sink.forest sink.old) self.old.open_elems }
+        ensures { (s : State) → joined s self.new (Sink.forest sink.new) ≡ close_p_element (joined s self.old (Sink.forest sink.old)) }
+    {
+        self.close_implied(sink, TagSet::CursoryImpliedEnd, Wanted::In(TagSet::P));
+        self.close_wanted(sink, Wanted::In(TagSet::P));
+    }
+
+    /// The same, where a `p` is in button scope.
+    #[tactic(auto, unfolding(html_rules::specs::Stack::close_p_element_in_button_scope))]
+    pub fn close_p_element_in_button_scope(&mut self, sink: &mut Sink)
+        requires { AreOpened (Sink.forest sink.old) self.old.open_elems }
+        ensures { (s : State) → joined s self.new (Sink.forest sink.new) ≡ close_p_element_in_button_scope (joined s self.old (Sink.forest sink.old)) }
+    {
+        if self.in_scope(TagSet::ButtonScope, TagSet::P) {
+            self.close_p_element(sink);
+        }
+    }
+
+    /// "Any other end tag" in the body (HTML Standard, section 13.2.6.4.7): elements are popped up to the HTML element of that name, if no
+    /// special element stands before it, and else there is an error. The name comes with its class.
+    #[tactic(auto, unfolding(html_rules::specs::Stack::process_end_tag_in_body, html_rules::specs::Stack::generate_implied_end_except, html_rules::specs::Stack::parse_error))]
+    pub fn process_end_tag_in_body(
+        &mut self,
+        sink: &mut Sink,
+        class: ElementClass,
+        name: &LocalName,
+    )
+        requires name { IsClassOf Html name.now class }
+        requires opened { AreOpened (Sink.forest sink.old) self.old.open_elems }
+        ensures { (s : State) → joined s self.new (Sink.forest sink.new) ≡ process_end_tag_in_body name.now (joined s self.old (Sink.forest sink.old)) }
+    {
+        if self.finds_generic(class, name) {
+            self.close_implied(sink, TagSet::CursoryImpliedEnd, Wanted::Named(class, name));
+            self.close_wanted(sink, Wanted::Named(class, name));
+        } else {
+            sink.parse_error(CowStr::Borrowed("an end tag without its element"));
+        }
+    }
+
+    /// An error, if an element is open that may not be where the body ends (HTML Standard, section 13.2.6.4.7, an end tag `body`).
+    #[tactic(auto, unfolding(html_rules::specs::Stack::check_body_end, html_rules::specs::Stack::parse_error))]
+    pub fn check_body_end(&self, sink: &mut Sink)
+        ensures { (s : State) → joined s self.now (Sink.forest sink.new) ≡ check_body_end (joined s self.now (Sink.forest sink.old)) }
+    {
+        if !self.all_end_with_body() {
+            sink.parse_error(CowStr::Borrowed(
+                "an element is open that does not end with the body",
+            ));
+        }
+    }
+}
