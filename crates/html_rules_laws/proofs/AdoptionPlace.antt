@@ -137,13 +137,14 @@ pub record IsCut (n : ℕ) (block : Open) (xs : List Open) (x : Open) : Type 0 w
   pub parts : xs ≡ opened_after n xs ++ x ∷ opened_before n xs
   pub part : IsPart (opened_after block.number xs ++ block ∷ x ∷ opened_before n xs) xs
 
-pub split-part : (n : ℕ) (xs : List Open) (x : Open) → IsSplit n xs x → IsPart (x ∷ opened_before n xs) xs
-split-part n xs x is = subst (λ ys. IsPart (x ∷ opened_before n xs) ys) (sym is.parts) (part-behind (opened_after n xs) (x ∷ opened_before n xs)) where
-  part-behind : (xs ys : List Open) → IsPart ys (xs ++ ys)
-  part-behind [] ys = part-same ys
-  part-behind (x ∷ xs) ys = gone x (xs ++ ys) ys (part-behind xs ys)
+pub part-behind : (xs ys : List Open) → IsPart ys (xs ++ ys)
+part-behind [] ys = part-same ys
+part-behind (x ∷ xs) ys = gone x (xs ++ ys) ys (part-behind xs ys)
 
-none-some : (x : Open) → None ≡ Some x → ⊥
+pub split-part : (n : ℕ) (xs : List Open) (x : Open) → IsSplit n xs x → IsPart (x ∷ opened_before n xs) xs
+split-part n xs x is = subst (λ ys. IsPart (x ∷ opened_before n xs) ys) (sym is.parts) (part-behind (opened_after n xs) (x ∷ opened_before n xs))
+
+pub none-some : (x : Open) → None ≡ Some x → ⊥
 none-some x e = cc
 
 pub special-is : (b : Bool) (x block : Open) → choose b (λ _. Some x) (λ _. None) ≡ Some block → x ≡ block

@@ -250,7 +250,7 @@ rest-same s = record { context = refl; ended = refl; modes = λ m. m }
 aside-rest : (s r : State) → IsAside s r → IsRest s r
 aside-rest s r h = record { context = h.context; ended = h.ended; modes = λ m. rw h.modes m }
 
-first-modes : (modes : List InsertionMode) → are_template_modes modes ≡ true → are_template_modes (without_first modes) ≡ true
+pub first-modes : (modes : List InsertionMode) → are_template_modes modes ≡ true → are_template_modes (without_first modes) ≡ true
 first-modes [] h = refl
 first-modes (m ∷ modes) h = (and_parts (is_template_mode m) (are_template_modes modes) h).1
 

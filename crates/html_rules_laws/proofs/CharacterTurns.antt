@@ -26,6 +26,7 @@ use Rattle.html_rules.specs.declared.tag_set.TagSet.TheVariants as set
 use Rattle.html_rules_laws.specs.Ready.{IsReady, Ready, fits_head, is_over_head, is_over_root}
 use Rattle.html_rules_laws.proofs.Reopened.{Flows, ReadyIn, cell-reopened, reconstruct-Ready, root-reopened}
 use Rattle.html_rules_laws.proofs.Names.{disjoint, shares_name}
+use Rattle.html_rules_laws.proofs.Bools.{both, not_true}
 
 abbrev character : ℕ → Token
 character c = CharacterTokens (c ∷ [])
@@ -165,13 +166,6 @@ at m r = record r { mode = m }
 -- a ready state that goes to another mode, which its open elements fit
 moved : (m m' : InsertionMode) (r : State) → Ready (at m r) → fits_mode m' r.orig_mode r.open_elems r.head_elem r.template_modes ≡ true → fits_head m' r.open_elems ≡ true → Ready (at m' r)
 moved m m' r h fit head = record { fit = fit; templates = h.templates; in_head = head; listed = h.listed; kept_lf = h.kept_lf; going = h.going }
-
-not_true : (b : Bool) → not b ≡ true → b ≡ false
-not_true true h = absurd (true≢false (sym h))
-not_true false h = refl
-
-both : (a b : Bool) → a ≡ true → b ≡ true → (a && b) ≡ true
-both a b h k = rw (h, k) refl
 
 -- the element that stands just over the root leaves it alone
 record OverRoot (xs : List Open) (head : Option ℕ) (modes : List InsertionMode) (context : Option Open) : Type 0 where

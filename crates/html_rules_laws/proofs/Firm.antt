@@ -12,6 +12,7 @@ use Rattle.html_rules.specs.declared.tag_set.TagSet.TheVariants as set
 use Rattle.html_rules_laws.specs.Placing.{are_general, is_in_head, may_stand_over, stand_well}
 use Rattle.html_rules_laws.proofs.SetFacts.{in-apart}
 use Rattle.html_rules_laws.proofs.Standing.{IsPart, gone, kept, none}
+use Rattle.html_rules_laws.proofs.Bools.{both, not_true}
 
 -- an element that is neither the root, nor a head, nor a template
 pub record IsPlain (x : Open) : Type 0 where
@@ -124,9 +125,6 @@ over-left x xs ys part w o up = by (is_in set.Html x) (is_in set.Head x) (is_in_
   by false false false true t eg ek o = absurd (true≢false (sym (up ek) ∙ eg))
   by false false false false t eg ek o = refl
 
-and_left : (a b : Bool) → a ≡ true → b ≡ true → (a && b) ≡ true
-and_left a b h k = rw (h, k) refl
-
 -- what stands over elements, and is no template, has no head below it
 pub over-plain : (x : Open) (xs : List Open) → may_stand_over x xs ≡ true → is_in set.Template x ≡ false → is_in_head xs ≡ false
 over-plain x [] o t = refl
@@ -148,7 +146,7 @@ part-left xs ys (kept x xs' ys' part) w =
     let parts = and_parts (may_stand_over x xs') (stand_well xs') w in
     elim (part-left xs' ys' part parts.1) [
       | inl less ↦ inl (count-left x xs' ys' less)
-      | inr left ↦ inr (and_left _ _ (over-left x xs' ys' part parts.1 parts.0 left.1) left.0, λ h. let own = and_parts (is_in set.Head x) _ h in and_left _ _ own.0 (part-html xs' ys' part own.1))
+      | inr left ↦ inr (both _ _ (over-left x xs' ys' part parts.1 parts.0 left.1) left.0, λ h. let own = and_parts (is_in set.Head x) _ h in both _ _ own.0 (part-html xs' ys' part own.1))
     ]
 part-left xs ys (gone x xs' ys' part) w =
     let parts = and_parts (may_stand_over x xs') (stand_well xs') w in
@@ -167,17 +165,13 @@ part-left xs ys (gone x xs' ys' part) w =
       by true e = inl (rw e (let c = count in omega arith))
       by false e = inr (left.0, λ k. absurd (true≢false (sym (left.1 k) ∙ over-plain x xs' o e)))
 
-pub not_true : (b : Bool) → not b ≡ true → b ≡ false
-not_true true h = sym h
-not_true false h = refl
-
 pub firm-part : (xs ys : List Open) → IsPart ys xs → IsFirm xs ys
 firm-part xs ys part = record {
   fewer = part-fewer xs ys part;
   html = part-html xs ys part;
   firm = λ h. let parts = and_parts (not (is_in_head xs)) (stand_well xs) h in elim (part-left xs ys part parts.1) [
     | inl less ↦ inr less
-    | inr left ↦ inl (and_left _ _ (still (is_in_head ys) refl left.1 (not_true _ parts.0)) left.0)
+    | inr left ↦ inl (both _ _ (still (is_in_head ys) refl left.1 (not_true _ parts.0)) left.0)
   ];
 }
   where

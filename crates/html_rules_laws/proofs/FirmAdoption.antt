@@ -11,9 +11,10 @@ use Rattle.html_rules.specs.Stack.{has_open, is_open, open_templates}
 use Rattle.html_rules.specs.State.{Open, is_in}
 use Rattle.html_rules.specs.declared.tag_set.TagSet.TheVariants as set
 use Rattle.html_rules_laws.specs.Placing.{are_general, is_in_head, may_stand_over, stand_well}
-use Rattle.html_rules_laws.proofs.AdoptionPlace.{special-is, split, split-part}
-use Rattle.html_rules_laws.proofs.Firm.{IsFirm, IsPlain, firm-after, firm-part, general-plain, not_true, over-plain}
-use Rattle.html_rules_laws.proofs.Standing.{IsPart, gone, kept, none, part-same}
+use Rattle.html_rules_laws.proofs.AdoptionPlace.{special-is, split, split-part, none-some, part-behind}
+use Rattle.html_rules_laws.proofs.Firm.{IsFirm, IsPlain, firm-after, firm-part, general-plain, over-plain}
+use Rattle.html_rules_laws.proofs.Standing.{IsPart, gone, kept, none}
+use Rattle.html_rules_laws.proofs.Bools.{both, not_true}
 
 abbrev pub ArePlain : List Open → Type 0
 ArePlain [] = Unit {0}
@@ -31,15 +32,8 @@ part-trans xs ys zs (gone x xs' ys' p) q = gone x xs' zs (part-trans xs' ys' zs 
 part-trans xs ys zs (kept x xs' ys' p) (kept y ys'' zs' q) = kept x xs' zs' (part-trans xs' ys' zs' p q)
 part-trans xs ys zs (kept x xs' ys' p) (gone y ys'' zs' q) = gone x xs' zs' (part-trans xs' ys' zs' p q)
 
-part-behind : (ls ys : List Open) → IsPart ys (ls ++ ys)
-part-behind [] ys = part-same ys
-part-behind (l ∷ ls) ys = gone l (ls ++ ys) ys (part-behind ls ys)
-
 drop-part : (ls ys xs : List Open) → IsPart (ls ++ ys) xs → IsPart ys xs
 drop-part ls ys xs part = part-trans xs (ls ++ ys) ys part (part-behind ls ys)
-
-none-some : (x : Open) → None ≡ Some x → ⊥
-none-some x e = cc
 
 pub found : (n : ℕ) (block : Open) (xs : List Open) → is_open n xs ≡ true → furthest_block (opened_after n xs) ≡ Some block → (x : Open) × IsPart (opened_after block.number xs ++ block ∷ x ∷ opened_before n xs) xs
 found n block [] h e = absurd (true≢false (sym h))
@@ -90,9 +84,6 @@ general-copies : (xs ys : List Open) → ArePlain xs → are_general ys ≡ true
 general-copies [] ys h g = g
 general-copies (x ∷ xs) ys h g = general-plain x (xs ++ ys) h.0 (general-copies xs ys h.1 g)
 
-and_both : (a b : Bool) → a ≡ true → b ≡ true → (a && b) ≡ true
-and_both a b h k = rw (h, k) refl
-
 -- elements on top of others that are exchanged
 record IsExchange (old new : List Open) : Type 0 where
   rooted : is_at_root old ≡ false
@@ -125,7 +116,7 @@ exchanged [] old new is w = (is.well, λ h. absurd (true≢false (sym h ∙ is.f
 exchanged (a ∷ ls) old new is w =
     let parts = and_parts (may_stand_over a (ls ++ old)) (stand_well (ls ++ old)) w in
     let rest = exchanged ls old new is parts.1 in
-    (and_both _ _ (over parts.0 parts.1 rest.1) rest.0, λ h. let own = and_parts (is_in set.Head a) _ h in and_both _ _ own.0 (html-behind ls old new is.html own.1))
+    (both _ _ (over parts.0 parts.1 rest.1) rest.0, λ h. let own = and_parts (is_in set.Head a) _ h in both _ _ own.0 (html-behind ls old new is.html own.1))
   where
     over : may_stand_over a (ls ++ old) ≡ true → stand_well (ls ++ old) ≡ true → (is_in_head (ls ++ new) ≡ true → is_in_head (ls ++ old) ≡ true) → may_stand_over a (ls ++ new) ≡ true
     over o w up = by (is_in set.Html a) (is_in set.Head a) (has_open set.Html (ls ++ new)) (is_in_head (ls ++ new)) (is_in_head (ls ++ old)) (is_in set.Template a) refl refl refl o where
@@ -149,7 +140,7 @@ taken-over new block x copies es plain all w t =
     let outer = and_parts (may_stand_over block (x ∷ es)) (stand_well (x ∷ es)) w in
     let inner = and_parts (may_stand_over x es) (stand_well es) outer.1 in
     let below : is_in_head es ≡ false = over-plain x es inner.0 t in
-    let general : are_general (copies ++ es) ≡ true = general-copies copies es all (and_both _ _ (ap not below) inner.1) in
+    let general : are_general (copies ++ es) ≡ true = general-copies copies es all (both _ _ (ap not below) inner.1) in
     let general' = and_parts (not (is_in_head (copies ++ es))) _ general in
     let no_root : is_in set.Html block ≡ false = no-root (is_in set.Html block) outer.0 refl in
     let same = html-plain copies es all in
@@ -159,7 +150,7 @@ taken-over new block x copies es plain all w t =
       some = refl;
       html = λ h. html-up (is_in set.Html block) (is_in set.Html x) (rw (plain.root, same) at h);
       free = rw plain.head refl;
-      well = and_both _ _ (rw (plain.root, plain.head) (rw free refl)) (and_both _ _ (over-block (is_in set.Head block) refl outer.0 inner.0 no_root same general'.0) general'.1);
+      well = both _ _ (rw (plain.root, plain.head) (rw free refl)) (both _ _ (over-block (is_in set.Head block) refl outer.0 inner.0 no_root same general'.0) general'.1);
     }
   where
     no-root : (b : Bool) → may_stand_over block (x ∷ es) ≡ true → is_in set.Html block ≡ b → is_in set.Html block ≡ false
@@ -236,4 +227,4 @@ adopted-firm xs ls es block x new copies part plain all =
     by true e w = inr (strict e)
     by false e w =
         let made = exchanged ls (block ∷ x ∷ es) (new ∷ block ∷ (copies ++ es)) (taken-over new block x copies es plain all (right ls (block ∷ x ∷ es) w.1) e) w.1 in
-        inl (and_both _ _ (not-in (is_in_head (ls ++ (new ∷ block ∷ (copies ++ es)))) refl made.1 w.0) made.0)
+        inl (both _ _ (not-in (is_in_head (ls ++ (new ∷ block ∷ (copies ++ es)))) refl made.1 w.0) made.0)

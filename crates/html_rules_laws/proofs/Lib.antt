@@ -6,6 +6,7 @@ pub mod AdoptionStanding
 pub mod AdoptionTurn
 pub mod AdoptionWalk
 pub mod Aside
+pub mod Bools
 pub mod CharacterTurns
 pub mod Firm
 pub mod FirmAdoption

@@ -9,6 +9,7 @@ use Rattle.html_rules.specs.Sets.{is_among, mathml_names_of, names_in, names_of,
 use Rattle.html_rules.specs.State.{Open, is_in}
 use Rattle.html_rules.specs.declared.tag_set.TagSet.{TagSet}
 use Rattle.html_rules_laws.proofs.Names.{disjoint, shares_name}
+use Rattle.html_rules_laws.proofs.Bools.{not_true}
 
 -- whether all these names are among those
 abbrev pub all_among : List (List ℕ) → List (List ℕ) → Bool
@@ -32,10 +33,6 @@ within a b = all_among (names_of a) (names_of b) && (all_among (mathml_names_of 
 -- whether two sets have nothing in common
 abbrev pub apart : TagSet → TagSet → Bool
 apart a b = not (shares_name (names_of a) (names_of b)) && (not (shares_name (mathml_names_of a) (mathml_names_of b)) && not (shares_name (svg_names_of a) (svg_names_of b)))
-
-not_true : (b : Bool) → not b ≡ true → b ≡ false
-not_true true h = sym h
-not_true false h = refl
 
 in_by : (a b : TagSet) → within a b ≡ true → (namespace : Namespace) (name : List ℕ) → is_among name (names_in namespace a) ≡ true → is_among name (names_in namespace b) ≡ true
 in_by a b w namespace name = by namespace where

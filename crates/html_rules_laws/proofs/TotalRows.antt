@@ -25,7 +25,7 @@ class_takes : (c : Class) (t : Token) → is_anything_else c ≡ true → class_
 class_takes AnythingElse t h = refl
 class_takes _ t h = absurd (true≢false (sym h))
 
-always_holds : (c : Condition) (t : Token) (s : State) → is_always c ≡ true → holds c t s ≡ true
+pub always_holds : (c : Condition) (t : Token) (s : State) → is_always c ≡ true → holds c t s ≡ true
 always_holds Always t s h = refl
 always_holds _ t s h = absurd (true≢false (sym h))
 

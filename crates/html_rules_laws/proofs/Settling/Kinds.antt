@@ -14,6 +14,7 @@ use Rattle.html_rules.specs.ForeignContent.{is_start_tag, is_end_tag}
 use Rattle.html_rules.specs.Sets.{is_among, names_of}
 use Rattle.html_rules.specs.Table.{Class, StartTags, EndTags, AnyStartTag, AnyEndTag, WhiteSpace, Character, Null, Comment, EndOfFile, AnythingElse}
 use Rattle.html_rules.specs.Tokens.{class_fits, is_white}
+use Rattle.html_rules_laws.proofs.Bools.{both, no, not_true}
 
 -- start tags with one of these names, or with none of them; end tags; characters, of white space alone; U+0000; the end; comments; any other token that is no tag
 pub data Kind : Type 0 where
@@ -127,19 +128,9 @@ among-minus name (x ∷ xs) names h k = by (bytes_eq name x) (is_among x names) 
   by false true e f h rest = rest h
   by false false e f h rest = rw e (rest h)
 
-both : (a b : Bool) → a ≡ true → b ≡ true → (a && b) ≡ true
-both a b h k = rw (h, k) refl
-
-not_true : (b : Bool) → not b ≡ true → b ≡ false
-not_true true h = sym h
-not_true false h = refl
-
 one_kind : (kind : TagKind) → is_start_tag kind ≡ true → is_end_tag kind ≡ true → ⊥
 one_kind StartTag h k = true≢false (sym k)
 one_kind EndTag h k = true≢false (sym h)
-
-no : {A : Type 0} → false ≡ true → A
-no h = absurd (true≢false (sym h))
 
 -- a class takes of a kind what it is said to
 

@@ -21,6 +21,7 @@ use Rattle.html_rules_laws.proofs.SetFacts.{apart, within}
 use Rattle.html_rules_laws.proofs.Settling.Kinds.{Kind, Starts, StartsBut, Ends, EndsBut, Texts, Nulls, TheEnd, Others, hit, is_none, is_of, left}
 use Rattle.html_rules_laws.proofs.Settling.Matters.{all_pay, all_pay_or_root, tells}
 use Rattle.html_rules_laws.proofs.Settling.Steps.{brought, closes, is_known, is_mild, resets}
+use Rattle.html_rules_laws.proofs.Bools.{both}
 
 -- `td` and `th`; `tr`; `col`; other start tags; `</html>`; other end tags; characters; U+0000; the end; any other token
 pub data Family : Type 0 where
@@ -260,9 +261,6 @@ pub mode-ok : (φ : Family) (m : InsertionMode) → mode_ok m φ ≡ true
 mode-ok φ m = each (mode_ok m) (modes_ok m) φ
 
 -- each token is of a family
-
-both : (a b : Bool) → a ≡ true → b ≡ true → (a && b) ≡ true
-both a b h k = rw (h, k) refl
 
 pub record IsInFamily (t : Token) (φ : Family) : Type 0 where
   pub is : is_of (kind_of φ) t ≡ true

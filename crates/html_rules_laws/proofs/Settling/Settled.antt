@@ -19,6 +19,7 @@ use Rattle.html_rules_laws.proofs.CharacterTurns.{settle-keeps}
 use Rattle.html_rules_laws.proofs.KeptByRows.{IsKept, all_pass, settle-kept}
 use Rattle.html_rules_laws.proofs.Settling.Ranks.{Family, family, is_text_mode, rank}
 use Rattle.html_rules_laws.proofs.Settling.Turns.{Settling, mode-is, settle-settled}
+use Rattle.html_rules_laws.proofs.Bools.{both}
 
 -- what a token keeps
 
@@ -88,9 +89,6 @@ start φ s fit listed modes = record { modes = modes; back = comes-back φ s.mod
 
 pub token-settled : (t : Token) (s : State) → fits_mode s.mode s.orig_mode s.open_elems s.head_elem s.template_modes ≡ true → are_formatting s.active_formatting ≡ true → are_template_modes s.template_modes ≡ true → (settle t s).is_settled ≡ true
 token-settled t s fit listed modes = let of = family t in settle-settled of.0 t s of.1.is (start of.0 s fit listed modes)
-
-both : (a b : Bool) → a ≡ true → b ≡ true → (a && b) ≡ true
-both a b h k = rw (h, k) refl
 
 text-settled : (text : List ℕ) (before : Settled) → Ready before.state → are_template_modes before.state.template_modes ≡ true → before.is_settled ≡ true → (text_taken text before).is_settled ≡ true
 text-settled [] before is modes h = h

@@ -6,7 +6,7 @@ use Rattle.std.proofs.lemmas.Bool.{and_parts, cases_lt, eqb-true}
 use Rattle.markup.specs.Forest.{node_count}
 use Rattle.html_tokens.specs.declared.tags.Tag.{Tag}
 use Rattle.html_tokens.specs.declared.token.Token.{Token}
-use Rattle.html_rules.specs.Actions.{act, frameset_not_ok_unless_white, keep_mode, pop_template_mode, push_head, push_head_elem, remove_from_stack_if, remove_head_elem, set_foster_parenting, set_head_elem, set_quirks_mode, set_template_mode, tell_pending_text, tell_text, without_first}
+use Rattle.html_rules.specs.Actions.{act, frameset_not_ok_unless_white, keep_mode, pop_template_mode, push_head, push_head_elem, remove_from_stack_if, remove_head_elem, set_foster_parenting, set_head_elem, set_quirks_mode, set_template_mode, tell_pending_text, tell_text}
 use Rattle.html_rules.specs.Choice.{choose}
 use Rattle.html_rules.specs.ForeignContent.{ends_foreign, pop_foreign}
 use Rattle.html_rules.specs.Formatting.{clear_active_formatting_to_marker, reconstruct_active_formatting_elements, reopen}
@@ -18,13 +18,13 @@ use Rattle.html_rules.specs.Stack.{check_body_end, expect_to_close, generate_imp
 use Rattle.html_rules.specs.State.{Open, Entry, Element, Marker, State, current_is, is_in}
 use Rattle.html_rules.specs.Table.{Action, Nothing, Then, ParseError, InsertNew, CreateNewRoot, Pop, PopUntil, ClearBackTo, Close, ImpliedEndTags, CheckBodyEnd, SetHeadElem, PushHeadElem, RemoveHeadElem, ClearToMarker, KeepMode, ResetMode, SetTemplateMode, PopTemplateMode, SetQuirks, EnableFosterParenting, DisableFosterParenting, PopForeign}
 use Rattle.html_rules.specs.Tokens.{is_white}
-use Rattle.html_rules.specs.declared.insertion_mode.InsertionMode.{InsertionMode}
 use Rattle.html_rules.specs.declared.tag_set.TagSet.TheVariants as set
 use Rattle.html_rules_laws.specs.Ready.{are_formatting}
 use Rattle.html_rules_laws.specs.Settled.{are_template_modes, is_template_mode}
 use Rattle.html_rules_laws.proofs.Names.{disjoint}
 use Rattle.html_rules_laws.proofs.Settling.Matters.{all_pay, below-less, payers, payers-part, paying_names, pays, pays-in}
 use Rattle.html_rules_laws.proofs.Standing.{IsPart, part-below, part-but_root, part-from, part-number}
+use Rattle.html_rules_laws.proofs.Aside.{first-modes}
 
 -- how many elements that pay come with an action, at most; of those that are known
 abbrev pub one_if_pays : List ℕ → ℕ
@@ -67,10 +67,6 @@ brings-none s r h e = record { payers = omega arith; modes = λ k. rw e k }
 -- elements leave
 brings-part : (s r : State) → IsPart r.open_elems s.open_elems → r.template_modes ≡ s.template_modes → Brings 0 s r
 brings-part s r part e = brings-none s r (payers-part s.open_elems r.open_elems part) e
-
-first-modes : (modes : List InsertionMode) → are_template_modes modes ≡ true → are_template_modes (without_first modes) ≡ true
-first-modes [] h = refl
-first-modes (m ∷ modes) h = (and_parts (is_template_mode m) (are_template_modes modes) h).1
 
 brings-choose : (b : Bool) (k : ℕ) (s x y : State) → Brings k s x → Brings k s y → Brings k s (choose b (λ _. x) (λ _. y))
 brings-choose true k s x y h g = h

@@ -14,7 +14,7 @@ use Rattle.html_rules.specs.Reset.{current_template_mode, mode_of, mode_of_conte
 use Rattle.html_rules.specs.Rules.{Ending, Finished, Again, Replied, Settled, Turn, concluded, encoding_reply, first_fit, four_for_each, most_modes, rows, settle, settled_by, turn, turn_by_row, using_rules_for, within}
 use Rattle.html_rules.specs.Stack.{pop_but_root, pop_until_current}
 use Rattle.html_rules.specs.State.{Open, State, current_number, is_in}
-use Rattle.html_rules.specs.Table.{Row, Condition, Always, CurrentIs, InScope, Action, Then, ClearBackTo, Pop, ResetMode, TellPendingText, Conclusion, Done, Acknowledged, Reprocess, ReprocessInOriginal, ReprocessInMode, Using, UsingThen, UsingCurrentMode, RawText, PlainText, RunScript, TellEncoding}
+use Rattle.html_rules.specs.Table.{Row, Condition, CurrentIs, InScope, Action, Then, ClearBackTo, Pop, ResetMode, TellPendingText, Conclusion, Done, Acknowledged, Reprocess, ReprocessInOriginal, ReprocessInMode, Using, UsingThen, UsingCurrentMode, RawText, PlainText, RunScript, TellEncoding}
 use Rattle.html_rules.specs.Tokens.{attributes_of, class_fits}
 use Rattle.html_rules.specs.declared.insertion_mode.InsertionMode.{InsertionMode}
 use Rattle.html_rules.specs.declared.insertion_mode.InsertionMode.TheVariants as mode
@@ -27,6 +27,7 @@ use Rattle.html_rules_laws.proofs.Settling.Kinds.{Kind, hit, hit-is, is_none, is
 use Rattle.html_rules_laws.proofs.Settling.Matters.{all_pay, all_pay_or_root, cleared-less, current-less, payers, payers-length, tells, tells-some}
 use Rattle.html_rules_laws.proofs.Settling.Ranks.{Family, again_ok, ends_ok, is_paying, is_reset_mode, is_telling, is_text_mode, kind_of, may_reset, mode-ok, mode_ok, pops_found, pops_scoped, rank, rank_ok, row_ok, rows_ok, uses_ok}
 use Rattle.html_rules_laws.proofs.Settling.Steps.{brought, closes, closes-less, IsMild, is_known, is_mild, known-brings, mild-is, pending-told, resets}
+use Rattle.html_rules_laws.proofs.TotalRows.{always_holds}
 
 -- what a state may still take
 abbrev worth : Family → State → ℕ
@@ -295,10 +296,6 @@ row-goes uses using φ m t go kind r h k f s c is e = by (is_none (hit kind r.on
   by true n h = absurd (none-of (hit kind r.on) t n (hit-is kind r.on t f k))
   by false n h = ends-goes uses using φ m t go (hit kind r.on) r r.ends h k (hit-is kind r.on t f k) s c is e (current_number s.open_elems)
 
-always-holds : (c : Condition) (t : Token) (s : State) → is_always c ≡ true → holds c t s ≡ true
-always-holds Always t s h = refl
-always-holds c t s h = absurd (true≢false (sym h))
-
 rows-goes : (uses : Kind → InsertionMode → Bool) (using : InsertionMode → Token → State → Turn) (φ : Family) (m : InsertionMode) (t : Token) → Goers uses using φ m t → (rs : List Row) (kind : Kind) → rows_ok uses φ m kind rs ≡ true
     → is_of kind t ≡ true → (s : State) → Settling φ s → s.mode ≡ m → Goes φ s (turn_by_row using (first_fit rs t s) t s)
 rows-goes uses using φ m t go [] kind h f s is e = λ again. ended false again
@@ -321,7 +318,7 @@ rows-goes uses using φ m t go (r ∷ rs) kind h f s is e =
         → ((kind : Kind) → rows_ok uses φ m kind rs ≡ true → is_of kind t ≡ true → Goes φ s (turn_by_row using (first_fit rs t s) t s))
         → Goes φ s (turn_by_row using (choose (choose a (λ _. b) (λ _. false)) (λ _. r) (λ _. first_fit rs t s)) t s)
     by true true c ea eb ec h rest = row-goes uses using φ m t go kind r parts.0 ea f s eb is e
-    by true false true ea eb ec h rest = absurd (true≢false (sym (always-holds r.when t s ec) ∙ eb))
+    by true false true ea eb ec h rest = absurd (true≢false (sym (always_holds r.when t s ec) ∙ eb))
     by true false false ea eb ec h rest = rest kind h f
     by false b true ea eb ec h rest = left-goes ea (is_none (left kind r.on)) refl h rest
     by false b false ea eb ec h rest = rest kind h f

@@ -20,7 +20,6 @@ use Rattle.html_rules.specs.Tokens.{attributes_of, name_of, text_of}
 use Rattle.html_rules.specs.declared.tag_set.TagSet.{TagSet}
 use Rattle.html_rules.specs.declared.tag_set.TagSet.TheVariants as set
 use Rattle.html_rules_laws.proofs.Aside.{Asides, after, agency-Aside, append_text-Aside, body-Aside, check-Aside, close_by-Aside, close_item-Aside, close_p-Aside, either, enter-Aside, except-Aside, expect_to_close-Aside, for_tag-Aside, generic-Aside, insert-Aside, insert_element-Aside, list-Aside, misnested-Aside, other, parse_error-Aside, pop_until-Aside, pop_until_current-Aside, put_element-Aside, reconstruct-Aside, remove_if-Aside, same, tell-Aside, unopened-Aside}
-use Rattle.html_rules_laws.proofs.Firm.{not_true}
 use Rattle.html_rules_laws.proofs.Names.{disjoint, shares_name}
 use Rattle.html_rules_laws.proofs.SetFacts.{all_among, among-all}
 use Rattle.html_rules_laws.proofs.Settling.Kinds.{Kind, Starts, StartsBut, Ends, EndsBut, is_of}
@@ -28,6 +27,7 @@ use Rattle.html_rules_laws.proofs.Firm.{IsPlain}
 use Rattle.html_rules_laws.proofs.Standing.{part-but_root, part-same}
 use Rattle.html_rules_laws.proofs.StandingActions.{foreign_end-part}
 use Rattle.html_rules_laws.proofs.Tame.{Tames, after-tame, agency-tame, append_text-tame, behind-listed, body-tame, check-tame, close_by-tame, close_item-tame, close_p-tame, either-tame, enter-tame, except-tame, expect_to_close-tame, formatting-tame, generic-tame, implied-tame, insert_element-tame, misnested-tame, parse_error-tame, part-tame, plain-name, pop_until-tame, pop_until_current-tame, put_element-tame, reconstruct-tame, remove_if-tame, same-tame, special_names, tell-tame, unopened-tame}
+use Rattle.html_rules_laws.proofs.Bools.{no, not_true}
 
 -- kinds of tokens none of which is a tag `html`, `head` or `template`
 abbrev pub plain_kind : Kind → Bool
@@ -44,9 +44,6 @@ formatting_kind (Ends names) = all_among names (names_of set.FormattingEnd)
 formatting_kind (StartsBut names) = false
 formatting_kind (EndsBut names) = false
 formatting_kind kind = true
-
-no : {A : Type 0} → false ≡ true → A
-no h = absurd (true≢false (sym h))
 
 out_of : (name : List ℕ) (names : List (List ℕ)) → all_among special_names names ≡ true → is_among name names ≡ false → is_among name special_names ≡ false
 out_of name names h k = by (is_among name special_names) refl where

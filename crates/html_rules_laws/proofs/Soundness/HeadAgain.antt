@@ -28,9 +28,10 @@ use Rattle.html_rules_laws.proofs.Aside.{after, push_head-Aside, template-Aside,
 use Rattle.html_rules_laws.proofs.Firm.{IsPlain}
 use Rattle.html_rules_laws.proofs.Settling.Kinds.{Kind, Starts, is_of}
 use Rattle.html_rules_laws.proofs.Soundness.Acts.{act-aside, act-tame, plain-of}
-use Rattle.html_rules_laws.proofs.Soundness.Moves.{Held, both, held-some, not_html-template, still-tame, template-general, template-topped}
-use Rattle.html_rules_laws.proofs.Soundness.Rows.{IsCalm, no, opens, opens-held, quiet-held, raw_text_only, raw_only-held, starts_plain, starts_template, tame-calm, void-same}
+use Rattle.html_rules_laws.proofs.Soundness.Moves.{Held, held-some, not_html-template, still-tame, template-general, template-topped}
+use Rattle.html_rules_laws.proofs.Soundness.Rows.{IsCalm, opens, opens-held, quiet-held, raw_text_only, raw_only-held, starts_plain, starts_template, tame-calm, void-same}
 use Rattle.html_rules_laws.proofs.Soundness.Specials.{calm-well}
+use Rattle.html_rules_laws.proofs.Bools.{both, no}
 
 -- the head again
 abbrev again : ℕ → Open

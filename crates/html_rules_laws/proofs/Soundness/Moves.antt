@@ -1,6 +1,6 @@
 -- Steps between sound states.
 use Rattle.std.proofs.Common.{◌≡◌, ◌∙◌, ℕ, suc, ◌+◌, ◌≤◌, Bool, true, false, List, [], ◌∷◌, length, Option, Some, None, refl, sym, ap, true≢false, arith, inl, inr}
-use Rattle.std.specs.Prelude.{◌||◌, ◌&&◌, not, is_some}
+use Rattle.std.specs.Prelude.{◌||◌, not, is_some}
 use Rattle.std.proofs.lemmas.Bool.{and_parts}
 use Rattle.markup.specs.Forest.{node_count}
 use Rattle.html_tokens.specs.declared.tags.Tag.{Tag}
@@ -23,11 +23,12 @@ use Rattle.html_rules_laws.specs.Placing.{are_general, is_in_head, may_stand_ove
 use Rattle.html_rules_laws.specs.Ready.{are_formatting}
 use Rattle.html_rules_laws.specs.Settled.{are_template_modes, is_template_mode}
 use Rattle.html_rules_laws.specs.Sound.{are_placed, are_placed_in, asks_root, comes_from_table, has_its_head, is_later, is_later_original, is_own}
-use Rattle.html_rules_laws.proofs.Aside.{IsAside}
+use Rattle.html_rules_laws.proofs.Aside.{IsAside, first-modes}
 use Rattle.html_rules_laws.proofs.Firm.{IsPlain, html_head, over-plain, part-html}
 use Rattle.html_rules_laws.proofs.SetFacts.{in-apart}
 use Rattle.html_rules_laws.proofs.Standing.{part-below}
 use Rattle.html_rules_laws.proofs.Tame.{IsTame}
+use Rattle.html_rules_laws.proofs.Bools.{both, or_true}
 
 -- how many template modes there are to be
 abbrev pub wanted : State → ℕ
@@ -81,9 +82,6 @@ is_loose m = is_free m
 record IsLoose (m : InsertionMode) (o : Option InsertionMode) (xs : List Open) : Type 0 where
   general : are_general xs ≡ true
   again : (ys : List Open) → are_general ys ≡ true → are_placed_in m o ys ≡ true
-
-pub both : (a b : Bool) → a ≡ true → b ≡ true → (a && b) ≡ true
-both a b h k = rw (h, k) refl
 
 free-loose : (m : InsertionMode) → is_free m ≡ true → (o : Option InsertionMode) (xs : List Open) → are_placed_in m o xs ≡ true → IsLoose m o xs
 free-loose m h o xs p = record { general = sym (free-placed m h o xs) ∙ p; again = λ ys g. free-placed m h o ys ∙ g }
@@ -161,10 +159,6 @@ first-length : (m : InsertionMode) (modes : List InsertionMode) (n : ℕ) → n 
 first-length m [] n h = (λ e. omega arith, omega arith)
 first-length m (x ∷ modes) n h = (λ e. e, h)
 
-first-modes : (modes : List InsertionMode) → are_template_modes modes ≡ true → are_template_modes (without_first modes) ≡ true
-first-modes [] h = refl
-first-modes (m ∷ modes) h = (and_parts (is_template_mode m) (are_template_modes modes) h).1
-
 pub template_mode-held : (m : InsertionMode) (s : State) → is_template_mode m ≡ true → Held s → Held (set_template_mode m s)
 unfolding set_template_mode
 template_mode-held m s k h =
@@ -233,10 +227,6 @@ not_html-template x h = in-apart set.Template set.Html refl x h
 not_head-template : (x : Open) → is_in set.Template x ≡ true → is_in set.Head x ≡ false
 unfolding names_of mathml_names_of svg_names_of
 not_head-template x h = in-apart set.Template set.Head refl x h
-
-pub or_true : (a : Bool) → (a || true) ≡ true
-or_true true = refl
-or_true false = refl
 
 -- a template over elements that stand well
 pub template-general : (x : Open) (xs : List Open) → is_in set.Template x ≡ true → stand_well xs ≡ true → are_general (x ∷ xs) ≡ true

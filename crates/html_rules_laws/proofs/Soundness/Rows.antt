@@ -1,5 +1,5 @@
 -- The rows of all modes keep a state sound for text.
-use Rattle.std.proofs.Common.{◌≡◌, ◌∙◌, Bool, true, false, length, refl, sym, true≢false}
+use Rattle.std.proofs.Common.{◌≡◌, ◌∙◌, Bool, true, false, length, refl}
 use Rattle.std.specs.Prelude.{◌||◌, ◌&&◌}
 use Rattle.std.proofs.lemmas.Bool.{and_parts}
 use Rattle.html_tokens.specs.declared.token.Token.{Token}
@@ -25,10 +25,8 @@ use Rattle.html_rules_laws.proofs.Aside.{template-Aside}
 use Rattle.html_rules_laws.proofs.SetFacts.{all_among, among-all}
 use Rattle.html_rules_laws.proofs.Settling.Kinds.{Kind, Starts, is_of}
 use Rattle.html_rules_laws.proofs.Soundness.Acts.{act-aside, act-tame, plain-of, plain_kind, tame_in}
-use Rattle.html_rules_laws.proofs.Soundness.Moves.{HasRoot, is_loose, Held, both, free-moved, free-later, is_free, is_text_mode, loose-tame, opened-held, still-tame, template-topped, template_mode-held, text-held, wanted}
-
-pub no : {A : Type 0} → false ≡ true → A
-no h = absurd (true≢false (sym h))
+use Rattle.html_rules_laws.proofs.Soundness.Moves.{HasRoot, is_loose, Held, free-moved, free-later, is_free, is_text_mode, loose-tame, opened-held, still-tame, template-topped, template_mode-held, text-held, wanted}
+use Rattle.html_rules_laws.proofs.Bools.{both, no}
 
 -- actions in modes in which any element may come
 

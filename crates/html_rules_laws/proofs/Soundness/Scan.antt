@@ -7,10 +7,11 @@ use Rattle.html_rules.specs.Choice.{choose}
 use Rattle.html_rules.specs.Conditions.{holds}
 use Rattle.html_rules.specs.Rules.{first_fit}
 use Rattle.html_rules.specs.State.{State}
-use Rattle.html_rules.specs.Table.{Row, row, AnythingElse, Nothing, Done, Condition, Always}
+use Rattle.html_rules.specs.Table.{Row, row, AnythingElse, Nothing, Done}
 use Rattle.html_rules.specs.Tokens.{class_fits}
 use Rattle.html_rules_laws.specs.WholeTable.{is_always}
 use Rattle.html_rules_laws.proofs.Settling.Kinds.{Kind, hit, hit-is, is_none, is_of, left, left-is, none-of}
+use Rattle.html_rules_laws.proofs.TotalRows.{always_holds}
 
 abbrev pub scan_row : (Kind → Row → Bool) → Kind → Row → Bool
 scan_row ok kind r = choose (is_none (hit kind r.on)) (λ _. true) (λ _. ok (hit kind r.on) r)
@@ -20,10 +21,6 @@ scan ok kind [] = true
 scan ok kind (r ∷ rs) =
     scan_row ok kind r
     && choose (is_always r.when) (λ _. choose (is_none (left kind r.on)) (λ _. true) (λ _. scan ok (left kind r.on) rs)) (λ _. scan ok kind rs)
-
-always-holds : (c : Condition) (t : Token) (s : State) → is_always c ≡ true → holds c t s ≡ true
-always-holds Always t s h = refl
-always-holds c t s h = absurd (true≢false (sym h))
 
 module _ (ok : Kind → Row → Bool) (P : Row → Type 0) (t : Token) (s : State)
     (rows-hold : (kind : Kind) (r : Row) → ok kind r ≡ true → is_of kind t ≡ true → class_fits r.on t ≡ true → holds r.when t s ≡ true → P r) (none : P (row AnythingElse Nothing Done))
@@ -50,7 +47,7 @@ module _ (ok : Kind → Row → Bool) (P : Row → Type 0) (t : Token) (s : Stat
             → ((kind : Kind) → scan ok kind rs ≡ true → is_of kind t ≡ true → P (first_fit rs t s))
             → P (choose (choose a (λ _. b) (λ _. false)) (λ _. r) (λ _. first_fit rs t s))
         by true true c ea eb ec own h rest = row-holds kind r own f ea eb
-        by true false true ea eb ec own h rest = absurd (true≢false (sym (always-holds r.when t s ec) ∙ eb))
+        by true false true ea eb ec own h rest = absurd (true≢false (sym (always_holds r.when t s ec) ∙ eb))
         by true false false ea eb ec own h rest = rest kind h f
         by false b true ea eb ec own h rest = left-holds ea (is_none (left kind r.on)) refl h rest
         by false b false ea eb ec own h rest = rest kind h f

@@ -32,10 +32,10 @@ use Rattle.html_rules_laws.proofs.Firm.{html_head}
 use Rattle.html_rules_laws.proofs.SetFacts.{in-apart}
 use Rattle.html_rules_laws.proofs.Settling.Settled.{each_token_is_settled}
 use Rattle.html_rules_laws.proofs.Soundness.Moves.{Held, free-later, free-placed, is_free, wanted}
-use Rattle.html_rules_laws.proofs.Soundness.Rows.{no}
 use Rattle.html_rules_laws.proofs.Soundness.Steps.{erred, settle-held, text-held}
 use Rattle.html_rules_laws.proofs.Soundness.Tokens.{initial-held}
 use Rattle.html_rules_laws.proofs.StepLaws.{refusal_with, rules-lawful, step-is}
+use Rattle.html_rules_laws.proofs.Bools.{no}
 
 -- a token that is taken
 

@@ -28,14 +28,15 @@ use Rattle.html_rules.specs.declared.tag_set.TagSet.TheVariants as set
 use Rattle.html_rules_laws.specs.Placing.{are_general, is_in_head, may_stand_over, stand_well}
 use Rattle.html_rules_laws.specs.Sound.{are_placed, are_placed_in, are_placed_under, asks_root, comes_from_table, has_its_head, is_later, is_later_original, is_over_head_element, is_own, is_table_mode}
 use Rattle.html_rules_laws.proofs.Aside.{expect_to_close-Aside}
-use Rattle.html_rules_laws.proofs.Firm.{IsPlain, firm-part, not_true, over-plain, part-html}
+use Rattle.html_rules_laws.proofs.Firm.{IsPlain, firm-part, over-plain, part-html}
 use Rattle.html_rules_laws.proofs.SetFacts.{all_among, among-all, in-apart}
 use Rattle.html_rules_laws.proofs.Settling.Kinds.{Kind, Starts, is_of}
 use Rattle.html_rules_laws.proofs.Soundness.Acts.{act-aside, act-tame, plain-of, tame_in}
-use Rattle.html_rules_laws.proofs.Soundness.Moves.{Held, both, closed-held, from-well, free-placed, free-later, held-some, implied-count, is_loose, kept_by_implied, loose-tame, reset-held}
-use Rattle.html_rules_laws.proofs.Soundness.Rows.{IsCalm, StandsWell, closes, no, starts_plain, tame-calm}
+use Rattle.html_rules_laws.proofs.Soundness.Moves.{Held, closed-held, from-well, free-placed, free-later, held-some, implied-count, is_loose, kept_by_implied, loose-tame, reset-held}
+use Rattle.html_rules_laws.proofs.Soundness.Rows.{IsCalm, StandsWell, closes, starts_plain, tame-calm}
 use Rattle.html_rules_laws.proofs.Standing.{part-but_root, part-from}
 use Rattle.html_rules_laws.proofs.Tame.{behind-listed, expect_to_close-tame}
+use Rattle.html_rules_laws.proofs.Bools.{both, no, not_true, or_true}
 
 -- templates are closed
 
@@ -129,10 +130,6 @@ root-html : (xs : List Open) → is_at_root xs ≡ true → has_open set.Html xs
 root-html [] h = no h
 root-html (x ∷ xs) h = rw h refl
 
-or_right : (a : Bool) → (a || true) ≡ true
-or_right true = refl
-or_right false = refl
-
 headed-held : (name : List ℕ) (attributes : List Attribute) (dup : Bool) → is_among name (names_of set.Head) ≡ true → (s : State) → s.mode ≡ mode.BeforeHead → Held s → Held (set_mode mode.InHead (set_head_elem (insert_element Html name attributes dup s)))
 unfolding set_mode set_head_elem insert_element
 headed-held name attributes dup n s e h =
@@ -149,7 +146,7 @@ headed-held name attributes dup n s e h =
       placed = λ f root.
           let was : (is_at_root s.open_elems && stand_well s.open_elems) ≡ true = rw e at (h.placed (rw template at f) (λ later. absurd (true≢false (sym later ∙ ap is_later e)))) in
           let parts = and_parts (is_at_root s.open_elems) (stand_well s.open_elems) was in
-          both _ _ (both _ _ head (root-html s.open_elems parts.0)) (both _ _ (rw (root', head, parts.0) (or_right (not (has_open set.Html s.open_elems)))) parts.1);
+          both _ _ (both _ _ head (root-html s.open_elems parts.0)) (both _ _ (rw (root', head, parts.0) (or_true (not (has_open set.Html s.open_elems)))) parts.1);
     }
 
 abbrev pub starts_head : Kind → Bool

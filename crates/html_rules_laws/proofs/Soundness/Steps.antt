@@ -29,10 +29,10 @@ use Rattle.html_rules_laws.proofs.Aside.{foreign-Aside}
 use Rattle.html_rules_laws.proofs.Settling.Kinds.{Kind, Starts, StartsBut, EndsBut, Texts, Nulls, TheEnd, Others, is_of}
 use Rattle.html_rules_laws.proofs.Soundness.Acts.{act-aside, act-tame, tame_in}
 use Rattle.html_rules_laws.proofs.Soundness.Moves.{HasRoot, Held, HoldsTame, is_loose, loose-tame, lost-tame, wanted}
-use Rattle.html_rules_laws.proofs.Soundness.Rows.{no}
 use Rattle.html_rules_laws.proofs.Soundness.Scan.{scan, scan-holds}
-use Rattle.html_rules_laws.proofs.Soundness.Tokens.{Holder, each_kind, foreign_row, foreign_sound, head_names, is_insert_foreign, mode_sound, modes_sound, named_apart, or_by, root_names, template_names, uses-held, uses_sound}
+use Rattle.html_rules_laws.proofs.Soundness.Tokens.{Holder, each_kind, foreign_row, foreign_sound, head_names, is_insert_foreign, mode_sound, modes_sound, named_apart, root_names, template_names, uses-held, uses_sound}
 use Rattle.html_rules_laws.proofs.Tame.{foreign-tame}
+use Rattle.html_rules_laws.proofs.Bools.{both, no, or_by}
 
 -- an element that is foreign is not HTML's
 
@@ -181,9 +181,6 @@ kind-held kind t k s h is = by (is_foreign s t) refl where
       is in_foreign_content kind parts.1 k
   by false f = uses-held 4 s.mode t kind s.mode parts.0 k s is refl
 
-both_true : (a b : Bool) → a ≡ true → b ≡ true → (a && b) ≡ true
-both_true a b h k = rw (h, k) refl
-
 none_of : (a b c : Bool) → (a || false) ≡ false → (b || false) ≡ false → (c || false) ≡ false → not (a || (b || (c || false))) ≡ true
 none_of true b c h k l = absurd (true≢false h)
 none_of false true c h k l = absurd (true≢false k)
@@ -201,10 +198,10 @@ module _ (p : Kind → Bool) (all : each_kind p ≡ true) where
     where
       by : p (Starts root_names) ≡ true → p (Starts head_names) ≡ true → p (Starts template_names) ≡ true → p (StartsBut named_apart) ≡ true → (a b c : Bool) → is_among tag.name root_names ≡ a → is_among tag.name head_names ≡ b → is_among tag.name template_names ≡ c
           → (kind : Kind) × ((p kind ≡ true) × (is_of kind (TagToken tag) ≡ true))
-      by h1 h2 h3 h4 true b c ea eb ec = (Starts root_names, (h1, both_true _ _ s ea))
-      by h1 h2 h3 h4 false true c ea eb ec = (Starts head_names, (h2, both_true _ _ s eb))
-      by h1 h2 h3 h4 false false true ea eb ec = (Starts template_names, (h3, both_true _ _ s ec))
-      by h1 h2 h3 h4 false false false ea eb ec = (StartsBut named_apart, (h4, both_true _ _ s (none_of _ _ _ ea eb ec)))
+      by h1 h2 h3 h4 true b c ea eb ec = (Starts root_names, (h1, both _ _ s ea))
+      by h1 h2 h3 h4 false true c ea eb ec = (Starts head_names, (h2, both _ _ s eb))
+      by h1 h2 h3 h4 false false true ea eb ec = (Starts template_names, (h3, both _ _ s ec))
+      by h1 h2 h3 h4 false false false ea eb ec = (StartsBut named_apart, (h4, both _ _ s (none_of _ _ _ ea eb ec)))
 
   last-kinds : (p (EndsBut []) ≡ true) × ((p Texts && (p Nulls && (p TheEnd && p Others))) ≡ true)
   last-kinds =
@@ -216,7 +213,7 @@ module _ (p : Kind → Bool) (all : each_kind p ≡ true) where
 
   tag-kind : (tag : Tag) (kind : TagKind) → tag.kind ≡ kind → (kind : Kind) × ((p kind ≡ true) × (is_of kind (TagToken tag) ≡ true))
   tag-kind tag StartTag e = start-kind tag (ap is_start_tag e)
-  tag-kind tag EndTag e = (EndsBut [], (last-kinds.0, both_true _ _ (ap is_end_tag e) refl))
+  tag-kind tag EndTag e = (EndsBut [], (last-kinds.0, both _ _ (ap is_end_tag e) refl))
 
   kind-of : (t : Token) → (kind : Kind) × ((p kind ≡ true) × (is_of kind t ≡ true))
   kind-of (TagToken tag) = tag-kind tag tag.kind refl

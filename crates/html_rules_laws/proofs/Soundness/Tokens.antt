@@ -18,10 +18,11 @@ use Rattle.html_rules_laws.specs.Sound.{is_later, is_table_mode}
 use Rattle.html_rules_laws.proofs.Settling.Kinds.{Kind, Starts, StartsBut, EndsBut, Texts, Nulls, TheEnd, Others, is_of}
 use Rattle.html_rules_laws.proofs.Soundness.Acts.{act-aside, tame_in}
 use Rattle.html_rules_laws.proofs.Soundness.HeadAgain.{bare-held, head_again-held, head_row}
-use Rattle.html_rules_laws.proofs.Soundness.Moves.{Held, both, free-later, free-moved, free-placed, held-some, is_free, is_text_mode}
-use Rattle.html_rules_laws.proofs.Soundness.Rows.{IsCalm, StandsWell, act-calm, calm, closes, no, opens, opens-held, quiet, quiet-held, quiet-mode, raw-held, raw_only-held, raw_text, raw_text_only, starts_plain, starts_template, tame-calm}
+use Rattle.html_rules_laws.proofs.Soundness.Moves.{Held, free-later, free-moved, free-placed, held-some, is_free, is_text_mode}
+use Rattle.html_rules_laws.proofs.Soundness.Rows.{IsCalm, StandsWell, act-calm, calm, closes, opens, opens-held, quiet, quiet-held, quiet-mode, raw-held, raw_only-held, raw_text, raw_text_only, starts_plain, starts_template, tame-calm}
 use Rattle.html_rules_laws.proofs.Soundness.Scan.{scan, scan-holds}
 use Rattle.html_rules_laws.proofs.Soundness.Specials.{before_head-held, before_head_ok, before_html-held, before_html_ok, calm-well, closes-held, in_head-held, in_head_ok, noscript-ends, noscript_ok, resets, resets-held, table_text-ends, table_text_ok, text-ends, text_ok}
+use Rattle.html_rules_laws.proofs.Bools.{both, no, or_by}
 
 -- what is tested of rows
 
@@ -159,10 +160,6 @@ modes_sound mode.AfterAfterBody = refl
 modes_sound mode.AfterAfterFrameset = refl
 
 -- rows
-
-pub or_by : {P : Type 0} (a b : Bool) → (a || b) ≡ true → (a ≡ true → P) → (b ≡ true → P) → P
-or_by true b h f g = f refl
-or_by false b h f g = g h
 
 abbrev pub Holder : (Kind → InsertionMode → Bool) → (InsertionMode → Token → State → Turn) → InsertionMode → Token → Type 0
 Holder uses using m t = (kind : Kind) (to : InsertionMode) → uses kind to ≡ true → is_of kind t ≡ true → (s : State) → Held s → s.mode ≡ m → Held (using to t s).state
