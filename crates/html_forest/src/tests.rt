@@ -7,3 +7,4 @@ mod plain;
 mod refused;
 mod rows;
 mod steps;
+mod walks;
