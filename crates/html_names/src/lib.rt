@@ -1,5 +1,5 @@
-//! What names and texts are to the rules of tree construction (HTML Standard, section 13.2.6): which sets of names an element is in, the
-//! names that change in foreign content, what a doctype says, and the encoding that a `meta` element names.
+//! What names and texts are to the rules of tree construction (HTML Standard, section 13.2.6): which sets of names an element is in, what
+//! a doctype says, and the encoding that a `meta` element names.
 #![tactic(auto)]
 
 mod any_case;
