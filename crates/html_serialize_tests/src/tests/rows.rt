@@ -219,6 +219,57 @@ fn a_byte_a_call(rt: HostRuntime) -> Result<(), Fail> {
     Ok(())
 }
 
+// Trees whose walks take memory: one call of each kind, nested elements, and elements that are missing.
+const NESTED: [Call<'static>; 12] = [
+    Call::Start("div", &[]),
+    Call::Start("ul", &[("", "class", "a")]),
+    Call::Start("li", &[]),
+    Call::Start("p", &[]),
+    Call::Start("b", &[]),
+    Call::Start("i", &[]),
+    Call::Text("<"),
+    Call::End("i"),
+    Call::End("b"),
+    Call::End("p"),
+    Call::End("li"),
+    Call::End("ul"),
+];
+
+const TREES: &[(Way<'static>, &'static [Call<'static>], &'static str)] = &[
+    (PLAIN, &EACH, EACH_TEXT),
+    (
+        PLAIN,
+        &NESTED,
+        "<div><ul class=\"a\"><li><p><b><i>&lt;</i></b></p></li></ul>",
+    ),
+    (
+        CREATES,
+        &[
+            Call::End("p"),
+            Call::Text("a"),
+            Call::End("p"),
+            Call::Start("b", &[]),
+        ],
+        "</p>a</p><b>",
+    ),
+];
+
+#[test]
+fn memory_that_is_refused(rt: HostRuntime) -> Result<(), Fail> {
+    for &(way, calls, text) in TREES {
+        let Ok(found) = written_by(rt.alloc(), &way, calls) else {
+            return Ok(());
+        };
+        let whole = found.written.as_slice() == text.as_bytes();
+        assert!(&rt; begins(&found, text), "{text}");
+        assert!(&rt;
+            (found.answer.is_ok() && whole) || found.answer == Err(SerializeFault::Memory),
+            "{text}"
+        );
+    }
+    Ok(())
+}
+
 #[test]
 fn copies(rt: HostRuntime) -> Result<(), Fail> {
     let under_style = Way {
