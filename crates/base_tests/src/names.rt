@@ -151,14 +151,20 @@ fn numbered(alloc: Global, count: usize) -> Result<Attributes, Fail> {
     Ok(list)
 }
 
+// Numbers of attributes to which lists grow, about the one from which places are kept.
+const COUNTS: &[usize] = &[0, 1, 16, 17, 40];
+
+// Whether attribute `number` is among the first `count`.
+fn is_found(alloc: Global, count: usize, number: usize) -> Result<bool, Fail> {
+    let name = LocalName::new(format!(in alloc; "a{number}")?);
+    Ok(numbered(alloc, count)?.has_local_name(&name))
+}
+
 #[test]
 fn local_names_are_found_among_few_and_many(rt: HostRuntime) -> Result<(), Fail> {
-    for count in [0, 1, 16, 17, 40] {
-        let list = numbered(rt.alloc(), count)?;
+    for count in COUNTS {
         for number in 0..50 {
-            let name = format!(in rt.alloc(); "a{number}")?;
-            let found = list.has_local_name(&LocalName::new(name));
-            assert_eq!(rt; found, number < count);
+            assert_eq!(rt; is_found(rt.alloc(), *count, number)?, number < *count);
         }
     }
     Ok(())
@@ -176,56 +182,93 @@ fn turned(alloc: Global, count: usize, is_turned: bool, other: usize) -> Result<
     Ok(list)
 }
 
+// Whether so many attributes are the same as so many turned round, of which one may have a value of its own.
+fn is_turned_same(
+    alloc: Global,
+    count: usize,
+    turned_count: usize,
+    other: usize,
+) -> Result<bool, Fail> {
+    let list = numbered(alloc, count)?;
+    Ok(list.is_permutation(&turned(alloc, turned_count, true, other)?))
+}
+
 #[test]
 fn orders_of_attributes_are_told_apart_from_values(rt: HostRuntime) -> Result<(), Fail> {
-    for count in [0, 1, 2, 16, 17, 40] {
-        let list = numbered(rt.alloc(), count)?;
-        assert!(rt; list.is_permutation(&turned(rt.alloc(), count, true, count)?));
-        assert!(rt; !list.is_permutation(&numbered(rt.alloc(), count + 1)?));
-        if count > 0 {
-            assert!(rt; !list.is_permutation(&turned(rt.alloc(), count, true, 0)?));
-        }
+    for count in COUNTS {
+        assert!(rt; is_turned_same(rt.alloc(), *count, *count, 99)?);
+        assert!(rt; !is_turned_same(rt.alloc(), *count, *count + 1, 99)?);
+        assert_eq!(rt; is_turned_same(rt.alloc(), *count, *count, 0)?, *count == 0);
     }
     Ok(())
+}
+
+// So many attributes, and one of them once more with another value.
+fn repeated(alloc: Global, count: usize, value: &str) -> Result<Attributes, Fail> {
+    let mut list = numbered(alloc, count)?;
+    list.push(attribute(alloc, "a0", value)?)?;
+    Ok(list)
+}
+
+fn are_repeated_same(alloc: Global, count: usize, value: &str) -> Result<bool, Fail> {
+    let list = repeated(alloc, count, "y")?;
+    Ok(list.is_permutation(&repeated(alloc, count, value)?))
 }
 
 #[test]
 fn repeated_attributes_are_counted(rt: HostRuntime) -> Result<(), Fail> {
-    for count in [1, 20] {
-        let mut first = numbered(rt.alloc(), count)?;
-        let mut second = numbered(rt.alloc(), count)?;
-        first.push(attribute(rt.alloc(), "a0", "x")?)?;
-        second.push(attribute(rt.alloc(), "a0", "y")?)?;
-        assert!(rt; !first.is_permutation(&second));
-        assert!(rt; first.is_permutation(&first.copy(rt.alloc())?));
+    for count in COUNTS {
+        assert!(rt; are_repeated_same(rt.alloc(), *count, "y")?);
+        assert!(rt; !are_repeated_same(rt.alloc(), *count, "z")?);
     }
     Ok(())
+}
+
+// So many attributes with those of so many that are missing.
+fn with_missing(alloc: Global, has: usize, more: usize) -> Result<Attributes, Fail> {
+    let mut list = numbered(alloc, has)?;
+    list.add_missing(turned(alloc, more, false, 0)?)?;
+    Ok(list)
+}
+
+// The first value, and how many attributes there are; whether those are in order.
+fn are_numbered(list: &Attributes, count: usize, first: &str) -> bool {
+    list.len() == count
+        && list
+            .as_slice()
+            .first()
+            .is_none_or(|a| a.value.as_str() == first)
 }
 
 #[test]
 fn missing_attributes_are_added(rt: HostRuntime) -> Result<(), Fail> {
-    for (has, more, want) in [(0, 0, 0), (0, 3, 3), (3, 5, 5), (20, 5, 20), (5, 40, 40)] {
-        let mut list = numbered(rt.alloc(), has)?;
-        list.add_missing(turned(rt.alloc(), more, false, 0)?)?;
-        assert_eq!(rt; list.len(), want);
-        for number in 0..50 {
-            let local = format!(in rt.alloc(); "a{number}")?;
-            assert_eq!(rt;
-                list.has(&name(rt.alloc(), None, "", local.as_str())?),
-                number < want
-            );
-            assert!(rt; !list.has(&name(rt.alloc(), None, "x", local.as_str())?));
-        }
-        if let Some(first) = list.as_slice().first() {
-            assert_eq!(rt; first.value.as_str() == "x", has > 0);
-        }
+    let cases: &[(usize, usize, usize, &str)] = &[
+        (0, 0, 0, "x"),
+        (0, 3, 3, "y"),
+        (3, 5, 5, "x"),
+        (20, 5, 20, "x"),
+        (5, 40, 40, "x"),
+    ];
+    for (has, more, want, first) in cases {
+        let list = with_missing(rt.alloc(), *has, *more)?;
+        assert!(rt; are_numbered(&list, *want, first));
+        assert!(rt;
+            list.is_permutation(&turned(rt.alloc(), *want, true, if *has == 0 { 0 } else { 99 })?)
+        );
     }
     Ok(())
 }
 
+// Whether a prefix of a known namespace is the prefix of a text, and so is its copy.
+fn is_usual(alloc: Global, known: KnownNamespace, want: &str) -> Result<bool, Fail> {
+    let made = Prefix::from_known(known);
+    let text = prefix(alloc, want)?;
+    Ok(made.as_str() == want && made == text && made.copy(alloc)? == text)
+}
+
 #[test]
 fn prefixes_of_namespaces_are_their_texts(rt: HostRuntime) -> Result<(), Fail> {
-    for (known, want) in [
+    let cases: &[(KnownNamespace, &str)] = &[
         (KnownNamespace::NoNamespace, ""),
         (KnownNamespace::Html, "html"),
         (KnownNamespace::MathMl, "mathml"),
@@ -233,12 +276,9 @@ fn prefixes_of_namespaces_are_their_texts(rt: HostRuntime) -> Result<(), Fail> {
         (KnownNamespace::XLink, "xlink"),
         (KnownNamespace::Xml, "xml"),
         (KnownNamespace::Xmlns, "xmlns"),
-    ] {
-        let made = Prefix::from_known(known);
-        assert_eq!(rt; made.as_str(), want);
-        assert_eq!(rt; made.copy(rt.alloc())?.as_str(), want);
-        assert!(rt; made == prefix(rt.alloc(), want)?);
-        assert_eq!(rt; made.cmp(&prefix(rt.alloc(), want)?), Ordering::Equal);
+    ];
+    for (known, want) in cases {
+        assert!(rt; is_usual(rt.alloc(), *known, want)?);
     }
     Ok(())
 }

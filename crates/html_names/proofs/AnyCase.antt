@@ -1,14 +1,14 @@
 -- Texts in any case: what their bytes say of their characters.
 use Rattle.std.proofs.Common.{◌≡◌, ◌∙◌, ℕ, zero, suc, ◌<◌, ◌≤◌, Bool, true, false, List, [], ◌∷◌, ◌++◌, length, map, refl, sym, ap, subst, arith, inl, inr, nat_eq, drop, get_or, Some}
-use Rattle.std.specs.Prelude.{◌&&◌, ◌==◌, encode_utf8, encode_utf8_all}
+use Rattle.std.specs.Prelude.{◌&&◌, ◌==◌, ◌↔◌, IsTrue, encode_utf8, encode_utf8_all}
 use Rattle.std.specs.Char.{to_ascii_lowercase}
 use Rattle.std.specs.List.{list_all, list_any}
 use Rattle.std.specs.Str.{IsUtf8, bytes_eq, chars}
 use Rattle.std.proofs.lemmas.Bool.{and_parts, cases_lt, eqb-true, ltb-true}
 use Rattle.std.proofs.lemmas.Bool.Decides.{nat_tests, same_from_decides}
-use Rattle.std.proofs.lemmas.List.{length-append}
+use Rattle.std.proofs.lemmas.List.{append-nil, length-append, map-append}
 use Rattle.std.proofs.lemmas.Slice.Eq.{bytes_eq-Decides}
-use Rattle.std.proofs.lemmas.Str.{char_from_byte, encode_ascii, encodes-chars, len_utf8_bounds, length-encode}
+use Rattle.std.proofs.lemmas.Str.{char_from_byte, encode_ascii, encodes-chars, encodes_same, inside_one, len_utf8_bounds, length-encode}
 use Rattle.markup.specs.Plain.{is_plain}
 use Rattle.html_tokens.specs.Characters.{begins, begins_any_case, begins_by}
 use Rattle.html_rules.specs.Doctypes.{begins_with_one, lowered}
@@ -131,3 +131,42 @@ begins-short (x ∷ w) [] zero l h = refl
 begins-short (x ∷ w) (b ∷ bs) zero l h = absurd (omega arith)
 begins-short (x ∷ w) [] (suc i) l h = begins-nil w i (omega arith)
 begins-short (x ∷ w) (b ∷ bs) (suc i) l h = begins-short w bs i (omega arith) (omega arith)
+
+-- bytes that are not ASCII are in lower case
+lowered-high : (xs : List ℕ) → ((k : ℕ) → k < length xs → 128 ≤ get_or xs k 0) → map to_ascii_lowercase xs ≡ xs
+lowered-high [] h = refl
+lowered-high (x ∷ xs) h =
+    let here : 128 ≤ x = h 0 (omega arith) in
+    let same : to_ascii_lowercase x ≡ x = grind (arith, nat_tests) in
+    rw (same, lowered-high xs (λ k l. h (suc k) (omega arith))) refl
+
+-- the bytes of a character that is not ASCII aren't either
+high-bytes : (c : ℕ) → 128 ≤ c → (k : ℕ) → k < length (encode_utf8 c) → 128 ≤ get_or (encode_utf8 c) k 0
+high-bytes c h k l = elim (cases_lt (get_or (encode_utf8 c) k 0) 128) [
+  | inl low ↦ let is : c ≡ get_or (encode_utf8 c) k 0 = inside_one c [] (encode_utf8 c) k (sym (append-nil (encode_utf8 c))) l low in absurd (omega (arith, is, low, h))
+  | inr high ↦ high
+]
+
+-- the bytes of a character in lower case are those of the lowered character
+lowered-character : (c : ℕ) → map to_ascii_lowercase (encode_utf8 c) ≡ encode_utf8 (to_ascii_lowercase c)
+lowered-character c = elim (cases_lt c 128) [
+  | inl low ↦ let below : to_ascii_lowercase c < 128 = grind (arith, nat_tests) in rw (encode_ascii c low, encode_ascii (to_ascii_lowercase c) below) refl
+  | inr high ↦ let same : to_ascii_lowercase c ≡ c = grind (arith, nat_tests) in rw same (lowered-high (encode_utf8 c) (high-bytes c high))
+]
+
+lowered-encoded : (cs : List ℕ) → map to_ascii_lowercase (encode_utf8_all cs) ≡ encode_utf8_all (map to_ascii_lowercase cs)
+lowered-encoded [] = refl
+lowered-encoded (c ∷ cs) = map-append to_ascii_lowercase (encode_utf8 c) (encode_utf8_all cs) ∙ rw (lowered-character c, lowered-encoded cs) refl
+
+-- a text in lower case, byte by byte, has the characters in lower case
+lowered-bytes : (bs : List ℕ) → IsUtf8 bs → map to_ascii_lowercase bs ≡ encode_utf8_all (map to_ascii_lowercase (chars bs))
+lowered-bytes bs u = ap (map to_ascii_lowercase) (sym (encodes-chars bs u)) ∙ lowered-encoded (chars bs)
+
+-- texts whose bytes are the same in lower case are those whose characters are
+pub same-lowered : (r : Bool) (xs bs : List ℕ) → IsUtf8 xs → IsUtf8 bs → (IsTrue r ↔ (map to_ascii_lowercase xs ≡ map to_ascii_lowercase bs)) → r ≡ bytes_eq (map to_ascii_lowercase (chars xs)) (map to_ascii_lowercase (chars bs))
+same-lowered r xs bs u v h =
+    let is = bytes_eq-Decides (map to_ascii_lowercase (chars xs)) (map to_ascii_lowercase (chars bs)) in
+    same_from_decides {P = map to_ascii_lowercase xs ≡ map to_ascii_lowercase bs} r (bytes_eq (map to_ascii_lowercase (chars xs)) (map to_ascii_lowercase (chars bs))) h (
+      λ e. lowered-bytes xs u ∙ ap encode_utf8_all (is.0 e) ∙ sym (lowered-bytes bs v),
+      λ e. is.1 (encodes_same (map to_ascii_lowercase (chars xs)) (map to_ascii_lowercase (chars bs)) (sym (lowered-bytes xs u) ∙ e ∙ lowered-bytes bs v)),
+    )

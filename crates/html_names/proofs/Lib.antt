@@ -8,3 +8,4 @@ pub mod SpaceRuns
 pub mod FirstBytes
 pub mod SameNames
 pub mod HeldNames
+pub mod Renamed

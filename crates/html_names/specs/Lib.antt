@@ -4,3 +4,4 @@ pub mod Classes
 pub mod Stops
 pub mod Given
 pub mod ElementNames
+pub mod Renaming

@@ -1,6 +1,7 @@
 //! Texts that are compared in any case, with nothing lowered into memory.
-ghost use Rattle.std.specs.Prelude.{◌≡◌, IsTrue};
-ghost use Rattle.std.specs.Str.{chars};
+ghost use Rattle.std.specs.Prelude.{◌≡◌, IsTrue, map};
+ghost use Rattle.std.specs.Char.{to_ascii_lowercase};
+ghost use Rattle.std.specs.Str.{bytes_eq, chars};
 ghost use Rattle.markup.specs.Plain.{is_plain};
 ghost use Rattle.html_tokens.specs.Characters.{begins_any_case};
 ghost use Rattle.html_rules.specs.Names.{equals_any_case};
@@ -37,4 +38,11 @@ pub fn equals_any_case(text: &str, word: &str) -> bool
         return false;
     }
     begins(text, word)
+}
+
+/// Whether two texts are the same in any case.
+pub(crate) fn are_same_any_case(a: &str, b: &str) -> bool
+    ensures { result ≡ bytes_eq (map to_ascii_lowercase (chars a.now)) (map to_ascii_lowercase (chars b.now)) }
+{
+    a.eq_ignore_ascii_case(b)
 }

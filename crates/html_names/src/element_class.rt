@@ -1,13 +1,13 @@
 //! What is known of an element by its namespace and its name.
 ghost use Rattle.std.specs.Prelude.{◌≡◌, ◌<◌, List, [], ℕ, length, slice_index_or};
 ghost use Rattle.markup.specs.KnownNames.{names};
-ghost use Rattle.html_rules.specs.Names.{Namespace, Html};
+ghost use Rattle.html_rules.specs.Names.{Namespace as Space, Html, namespace_of};
 ghost use Rattle.html_rules.specs.Sets.{is_among, names_in, names_of};
 ghost use Rattle.html_names.specs.Classes.{IsClassOf, IsRowOf, kind_of};
 
 use crate::set_rows;
 use html_rules::TagSet;
-use markup::{KnownName, LocalName};
+use markup::{KnownName, KnownNamespace, LocalName, Namespace};
 
 /// The kind of an element's namespace.
 #[derive(Clone, Copy, Debug, PartialEq, Eq)]
@@ -20,6 +20,24 @@ pub enum ElementNamespace {
     Svg,
     /// Any other, which only the context of a fragment has, and what stands in it.
     Other,
+}
+
+impl ElementNamespace {
+    /// The kind of a namespace.
+    #[tactic(auto, unfolding(markup::specs::Names::html_namespace, markup::specs::Namespaces::name_of, html_rules::specs::Names::mathml_namespace, html_rules::specs::Names::svg_namespace))]
+    pub fn of(namespace: &Namespace) -> ElementNamespace
+        ensures { result ≡ kind_of (namespace_of namespace.now) }
+    {
+        if namespace.is_known(KnownNamespace::Html) {
+            ElementNamespace::Html
+        } else if namespace.is_known(KnownNamespace::MathMl) {
+            ElementNamespace::MathMl
+        } else if namespace.is_known(KnownNamespace::Svg) {
+            ElementNamespace::Svg
+        } else {
+            ElementNamespace::Other
+        }
+    }
 }
 
 /// What is known of an element by its namespace and its name: which known name it is, if it is one, and in which sets of names it is. It
@@ -37,7 +55,7 @@ pub struct ElementClass {
 /// The sets of an element with a known name.
 fn sets_of(namespace: ElementNamespace, name: KnownName) -> u128
     requires { name.place < length names }
-    ensures { (space : Namespace) → kind_of space ≡ namespace → IsRowOf space (slice_index_or names name.place []) result }
+    ensures { (space : Space) → kind_of space ≡ namespace → IsRowOf space (slice_index_or names name.place []) result }
 {
     match namespace {
         ElementNamespace::Html => set_rows::of_html(name),
@@ -50,7 +68,7 @@ fn sets_of(namespace: ElementNamespace, name: KnownName) -> u128
 impl ElementClass {
     /// The class of an element. Its name is looked up, in time that grows with the logarithm of the number of known names.
     pub fn of(namespace: ElementNamespace, name: &LocalName) -> ElementClass
-        ensures { (space : Namespace) → kind_of space ≡ namespace → IsClassOf space name.now result }
+        ensures { (space : Space) → kind_of space ≡ namespace → IsClassOf space name.now result }
     {
         let known = name.known();
         let sets = match known {
@@ -71,9 +89,17 @@ impl ElementClass {
         ElementClass::of(ElementNamespace::Html, name)
     }
 
+    /// The class of an element whose namespace is given by its name.
+    pub fn named(namespace: &Namespace, name: &LocalName) -> ElementClass
+        ensures { IsClassOf (namespace_of namespace.now) name.now result }
+    {
+        let kind = ElementNamespace::of(namespace);
+        ElementClass::of(kind, name)
+    }
+
     /// Whether the element is in a set of names.
     pub fn is_in(self, set: TagSet) -> bool
-        ensures { (space : Namespace) (name : List ℕ) → IsClassOf space name self → result ≡ is_among name (names_in space set) }
+        ensures { (space : Space) (name : List ℕ) → IsClassOf space name self → result ≡ is_among name (names_in space set) }
     {
         self.sets >> (set as u32) & 1 == 1
     }

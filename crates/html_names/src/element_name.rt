@@ -1,15 +1,21 @@
 //! The namespace and the name of an element that is open.
-ghost use Rattle.std.specs.Prelude.{◌≡◌, IfOk, IfErr};
+ghost use Rattle.std.specs.Prelude.{◌≡◌, ◌<◌, IfErr, IfNone, IfOk, IfSome, [], false, length, map, slice_index_or};
 ghost use Rattle.markup.specs.declared.fault.ParseFault.TheVariants.{Memory};
-ghost use Rattle.std.specs.Str.{bytes_eq};
-ghost use Rattle.html_rules.specs.Names.{Html, namespace_of};
+ghost use Rattle.std.specs.List.{list_any};
+ghost use Rattle.std.specs.Char.{to_ascii_lowercase};
+ghost use Rattle.std.specs.Str.{bytes_eq, chars};
+ghost use Rattle.markup.specs.Namespaces.{name_of};
+ghost use Rattle.markup.specs.KnownNames.{IsNameAt, names};
+ghost use Rattle.html_rules.specs.Names.{Html, is_html, namespace_of};
 ghost use Rattle.html_names.specs.declared.element_class.ElementNamespace.TheVariants as kind;
 ghost use Rattle.html_rules.specs.Sets.{is_among, names_in};
 ghost use Rattle.html_rules.specs.State.{named_in};
 ghost use Rattle.html_names.specs.Classes.{IsClassOf, kind_of};
-ghost use Rattle.html_names.specs.ElementNames.{FitsForm, Holds, IsRareForm, named_by};
+ghost use Rattle.html_names.specs.ElementNames.{FitsForm, Holds, IsRareForm, named_by, space_of};
 
+use crate::any_case::are_same_any_case;
 use crate::element_class::{ElementClass, ElementNamespace};
+use crate::renames::known_text;
 use html_rules::TagSet;
 use markup::{KnownName, KnownNamespace, LocalName, Namespace, ParseFault};
 use std::alloc::Global;
@@ -47,19 +53,16 @@ impl Model for ElementName {
     ghost invariant = { λ e. IsFormed e.namespace e.sets e.form };
 }
 
-/// The kind of a namespace.
+/// The namespace of a kind; none, where it is none of the three.
 #[tactic(auto, unfolding(markup::specs::Names::html_namespace, markup::specs::Namespaces::name_of, html_rules::specs::Names::mathml_namespace, html_rules::specs::Names::svg_namespace))]
-fn kind_of(namespace: &Namespace) -> ElementNamespace
-    ensures { result ≡ kind_of (namespace_of namespace.now) }
+fn known_namespace(kind: ElementNamespace) -> KnownNamespace
+    ensures { namespace_of (name_of result) ≡ space_of kind }
 {
-    if namespace.is_known(KnownNamespace::Html) {
-        ElementNamespace::Html
-    } else if namespace.is_known(KnownNamespace::MathMl) {
-        ElementNamespace::MathMl
-    } else if namespace.is_known(KnownNamespace::Svg) {
-        ElementNamespace::Svg
-    } else {
-        ElementNamespace::Other
+    match kind {
+        ElementNamespace::Html => KnownNamespace::Html,
+        ElementNamespace::MathMl => KnownNamespace::MathMl,
+        ElementNamespace::Svg => KnownNamespace::Svg,
+        ElementNamespace::Other => KnownNamespace::NoNamespace,
     }
 }
 
@@ -119,11 +122,24 @@ impl ElementName {
         ensures ok { IfOk result (λ made. made ≡ record { namespace = namespace_of namespace.now; name = name.now }) }
         ensures err { IfErr result (λ fault. fault ≡ Memory) }
     {
-        let kind = kind_of(namespace);
-        let class = ElementClass::of(kind, name);
+        let class = ElementClass::named(namespace, name);
+        ElementName::with_class(alloc, class, namespace, name)
+    }
+
+    /// The same for a name that comes with its class, so that it is not looked up.
+    pub fn with_class(
+        alloc: Global,
+        class: ElementClass,
+        namespace: &Namespace,
+        name: &LocalName,
+    ) -> Result<ElementName, ParseFault>
+        requires { IsClassOf (namespace_of namespace.now) name.now class }
+        ensures ok { IfOk result (λ made. made ≡ record { namespace = namespace_of namespace.now; name = name.now }) }
+        ensures err { IfErr result (λ fault. fault ≡ Memory) }
+    {
         let form = form_of(alloc, class, namespace, name)?;
         Ok(ElementName {
-            namespace: kind,
+            namespace: class.namespace,
             sets: class.sets,
             form,
         })
@@ -136,6 +152,53 @@ impl ElementName {
         self.sets >> (set as u32) & 1 == 1
     }
 
+    /// The kind of the namespace.
+    pub fn kind(&self) -> ElementNamespace
+        ensures { kind_of self.now.namespace ≡ result }
+    {
+        self.namespace
+    }
+
+    /// The namespace, as a value of its own. One that is none of the three is copied.
+    pub fn namespace(&self, alloc: Global) -> Result<Namespace, ParseFault>
+        ensures ok { IfOk result (λ namespace. namespace_of namespace ≡ self.now.namespace) }
+        ensures err { IfErr result (λ fault. fault ≡ Memory) }
+    {
+        match &self.form {
+            NameForm::Known(_) => Ok(Namespace::from_known(known_namespace(self.namespace))),
+            NameForm::Rare(rare) => rare.namespace.copy(alloc),
+        }
+    }
+
+    /// Whether it is an HTML element.
+    pub fn is_html(&self) -> bool
+        ensures { result ≡ is_html self.now.namespace }
+    {
+        self.namespace == ElementNamespace::Html
+    }
+
+    /// The known name that it is, if it is that of an HTML element.
+    pub fn known_html(&self) -> Option<KnownName>
+        ensures found { IfSome result (λ known. (self.now.namespace ≡ Html) × IsNameAt known.place self.now.name) }
+        ensures missing { IfNone result (self.now.namespace ≡ Html → list_any (bytes_eq self.now.name) names ≡ false) }
+    {
+        match (self.namespace, &self.form) {
+            (ElementNamespace::Html, NameForm::Known(known)) => Some(*known),
+            _ => None,
+        }
+    }
+
+    /// Whether it is the HTML element of a known name.
+    pub fn is_known(&self, known: KnownName) -> bool
+        requires { known.place < length names }
+        ensures { result ≡ named_in self.now.namespace self.now.name (slice_index_or names known.place []) }
+    {
+        match self.known_html() {
+            Some(own) => own.place == known.place,
+            None => false,
+        }
+    }
+
     /// Whether it is the HTML element of a name, whose class is handed in.
     pub fn is_named(&self, class: ElementClass, name: &LocalName) -> bool
         requires { IsClassOf Html name.now class }
@@ -145,5 +208,21 @@ impl ElementName {
             ElementNamespace::Html => is_same(&self.form, class, name),
             _ => false,
         }
+    }
+    /// The name, lent.
+    fn as_str(&self) -> &str
+        ensures { chars result.now ≡ self.now.name }
+    {
+        match &self.form {
+            NameForm::Known(known) => known_text(known.place),
+            NameForm::Rare(rare) => rare.name.as_str(),
+        }
+    }
+
+    /// Whether this is its name in any case, in whatever namespace. Texts are compared, without memory.
+    pub fn is_named_any_case(&self, name: &LocalName) -> bool
+        ensures { result ≡ bytes_eq (map to_ascii_lowercase self.now.name) (map to_ascii_lowercase name.now) }
+    {
+        are_same_any_case(self.as_str(), name.as_str())
     }
 }

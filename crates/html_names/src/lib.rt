@@ -7,6 +7,7 @@ mod doctypes;
 pub mod element_class;
 pub mod element_name;
 mod encodings;
+mod renames;
 mod set_rows;
 
 pub use any_case::equals_any_case;
@@ -14,3 +15,4 @@ pub use doctypes::doctype_error_and_quirks;
 pub use element_class::{ElementClass, ElementNamespace, is_in};
 pub use element_name::ElementName;
 pub use encodings::extract_a_character_encoding_from_a_meta_element;
+pub use renames::{adjust_attributes, adjust_tag_name};
