@@ -1,5 +1,6 @@
 pub mod Begins
 pub mod Faults
+pub mod Fronts
 pub mod Inserts
 pub mod Longest
 pub mod Matches

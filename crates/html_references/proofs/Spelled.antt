@@ -19,7 +19,7 @@ use Rattle.html_references.proofs.Matches.{place_of_any}
 use Rattle.html_references.proofs.Names.{IsAscii-from_plain, bytes_of_plain, is_plain-name}
 
 -- a test that only ASCII passes answers the same for bytes as for their characters
-same_test : (test : List ℕ → Bool) → ((text : List ℕ) → test text ≡ true → is_plain text ≡ true) → (bytes : List ℕ) → IsUtf8 bytes → test bytes ≡ test (chars bytes)
+pub same_test : (test : List ℕ → Bool) → ((text : List ℕ) → test text ≡ true → is_plain text ≡ true) → (bytes : List ℕ) → IsUtf8 bytes → test bytes ≡ test (chars bytes)
 same_test test only bytes u = decided (is_plain bytes) refl
   where
     decided : (b : Bool) → is_plain bytes ≡ b → test bytes ≡ test (chars bytes)
@@ -31,7 +31,7 @@ same_test test only bytes u = decided (is_plain bytes) refl
 pub is_reference_name-chars : (bytes : List ℕ) → IsUtf8 bytes → is_reference_name bytes ≡ is_reference_name (chars bytes)
 is_reference_name-chars = same_test is_reference_name is_plain-name
 
-front_plain : (name front : List ℕ) → is_plain name ≡ true → starts_with nat_eq name front ≡ true → is_plain front ≡ true
+pub front_plain : (name front : List ℕ) → is_plain name ≡ true → starts_with nat_eq name front ≡ true → is_plain front ≡ true
 front_plain name [] p s = refl
 front_plain [] (f ∷ fs) p s = cc
 front_plain (n ∷ ns) (f ∷ fs) p s =

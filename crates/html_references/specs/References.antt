@@ -28,6 +28,10 @@ has_values row = is_reference_value row.first && option_map_or is_reference_valu
 abbrev pub is_named : List ReferenceRow → List ℕ → Bool
 is_named rows name = list_any (λ row. bytes_eq row.name name) rows
 
+-- whether some name of the table begins with a text, be it all of the name
+abbrev pub is_front : List ReferenceRow → List ℕ → Bool
+is_front rows text = list_any (λ row. starts_with nat_eq row.name text) rows
+
 -- what is wrong with a row that stands behind earlier ones, by its number, counted from 1
 abbrev pub fault_behind : List ReferenceRow → ReferenceRow → Option TableFault
 fault_behind earlier row =

@@ -3,7 +3,7 @@ ghost use Rattle.std.specs.Prelude.{◌≡◌, ◌≢◌, None, Some, IfOk, IfEr
 ghost use Rattle.std.specs.Option.{option_copied};
 ghost use Rattle.std.specs.Str.{chars};
 ghost use Rattle.markup.specs.Plain.{is_plain};
-ghost use Rattle.html_references.specs.References.{IsCheckedTable, IsFirstFault, MatchesLongest, fault_of, five_rows, goes_on, longest, row_of};
+ghost use Rattle.html_references.specs.References.{IsCheckedTable, IsFirstFault, MatchesLongest, fault_of, five_rows, goes_on, is_front, longest, row_of};
 ghost use Rattle.html_tokens.specs.declared.table.TableFault.TheVariants.{Memory};
 
 pub use html_tokens::table::{ReferenceRow, TableFault};
@@ -115,6 +115,13 @@ impl References {
         ensures { result ≡ goes_on self.now (chars held.now) }
     {
         order::goes_on(&self.rows, &self.order, held.as_bytes())
+    }
+
+    /// Whether some name begins with these characters, be they all of it (HTML Standard, section 13.2.5.73).
+    pub fn is_front(&self, held: &str) -> bool
+        ensures { result ≡ is_front self.now (chars held.now) }
+    {
+        order::is_front(&self.rows, &self.order, held.as_bytes())
     }
 
     /// The row with the longest name that a text begins with (HTML Standard, section 13.2.5.73).

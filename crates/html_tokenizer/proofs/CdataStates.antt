@@ -15,7 +15,7 @@ use Rattle.html_tokens.specs.Sink.{SinkLaws}
 use Rattle.html_tokens.proofs.Readings.{reading-item}
 use Rattle.html_tokenizer.specs.declared.tokenizer.Tokenizer.{Tokenizer}
 use Rattle.html_tokenizer.specs.Rest.{rows_of, standing, held_at}
-use Rattle.html_tokenizer.specs.Steps.{IsAt, Fails, Told, TakesAs, Took, Keeps, nothing_owed, a_fault, reads}
+use Rattle.html_tokenizer.specs.Steps.{IsAt, Falls, Told, TakesAs, Took, Keeps, nothing_owed, a_fault, reads}
 use Rattle.html_tokenizer.proofs.Lawful.{noting-lawful}
 use Rattle.html_tokenizer.proofs.Readings.{reading-char, sum-zero}
 use Rattle.html_tokenizer.proofs.Runs.{reading-token, reading-text, reading-two}
@@ -66,7 +66,7 @@ module _ {K H : Type 0} (Sink : Ghosts K H) (laws : SinkLaws Sink.is_sound Sink.
   bracket-kept old mid new c result from ok f told h = keeps_then Sink old (record old { state = state.CdataSection }) mid new c state.CdataSectionBracket state.CdataSection (CharacterTokens (93 ∷ [])) result from (record { state = refl; fresh = from.fresh }) refl refl ok told (bracket-says old c (ne_eqb 93 c (λ e. f (sym e)))) h
 
   pub bracket-failed : (old new : Tokenizer K) (c : ℕ) (result : Result (ProcessResult H) ParseFault) (fault : ParseFault) → IsAt old state.CdataSectionBracket → Sink.is_sound (Sink.view old.sink) → (c ≡ 93 → ⊥) → IsErrAnd result (λ y. y ≡ fault)
-      → Fails Sink old.sink (Sink.step (Sink.view old.sink) (CharacterTokens (93 ∷ [])) (line_number old.stream.breaks)) fault → Keeps Sink old new c result
+      → Falls Sink old.sink new.sink (Sink.step (Sink.view old.sink) (CharacterTokens (93 ∷ [])) (line_number old.stream.breaks)) fault → Keeps Sink old new c result
   bracket-failed old new c result fault from ok f is fails = not-told_from Sink nothing_owed old old new c state.CdataSectionBracket (CharacterTokens (93 ∷ [])) result fault _ from refl refl ok is fails (bracket-says old c (ne_eqb 93 c (λ e. f (sym e))))
 
   -- "]]" was text
@@ -81,7 +81,7 @@ module _ {K H : Type 0} (Sink : Ghosts K H) (laws : SinkLaws Sink.is_sound Sink.
   brackets-kept old mid new c result from ok f g told h = keeps_then Sink old (record old { state = state.CdataSection }) mid new c state.CdataSectionEnd state.CdataSection (CharacterTokens (93 ∷ 93 ∷ [])) result from (record { state = refl; fresh = from.fresh }) refl refl ok told (brackets-says old c (ne_eqb 93 c (λ e. f (sym e))) (ne_eqb 62 c (λ e. g (sym e)))) h
 
   pub brackets-failed : (old new : Tokenizer K) (c : ℕ) (result : Result (ProcessResult H) ParseFault) (fault : ParseFault) → IsAt old state.CdataSectionEnd → Sink.is_sound (Sink.view old.sink) → (c ≡ 93 → ⊥) → (c ≡ 62 → ⊥) → IsErrAnd result (λ y. y ≡ fault)
-      → Fails Sink old.sink (Sink.step (Sink.view old.sink) (CharacterTokens (93 ∷ 93 ∷ [])) (line_number old.stream.breaks)) fault → Keeps Sink old new c result
+      → Falls Sink old.sink new.sink (Sink.step (Sink.view old.sink) (CharacterTokens (93 ∷ 93 ∷ [])) (line_number old.stream.breaks)) fault → Keeps Sink old new c result
   brackets-failed old new c result fault from ok f g is fails = not-told_from Sink nothing_owed old old new c state.CdataSectionEnd (CharacterTokens (93 ∷ 93 ∷ [])) result fault _ from refl refl ok is fails (brackets-says old c (ne_eqb 93 c (λ e. f (sym e))) (ne_eqb 62 c (λ e. g (sym e))))
 
   -- of "]]]" the first was text

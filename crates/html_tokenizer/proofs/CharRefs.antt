@@ -1,5 +1,5 @@
 -- A character reference is decided once what is held of it can't go on.
-use Rattle.std.proofs.Common.{◌≡◌, ◌∙◌, ℕ, zero, suc, ◌≤◌, ◌+◌, ◌-◌, Bool, cond, true, false, List, [], ◌∷◌, ◌++◌, length, take, drop, Option, Some, None, refl, sym, ap, subst, arith, append-nil, append_assoc}
+use Rattle.std.proofs.Common.{◌≡◌, ◌∙◌, ℕ, zero, suc, ◌≤◌, ◌<◌, ◌+◌, ◌-◌, Bool, cond, true, false, List, [], ◌∷◌, ◌++◌, length, take, drop, Option, Some, None, refl, sym, ap, subst, arith, append-nil, append_assoc}
 use Rattle.std.specs.Prelude.{nat_eq, not, ◌&&◌, ◌||◌, ◌==◌, IsTrue, IfSome, All}
 use Rattle.std.specs.Char.{is_ascii_alphanumeric, is_ascii_digit, is_ascii_hexdigit}
 use Rattle.std.specs.List.{list_all, starts_with, ends_with}
@@ -16,22 +16,14 @@ use Rattle.html_tokens.specs.Table.{goes_on, longest}
 use Rattle.html_tokens.specs.declared.table.ReferenceRow.{ReferenceRow}
 use Rattle.html_references.specs.References.{IsCheckedTable, is_reference_name, stem}
 use Rattle.html_references.proofs.Begins.{fitting-is}
-use Rattle.html_references.proofs.Longest.{Within, longest-cut, longest-within}
-use Rattle.html_tokenizer.specs.CharRefs.{is_named_with, goes_on_by, may_go_on, is_text_before, named_before, decided, decided_by, reference_of, is_faulty, is_faulty_by, is_faulty_named, is_faulty_number, is_faulty_numeric, is_faulty_numeric_by, is_faulty_run}
+use Rattle.html_references.proofs.Fronts.{longest-stop}
+use Rattle.html_references.proofs.Longest.{Within, longest-within}
+use Rattle.html_tokenizer.specs.CharRefs.{stops, are_digits, is_no_text, is_number_by, is_number_front, is_front_by, is_held_front, may_go_on, is_text_before, named_before, decided, decided_by, reference_of, is_faulty, is_faulty_by, is_faulty_named, is_faulty_number, is_faulty_numeric, is_faulty_numeric_by, is_faulty_run}
 use Rattle.html_tokenizer.specs.declared.numbers.Found.{Found}
 use Rattle.html_tokenizer.specs.Steps.{owed_for}
 use Rattle.html_tokenizer.proofs.Rises.{IsNoMore}
 
--- digits and how a run of them goes on
-
-run-behind-by : (b : Bool) (n m : ℕ) → n ≡ m → run_by b (λ _. n) ≡ run_by b (λ _. m)
-run-behind-by true n m e = refl
-run-behind-by false n m e = ap suc e
-
--- a run ends where a text stands at which it stops
-run-behind : (stops : ℕ → Bool) (ds u : List ℕ) → run stops u ≡ 0 → run stops (ds ++ u) ≡ run stops ds
-run-behind stops [] u e = e
-run-behind stops (d ∷ ds) u e = run-behind-by (stops d) (run stops (ds ++ u)) (run stops ds) (run-behind stops ds u e)
+-- digits, and what can't go on behind them
 
 run-within-by : (b : Bool) (n m : ℕ) → n ≤ m → run_by b (λ _. n) ≤ suc m
 run-within-by true n m l = omega arith
@@ -41,114 +33,66 @@ pub run-within : (stops : ℕ → Bool) (ds : List ℕ) → run stops ds ≤ len
 run-within stops [] = omega arith
 run-within stops (d ∷ ds) = run-within-by (stops d) (run stops ds) (length ds) (run-within stops ds)
 
-semicolon-behind : (x u v : List ℕ) → semicolon u ≡ semicolon v → semicolon (x ++ u) ≡ semicolon (x ++ v)
-semicolon-behind [] u v e = e
-semicolon-behind (c ∷ x) u v e = refl
+-- Behind what can't go on by c, neither the run of digits changes nor a ";" behind it.
+record Stops (stops : ℕ → Bool) (some : Bool) (ds : List ℕ) (c : ℕ) (t : List ℕ) : Type 0 where
+  digits : run stops (ds ++ c ∷ t) ≡ run stops ds
+  closed : (some ≡ false → 0 < run stops ds) → semicolon (drop (run stops ds) (ds ++ c ∷ t)) ≡ semicolon (drop (run stops ds) ds)
 
-digits-cut : (k base n : ℕ) (ds u v : List ℕ) → n ≤ length ds → semicolon u ≡ semicolon v → digits_at k base n (ds ++ u) ≡ digits_at k base n (ds ++ v)
-digits-cut k base zero ds u v l e = refl
-digits-cut k base (suc n) ds u v l e =
-    rw (take-append-le (suc n) ds u l, take-append-le (suc n) ds v l, drop-append-le (suc n) ds u l, drop-append-le (suc n) ds v l, semicolon-behind (drop (suc n) ds) u v e) refl
+no_closing : (some : Bool) (c : ℕ) (t : List ℕ) (b : Bool) → nat_eq c 59 ≡ b → (some && (b && true)) ≡ false → (some ≡ false → 0 < 0) → semicolon (c ∷ t) ≡ semicolon []
+no_closing true c t true e h p = absurd (true≢false h)
+no_closing false c t true e h p = let l : 0 < 0 = p refl in absurd (omega arith)
+no_closing some c t false e h p = rw e refl
 
-digits-same : (k base : ℕ) (stops : ℕ → Bool) (ds u v : List ℕ) → run stops u ≡ 0 → run stops v ≡ 0 → semicolon u ≡ semicolon v
-    → digits_at k base (run stops (ds ++ u)) (ds ++ u) ≡ digits_at k base (run stops (ds ++ v)) (ds ++ v)
-digits-same k base stops ds u v e f s =
-    ap (λ n. digits_at k base n (ds ++ u)) (run-behind stops ds u e)
-    ∙ digits-cut k base (run stops ds) ds u v (run-within stops ds) s
-    ∙ sym (ap (λ n. digits_at k base n (ds ++ v)) (run-behind stops ds v f))
+stops-none : (stops : ℕ → Bool) (some : Bool) (c : ℕ) (t : List ℕ) (b : Bool) → stops c ≡ b → cond b (some && (nat_eq c 59 && true)) true ≡ false → Stops stops some [] c t
+stops-none stops some c t true e h = record {
+  digits = rw e refl;
+  closed = λ p. no_closing some c t (nat_eq c 59) refl h p;
+}
+stops-none stops some c t false e h = absurd (true≢false h)
 
--- no digit, and no "x", stands at the front
-abbrev IsNoNumber : List ℕ → Type 0
-IsNoNumber [] = Unit {0}
-IsNoNumber (c ∷ t) = is_ascii_alphanumeric c ≡ false
+stops-step : (stops : ℕ → Bool) (some : Bool) (d : ℕ) (ds : List ℕ) (c : ℕ) (t : List ℕ) (b : Bool) → stops d ≡ b
+    → cond b (some && (nat_eq d 59 && is_no_text ds)) (are_digits stops true ds) ≡ true
+    → cond b (some && (nat_eq d 59 && is_no_text (ds ++ c ∷ []))) (are_digits stops true (ds ++ c ∷ [])) ≡ false
+    → (are_digits stops true ds ≡ true → are_digits stops true (ds ++ c ∷ []) ≡ false → Stops stops true ds c t) → Stops stops some (d ∷ ds) c t
+stops-step stops some d ds c t true e f g more = record {
+  digits = rw e refl;
+  closed = λ p. rw e refl;
+}
+stops-step stops some d ds c t false e f g more =
+    let rest = more f g in
+    record {
+      digits = rw e (ap suc rest.digits);
+      closed = λ p. rw e (rest.closed (λ q. absurd (true≢false q)));
+    }
 
-no_hexdigit : (c : ℕ) → is_ascii_alphanumeric c ≡ false → is_ascii_hexdigit c ≡ false
-no_hexdigit c h = grind (arith, nat_tests)
+stops-at : (stops : ℕ → Bool) (some : Bool) (ds : List ℕ) (c : ℕ) (t : List ℕ) → are_digits stops some ds ≡ true → are_digits stops some (ds ++ c ∷ []) ≡ false → Stops stops some ds c t
+stops-at stops some [] c t f g = stops-none stops some c t (stops c) refl g
+stops-at stops some (d ∷ ds) c t f g = stops-step stops some d ds c t (stops d) refl f g (stops-at stops true ds c t)
 
-no_digit : (c : ℕ) → is_ascii_alphanumeric c ≡ false → is_ascii_digit c ≡ false
-no_digit c h = grind (arith, nat_tests)
+digits-same : (k base n : ℕ) (ds u : List ℕ) → n ≤ length ds → (0 < n → semicolon (drop n (ds ++ u)) ≡ semicolon (drop n ds)) → digits_at k base n (ds ++ u) ≡ digits_at k base n ds
+digits-same k base zero ds u l h = refl
+digits-same k base (suc n) ds u l h =
+    ap (λ x. Some (record { value = number base x; len = k + suc n + semicolon (drop (suc n) (ds ++ u)) })) (take-append-le (suc n) ds u l)
+    ∙ ap (λ x. Some (record { value = number base (take (suc n) ds); len = k + suc n + x })) (h (omega arith))
 
-no_prefix : (c : ℕ) → is_ascii_alphanumeric c ≡ false → (nat_eq c 120 || nat_eq c 88) ≡ false
-no_prefix c h = grind (arith, nat_tests)
+digits-decided : (k base : ℕ) (stops : ℕ → Bool) (ds : List ℕ) (c : ℕ) (t : List ℕ) → are_digits stops false ds ≡ true → are_digits stops false (ds ++ c ∷ []) ≡ false
+    → digits_at k base (run stops (ds ++ c ∷ t)) (ds ++ c ∷ t) ≡ digits_at k base (run stops ds) ds
+digits-decided k base stops ds c t f g =
+    let s = stops-at stops false ds c t f g in
+    ap (λ n. digits_at k base n (ds ++ c ∷ t)) s.digits ∙ digits-same k base (run stops ds) ds (c ∷ t) (run-within stops ds) (λ l. s.closed (λ q. l))
 
-hex-stops : (u : List ℕ) → IsNoNumber u → run (λ d. not (is_ascii_hexdigit d)) u ≡ 0
-hex-stops [] h = refl
-hex-stops (c ∷ t) h = rw (no_hexdigit c h) refl
+numeric_by-decided : (b : Bool) (d : ℕ) (ds : List ℕ) (c : ℕ) (t : List ℕ) → is_number_by b d ds ≡ true → is_number_by b d (ds ++ c ∷ []) ≡ false → numeric_by b d (ds ++ c ∷ t) ≡ numeric_by b d ds
+numeric_by-decided true d ds c t f g = digits-decided 2 16 (stops true) ds c t f g
+numeric_by-decided false d ds c t f g = digits-decided 1 10 (stops false) (d ∷ ds) c t f g
 
-digit-stops : (u : List ℕ) → IsNoNumber u → run (λ d. not (is_ascii_digit d)) u ≡ 0
-digit-stops [] h = refl
-digit-stops (c ∷ t) h = rw (no_digit c h) refl
+numeric_by-none : (b : Bool) (c : ℕ) (t : List ℕ) → is_number_by b c [] ≡ false → numeric_by b c t ≡ None
+numeric_by-none true c t g = absurd (true≢false g)
+numeric_by-none false c t g = digits-decided 1 10 (stops false) [] c t refl g
 
-numeric-none : (u : List ℕ) → IsNoNumber u → numeric u ≡ None
-numeric-none [] h = refl
-numeric-none (c ∷ t) h = rw (no_prefix c h, no_digit c h) refl
-
-numeric_by-same : (b : Bool) (d : ℕ) (ds u v : List ℕ) → IsNoNumber u → IsNoNumber v → semicolon u ≡ semicolon v → numeric_by b d (ds ++ u) ≡ numeric_by b d (ds ++ v)
-numeric_by-same true d ds u v e f s = digits-same 2 16 (λ d. not (is_ascii_hexdigit d)) ds u v (hex-stops u e) (hex-stops v f) s
-numeric_by-same false d ds u v e f s = digits-same 1 10 (λ d. not (is_ascii_digit d)) (d ∷ ds) u v (digit-stops u e) (digit-stops v f) s
-
--- what follows a number does not change it, but a ";"
-numeric-same : (ds u v : List ℕ) → IsNoNumber u → IsNoNumber v → semicolon u ≡ semicolon v → numeric (ds ++ u) ≡ numeric (ds ++ v)
-numeric-same [] u v e f s = numeric-none u e ∙ sym (numeric-none v f)
-numeric-same (d ∷ ds) u v e f s = numeric_by-same (nat_eq d 120 || nat_eq d 88) d ds u v e f s
-
-ends-split : (cs : List ℕ) → ends_with nat_eq cs (59 ∷ []) ≡ true → (front : List ℕ) × (cs ≡ front ++ 59 ∷ [])
-ends-split cs e = (_, (ends_is Decides-eqb cs (59 ∷ []) true (sym e)).0 refl)
-
--- behind a ";" a number does not go on
-behind-semicolon : (front cs u : List ℕ) → 35 ∷ cs ≡ front ++ 59 ∷ [] → numeric (cs ++ u) ≡ numeric cs
-behind-semicolon [] cs u e = cc
-behind-semicolon (f ∷ front) cs u e =
-    let is : cs ≡ front ++ 59 ∷ [] = cc in
-    rw is (ap numeric (append_assoc front (59 ∷ []) u) ∙ numeric-same front (59 ∷ u) (59 ∷ []) refl refl refl)
-
-no_semicolon : (c : ℕ) → is_named_with c ≡ false → nat_eq c 59 ≡ false
-no_semicolon c h = (or_parts (is_ascii_alphanumeric c) (nat_eq c 59) h).1
-
-no_letter : (c : ℕ) → is_named_with c ≡ false → is_ascii_alphanumeric c ≡ false
-no_letter c h = (or_parts (is_ascii_alphanumeric c) (nat_eq c 59) h).0
-
-before-other : (cs : List ℕ) (c : ℕ) (t : List ℕ) → is_named_with c ≡ false → numeric (cs ++ c ∷ t) ≡ numeric cs
-before-other cs c t h =
-    numeric-same cs (c ∷ t) [] (no_letter c h) tt (rw (no_semicolon c h) refl) ∙ ap numeric (append-nil cs)
-
-numeric-by : (b e : Bool) (cs : List ℕ) (c : ℕ) (t : List ℕ) → is_named_with c ≡ b → ends_with nat_eq (35 ∷ cs) (59 ∷ []) ≡ e → (b && not e) ≡ false → numeric (cs ++ c ∷ t) ≡ numeric cs
-numeric-by false e cs c t h f g = before-other cs c t h
-numeric-by true true cs c t h f g = let p = ends-split (35 ∷ cs) f in behind-semicolon p.0 cs (c ∷ t) p.1
-numeric-by true false cs c t h f g = cc
-
--- names of checked tables
-
-letters-named : (name : List ℕ) → list_all is_ascii_alphanumeric name ≡ true → list_all is_named_with name ≡ true
-letters-named [] h = refl
-letters-named (c ∷ cs) h =
-    let p = and_parts (is_ascii_alphanumeric c) (list_all is_ascii_alphanumeric cs) h in
-    rw (p.0, letters-named cs p.1) refl
-
-letters-pushed : (front : List ℕ) → list_all is_ascii_alphanumeric front ≡ true → list_all is_named_with (front ++ 59 ∷ []) ≡ true
-letters-pushed [] h = refl
-letters-pushed (c ∷ cs) h =
-    let p = and_parts (is_ascii_alphanumeric c) (list_all is_ascii_alphanumeric cs) h in
-    rw (p.0, letters-pushed cs p.1) refl
-
-name-letters : (name : List ℕ) → is_reference_name name ≡ true → list_all is_ascii_alphanumeric (stem name) ≡ true
-name-letters name h = (and_parts (not (length (stem name) == 0)) (list_all is_ascii_alphanumeric (stem name)) h).1
-
-name-named : (name : List ℕ) (b : Bool) → ends_with nat_eq name (59 ∷ []) ≡ b → is_reference_name name ≡ true → list_all is_named_with name ≡ true
-name-named name true e h =
-    let split : name ≡ take (length name - 1) name ++ 59 ∷ [] = (ends_is Decides-eqb name (59 ∷ []) true (sym e)).0 refl in
-    let short : stem name ≡ take (length name - 1) name = cond-true _ _ _ e in
-    subst (λ n. list_all is_named_with n ≡ true) (sym split) (letters-pushed (take (length name - 1) name) (subst (λ n. list_all is_ascii_alphanumeric n ≡ true) short (name-letters name h)))
-name-named name false e h = letters-named name (subst (λ n. list_all is_ascii_alphanumeric n ≡ true) (cond-false _ _ _ e) (name-letters name h))
-
-other-character : (n c : ℕ) → is_named_with n ≡ true → is_named_with c ≡ false → nat_eq n c ≡ false
-other-character n c h g = false_from_ne_true (nat_eq n c) (λ e. true≢false (sym h ∙ ap is_named_with (eqb-true n c e) ∙ g))
-
--- a name does not go on by a character that no name has
-starts_with-stop : (cs : List ℕ) (c : ℕ) (t name : List ℕ) → list_all is_named_with name ≡ true → is_named_with c ≡ false → starts_with nat_eq (cs ++ c ∷ t) name ≡ starts_with nat_eq cs name
-starts_with-stop cs c t [] h g = refl
-starts_with-stop [] c t (n ∷ ns) h g = rw (other-character n c (and_parts (is_named_with n) (list_all is_named_with ns) h).0 g) refl
-starts_with-stop (d ∷ cs) c t (n ∷ ns) h g = ap (λ b. nat_eq n d && b) (starts_with-stop cs c t ns (and_parts (is_named_with n) (list_all is_named_with ns) h).1 g)
+-- a number that can't go on is the same whatever follows
+number-decided : (hs : List ℕ) (c : ℕ) (t : List ℕ) → is_number_front hs ≡ true → is_number_front (hs ++ c ∷ []) ≡ false → numeric (hs ++ c ∷ t) ≡ numeric hs
+number-decided [] c t f g = numeric_by-none (nat_eq c 120 || nat_eq c 88) c t g
+number-decided (d ∷ ds) c t f g = numeric_by-decided (nat_eq d 120 || nat_eq d 88) d ds c t f g
 
 abbrev AreNames : List ReferenceRow → Type 0
 AreNames rows = All (λ row. IsTrue (is_reference_name row.name)) rows
@@ -159,11 +103,6 @@ AreNames-tail row rows h = All-tail (λ row. IsTrue (is_reference_name row.name)
 first-name : (row : ReferenceRow) (rows : List ReferenceRow) → AreNames (row ∷ rows) → is_reference_name row.name ≡ true
 first-name row rows h = h 0 row (omega arith)
 
-longest-stop : (rows : List ReferenceRow) (cs : List ℕ) (c : ℕ) (t : List ℕ) → AreNames rows → is_named_with c ≡ false → longest rows (cs ++ c ∷ t) ≡ longest rows cs
-longest-stop [] cs c t h g = refl
-longest-stop (row ∷ rows) cs c t h g =
-    rw (fitting-is (cs ++ c ∷ t) row, fitting-is cs row, starts_with-stop cs c t row.name (name-named row.name _ refl (first-name row rows h)) g, longest-stop rows cs c t (AreNames-tail row rows h) g) refl
-
 empty-none : (name : List ℕ) → is_reference_name name ≡ true → starts_with nat_eq [] name ≡ false
 empty-none [] h = absurd (true≢false (sym h))
 empty-none (n ∷ ns) h = refl
@@ -172,11 +111,6 @@ longest-empty : (rows : List ReferenceRow) → AreNames rows → longest rows []
 longest-empty [] h = refl
 longest-empty (row ∷ rows) h =
     rw (fitting-is [] row, empty-none row.name (first-name row rows h), longest-empty rows (AreNames-tail row rows h)) refl
-
--- the longest name that a text begins with, where what is held can't go on
-longest-by : (b : Bool) (rows : List ReferenceRow) (cs : List ℕ) (c : ℕ) (t : List ℕ) → AreNames rows → is_named_with c ≡ b → (b && goes_on rows cs) ≡ false → longest rows (cs ++ c ∷ t) ≡ longest rows cs
-longest-by true rows cs c t h e g = longest-cut rows cs (c ∷ t) g
-longest-by false rows cs c t h e g = longest-stop rows cs c t h e
 
 text-before : (name x : List ℕ) (c : ℕ) (t : List ℕ) → is_text_in_value name (x ++ c ∷ t) ≡ is_text_before name x (goes_on_at (c ∷ []))
 text-before name [] c t = refl
@@ -188,22 +122,22 @@ named-same in_value (Some row) cs c t w =
     ap (λ rest. named_by (in_value && is_text_in_value row.name rest) row) (drop-append-le (length row.name) cs (c ∷ t) w)
     ∙ ap (λ b. named_by (in_value && b) row) (text-before row.name (drop (length row.name) cs) c t)
 
-begun-by : (b : Bool) (h : ℕ) (hs : List ℕ) (in_value : Bool) (rows : List ReferenceRow) (c : ℕ) (t : List ℕ) → AreNames rows → nat_eq h 35 ≡ b → (is_named_with c && goes_on_by b rows (h ∷ hs)) ≡ false
+begun-by : (b : Bool) (h : ℕ) (hs : List ℕ) (in_value : Bool) (rows : List ReferenceRow) (c : ℕ) (t : List ℕ) → is_front_by b rows h hs ≡ true → is_front_by b rows h (hs ++ c ∷ []) ≡ false
     → reference_by b in_value rows h (hs ++ c ∷ t) ≡ decided_by b in_value rows h hs (goes_on_at (c ∷ []))
-begun-by true h hs in_value rows c t names e g =
-    let is : h ≡ 35 = eqb-true h 35 e in
-    ap numbered_reference (numeric-by (is_named_with c) (ends_with nat_eq (35 ∷ hs) (59 ∷ [])) hs c t refl refl (rw is at g))
-begun-by false h hs in_value rows c t names e g =
-    ap (λ o. named_row in_value o ((h ∷ hs) ++ c ∷ t)) (longest-by (is_named_with c) rows (h ∷ hs) c t names refl g)
+begun-by true h hs in_value rows c t f g = ap numbered_reference (number-decided hs c t f g)
+begun-by false h hs in_value rows c t f g =
+    ap (λ o. named_row in_value o ((h ∷ hs) ++ c ∷ t)) (longest-stop rows (h ∷ hs) c t g)
     ∙ named-same in_value (longest rows (h ∷ hs)) (h ∷ hs) c t (longest-within rows (h ∷ hs))
 
+none-begun : (b in_value : Bool) (rows : List ReferenceRow) (c : ℕ) (t : List ℕ) → AreNames rows → is_front_by b rows c [] ≡ false → reference_by b in_value rows c t ≡ None
+none-begun true in_value rows c t names g = absurd (true≢false g)
+none-begun false in_value rows c t names g = ap (λ o. named_row in_value o (c ∷ t)) (longest-stop rows [] c t g ∙ longest-empty rows names)
+
 -- Where what is held can't go on by a character, the reference is the same whatever follows that.
-pub reference-decided : (in_value : Bool) (rows : List ReferenceRow) (cs : List ℕ) (c : ℕ) (t : List ℕ) → IsCheckedTable rows → may_go_on rows cs c ≡ false
+pub reference-decided : (in_value : Bool) (rows : List ReferenceRow) (cs : List ℕ) (c : ℕ) (t : List ℕ) → IsCheckedTable rows → is_held_front rows cs ≡ true → may_go_on rows cs c ≡ false
     → reference_at in_value rows (cs ++ c ∷ t) ≡ decided in_value rows cs (goes_on_at (c ∷ []))
-reference-decided in_value rows [] c t checked g =
-    let p = or_parts (is_named_with c) (nat_eq c 35) g in
-    rw (p.1) (ap (λ o. named_row in_value o (c ∷ t)) (longest-stop rows [] c t checked.names p.0 ∙ longest-empty rows checked.names))
-reference-decided in_value rows (h ∷ hs) c t checked g = begun-by (nat_eq h 35) h hs in_value rows c t checked.names refl g
+reference-decided in_value rows [] c t checked f g = none-begun (nat_eq c 35) in_value rows c t checked.names g
+reference-decided in_value rows (h ∷ hs) c t checked f g = begun-by (nat_eq h 35) h hs in_value rows c t f g
 
 text-end : (name x : List ℕ) → is_text_in_value name x ≡ is_text_before name x false
 text-end name [] = refl
@@ -281,19 +215,19 @@ found-within in_value rows cs b o e = if-mapped o (length cs) (rw e (decided-wit
 
 -- what is wrong with a reference
 
-fault-begun : (b : Bool) (rows : List ReferenceRow) (h : ℕ) (hs : List ℕ) (c : ℕ) (t : List ℕ) → AreNames rows → nat_eq h 35 ≡ b → (is_named_with c && goes_on_by b rows (h ∷ hs)) ≡ false
+fault-begun : (b : Bool) (rows : List ReferenceRow) (h : ℕ) (hs : List ℕ) (c : ℕ) (t : List ℕ) → is_front_by b rows h hs ≡ true → is_front_by b rows h (hs ++ c ∷ []) ≡ false
     → fault_of_reference_by b rows h (hs ++ c ∷ t) ≡ fault_of_reference_by b rows h hs
-fault-begun true rows h hs c t names e g =
-    let is : h ≡ 35 = eqb-true h 35 e in
-    ap (λ n. Some (fault_of_number n)) (numeric-by (is_named_with c) (ends_with nat_eq (35 ∷ hs) (59 ∷ [])) hs c t refl refl (rw is at g))
-fault-begun false rows h hs c t names e g = ap (λ o. slight_if (not (has_semicolon o))) (longest-by (is_named_with c) rows (h ∷ hs) c t names refl g)
+fault-begun true rows h hs c t f g = ap (λ n. Some (fault_of_number n)) (number-decided hs c t f g)
+fault-begun false rows h hs c t f g = ap (λ o. slight_if (not (has_semicolon o))) (longest-stop rows (h ∷ hs) c t g)
+
+fault-none : (b : Bool) (rows : List ReferenceRow) (c : ℕ) (t : List ℕ) → AreNames rows → is_front_by b rows c [] ≡ false → fault_of_reference_by b rows c t ≡ Some Slight
+fault-none true rows c t names g = absurd (true≢false g)
+fault-none false rows c t names g = ap (λ o. slight_if (not (has_semicolon o))) (longest-stop rows [] c t g ∙ longest-empty rows names)
 
 -- Where what is held can't go on by a character, what follows does not matter to what is wrong with it.
-pub fault-decided : (rows : List ReferenceRow) (cs : List ℕ) (c : ℕ) (t : List ℕ) → IsCheckedTable rows → may_go_on rows cs c ≡ false → fault_of_reference rows (cs ++ c ∷ t) ≡ fault_of_reference rows cs
-fault-decided rows [] c t checked g =
-    let p = or_parts (is_named_with c) (nat_eq c 35) g in
-    rw (p.1) (ap (λ o. slight_if (not (has_semicolon o))) (longest-stop rows [] c t checked.names p.0 ∙ longest-empty rows checked.names))
-fault-decided rows (h ∷ hs) c t checked g = fault-begun (nat_eq h 35) rows h hs c t checked.names refl g
+pub fault-decided : (rows : List ReferenceRow) (cs : List ℕ) (c : ℕ) (t : List ℕ) → IsCheckedTable rows → is_held_front rows cs ≡ true → may_go_on rows cs c ≡ false → fault_of_reference rows (cs ++ c ∷ t) ≡ fault_of_reference rows cs
+fault-decided rows [] c t checked f g = fault-none (nat_eq c 35) rows c t checked.names g
+fault-decided rows (h ∷ hs) c t checked f g = fault-begun (nat_eq h 35) rows h hs c t f g
 
 -- a name with an error that the Standard names does not end in ";"
 faulty-named : (in_value : Bool) (o : Option ReferenceRow) (cs : List ℕ) (follows : Bool) → is_faulty_named in_value o cs follows ≡ true → is_some (slight_if (not (has_semicolon o))) ≡ true

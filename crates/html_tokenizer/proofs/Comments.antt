@@ -17,7 +17,7 @@ use Rattle.html_tokens.specs.Reading.{line_number, line_break, line_breaks}
 use Rattle.html_tokens.specs.Sink.{◌>>=◌, SinkLaws}
 use Rattle.html_tokenizer.specs.declared.tokenizer.Tokenizer.{Tokenizer}
 use Rattle.html_tokenizer.specs.Rest.{rows_of, standing, held_at}
-use Rattle.html_tokenizer.specs.Steps.{owed_for, Owed, IsAt, more, Fails, Told, Took, Keeps, nothing_owed, a_fault, reads, plays}
+use Rattle.html_tokenizer.specs.Steps.{owed_for, Owed, IsAt, more, Falls, Told, Took, Keeps, nothing_owed, a_fault, reads, plays}
 use Rattle.html_tokenizer.proofs.Readings.{play-is}
 use Rattle.html_tokenizer.proofs.Ends.{EndSays, end-says, emitted-took, emitted-failed, same-text, behind-one, item-absorbs}
 use Rattle.html_tokenizer.proofs.Errors.{tells-less}
@@ -152,7 +152,7 @@ module _ {K H : Type 0} (Sink : Ghosts K H) (laws : SinkLaws Sink.is_sound Sink.
   comment-took_well old new c st front e from ok told says = comment-took old new c st front e from ok (tells-less Sink laws nothing_owed (owed_for (Some Slight)) (emitted old) new (CommentToken front) (Ok tt) (slighted-no-more true None) told) says
 
   pub comment-failed : (owed : Owed) (old new : Tokenizer K) (c : ℕ) (st : State) (front : List ℕ) (result : Result (ProcessResult H) ParseFault) (fault : ParseFault) → c ≡ 62 → IsAt old st → Sink.is_sound (Sink.view old.sink) → IsErrAnd result (λ y. y ≡ fault)
-      → Fails Sink old.sink (Sink.step (Sink.view old.sink) (CommentToken front) (line_number old.stream.breaks)) fault → CommentSays st old owed front → Keeps Sink old new c result
+      → Falls Sink old.sink new.sink (Sink.step (Sink.view old.sink) (CommentToken front) (line_number old.stream.breaks)) fault → CommentSays st old owed front → Keeps Sink old new c result
   comment-failed owed old new c st front result fault e from ok is fails says = emitted-failed Sink laws owed old (emitted old) new c st (CommentToken front) result fault e from ok is fails says
 
   -- What is slight before a comment changes nothing.

@@ -23,7 +23,7 @@ use Rattle.html_tokenizer.specs.Rest.{rows_of, standing, held_at}
 use Rattle.html_tokenizer.specs.Steps.{IsAt, Took, Keeps, nothing_owed, reads, plays}
 use Rattle.html_tokenizer.proofs.Rises.{rises-same}
 use Rattle.html_tokenizer.proofs.Ends.{behind-one}
-use Rattle.html_tokenizer.proofs.Glue.{at, fits-at, keeps-along, no-break, now-at, took}
+use Rattle.html_tokenizer.proofs.Glue.{at, fits-at, stays-same, keeps-along, no-break, now-at, took}
 use Rattle.html_tokenizer.proofs.Keywords.{and_both, or_parts, is_plain, part-plain, word-plain, last-plain, plain-break, spelt-begins, spelt-length, word-apart, word-stops, bogus-behind}
 use Rattle.html_tokenizer.proofs.Opens.{opened}
 use Rattle.html_tokenizer.proofs.Readings.{play-nothing}
@@ -154,7 +154,7 @@ module _ {K H : Type 0} (Sink : Ghosts K H) (laws : SinkLaws Sink.is_sound Sink.
       stream = refl;
       sound = ok;
       fits = fits-at (record old { state = state.CdataSection }) state.CdataSection (record { state = refl; fresh = from.fresh });
-      works = λ h. h;
+      stays = stays-same Sink old.sink old.sink refl;
       paused = tt;
     }
 
@@ -179,7 +179,7 @@ module _ {K H : Type 0} (Sink : Ghosts K H) (laws : SinkLaws Sink.is_sound Sink.
   bogus-opened old new c front result from part h is keeps =
       let mid : Tokenizer K = record old { comment = old.keyword; state = state.BogusComment } in
       let keeps' : Keeps Sink mid new c result = rw is at keeps in
-      keeps-along Sink old mid new c result refl (λ x. x) (rises-same Sink.errors old.sink old.sink refl) (λ notes t.
+      keeps-along Sink old mid new c result refl (stays-same Sink old.sink old.sink refl) (rises-same Sink.errors old.sink old.sink refl) (λ notes t.
       now-at Sink old state.MarkupDeclarationOpen old.stream.breaks (Sink.view old.sink, notes) (c ∷ t) from
       ∙ bogus-read old c old.stream.breaks (Sink.view old.sink, notes) t part h
       ∙ sym (now-at Sink mid state.BogusComment old.stream.breaks (Sink.view old.sink, notes) (c ∷ t) (record { state = refl; fresh = from.fresh }))) keeps'

@@ -21,7 +21,7 @@ use Rattle.html_tokens.specs.Reading.{line_number, line_break}
 use Rattle.html_tokens.specs.Sink.{◌>>=◌, SinkLaws}
 use Rattle.html_tokenizer.specs.declared.tokenizer.Tokenizer.{Tokenizer}
 use Rattle.html_tokenizer.specs.Rest.{rows_of, standing, with_identifier, held_at}
-use Rattle.html_tokenizer.specs.Steps.{owed_for, IsAt, more, Fails, Told, Took, Keeps, reads, plays}
+use Rattle.html_tokenizer.specs.Steps.{owed_for, IsAt, more, Falls, Told, Took, Keeps, reads, plays}
 use Rattle.html_tokenizer.proofs.Ends.{EndSays, end-says, emitted-took, emitted-failed, behind-any, item-absorbs}
 use Rattle.html_tokenizer.proofs.Errors.{tells-less}
 use Rattle.html_tokenizer.proofs.Glue.{Absorbs, at, took, took_odd, keeps_odd, keeps_silent, state-absorbs}
@@ -193,7 +193,7 @@ module _ {K H : Type 0} (Sink : Ghosts K H) (laws : SinkLaws Sink.is_sound Sink.
       (tells-less Sink laws (owed_for (grave_if d.force_quirks)) (owed_for (and_slight_if odd (grave_if d.force_quirks))) (emitted old cs) new (DoctypeToken d) (Ok tt) (slighted-no-more odd (grave_if d.force_quirks)) told) says
 
   pub doctype-failed : (old new : Tokenizer K) (c : ℕ) (st : State) (cs : List ℕ) (odd : Bool) (d : Doctype) (result : Result (ProcessResult H) ParseFault) (fault : ParseFault) → c ≡ 62 → IsAt old st → Sink.is_sound (Sink.view old.sink) → IsErrAnd result (λ y. y ≡ fault)
-      → Fails Sink old.sink (Sink.step (Sink.view old.sink) (DoctypeToken d) (line_number old.stream.breaks)) fault → DoctypeSays st old cs odd d → Keeps Sink old new c result
+      → Falls Sink old.sink new.sink (Sink.step (Sink.view old.sink) (DoctypeToken d) (line_number old.stream.breaks)) fault → DoctypeSays st old cs odd d → Keeps Sink old new c result
   doctype-failed old new c st cs odd d result fault e from ok is fails says = emitted-failed Sink laws (owed_for (and_slight_if odd (grave_if d.force_quirks))) old (emitted old cs) new c st (DoctypeToken d) result fault e from ok is fails says
 
   pub at-mark : (old : Tokenizer K) (b : ℕ) (s : Sink.State × Notes ℕ) → Sink.is_sound s.0 → (odd : Bool) (d : Doctype) (t : List ℕ) (i : Item) → i ≡ marked odd (given (standing old InData) d 1)

@@ -12,7 +12,7 @@ use Rattle.html_tokens.specs.Reading.{◌>>=◌, line_number, erred_by}
 use Rattle.html_tokenizer.specs.Calls.{at_end, Closes}
 use Rattle.html_tokenizer.specs.declared.tokenizer.Tokenizer.{Tokenizer}
 use Rattle.html_tokenizer.specs.Steps.{Owed, IsAt, more, Tells, Errs, now, nothing_owed, Told, owed_for, and_heard, together}
-use Rattle.html_tokenizer.proofs.Glue.{at, now-at, bind-err, token-fails, told-next, told-works, fails-along, fails-before, sound_erred}
+use Rattle.html_tokenizer.proofs.Glue.{at, now-at, bind-err, token-fails, told-next, stays-then, fell-behind, fails-along, fails-before, sound_erred}
 use Rattle.html_tokenizer.proofs.Rises.{IsNoMore, more-more, rises-then, rises-less}
 use Rattle.html_tokenizer.proofs.Lawful.{erred-more}
 use Rattle.html_tokenizer.proofs.Refused.{noting-refused, every-fails}
@@ -42,10 +42,13 @@ module _ {K H : Type 0} (Sink : Ghosts K H) where
     same = λ notes. law notes ∙ told-next Sink owed old new token notes (λ s. at_end Sink old.stream.breaks s) told;
     stream = ap (λ k. k.stream) told.changed;
     sound = told.sound;
-    works = λ h. told-works told.works h;
+    stays = told.stays;
   }
-  closes_last owed old new held token (Err fault) law fails = λ notes.
-      token-fails Sink old.sink _ (Sink.view old.sink) (more owed notes) token (line_number old.stream.breaks) fault _ fails (law notes)
+  closes_last owed old new held token (Err fault) law fails = (
+    fails.0,
+    λ notes.
+        token-fails Sink old.sink new.sink _ (Sink.view old.sink) (more owed notes) token (line_number old.stream.breaks) fault _ fails.1 (law notes),
+  )
 
   -- the same where none is held
   pub closes_told : (owed : Owed) (old new : Tokenizer K) (st : State) (token : Token) (result : Result (Unit {0}) ParseFault) → IsAt old st → Sink.is_sound (Sink.view old.sink) → TellsLast st old owed token
@@ -64,12 +67,15 @@ module _ {K H : Type 0} (Sink : Ghosts K H) where
     same = λ notes. law notes ∙ ap (λ s. at_end Sink old.stream.breaks (s, more owed notes)) (sym h.sink);
     stream = ap (λ k. k.stream) h.changed;
     sound = sound_erred Sink old new h ok;
-    works = h.works;
+    stays = h.stays;
   }
-  closes_end told owed old new held (Err fault) less ok law fails = λ notes.
-      fails-along Sink old.sink _ _ fault (law notes)
-      (every-fails Sink old.sink (Sink.view old.sink) fault (at_end Sink old.stream.breaks (Sink.view old.sink, more owed notes)) fails
-      (λ h. bind-err (noting Sink.step Sink.is_quiet (Sink.view old.sink, more owed notes) EOFToken (line_number old.stream.breaks)) _ (noting-refused Sink (Sink.view old.sink) (more owed notes) h EOFToken (line_number old.stream.breaks))))
+  closes_end told owed old new held (Err fault) less ok law fails = (
+    fails.0,
+    λ notes.
+        fails-along Sink old.sink new.sink _ _ fault (law notes)
+        (every-fails Sink old.sink new.sink (Sink.view old.sink) fault (at_end Sink old.stream.breaks (Sink.view old.sink, more owed notes)) fails.1
+        (λ h. bind-err (noting Sink.step Sink.is_quiet (Sink.view old.sink, more owed notes) EOFToken (line_number old.stream.breaks)) _ (noting-refused Sink (Sink.view old.sink) (more owed notes) h EOFToken (line_number old.stream.breaks)))),
+  )
 
   -- the same where none is held, and the end comes behind a fault
   pub closes_errs : (fault : Option Fault) (told : Owed) (old new : Tokenizer K) (st : State) (result : Result (Unit {0}) ParseFault) → IsNoMore (owed_for fault) told → IsAt old st → Sink.is_sound (Sink.view old.sink) → OnlyEnds fault st old
@@ -82,9 +88,12 @@ module _ {K H : Type 0} (Sink : Ghosts K H) where
       → Tells Sink nothing_owed token old new (Err told) → IsErrAnd result (λ y. y ≡ told) → Closes Sink old new result
   closes_untold fault old new st token told result from ok law fails is =
       let p = err_from_is_err_and result is in
-      rw (p.1, p.2) (λ notes.
-      token-fails Sink old.sink _ (Sink.view old.sink) notes token (line_number old.stream.breaks) told (λ p. at_end Sink old.stream.breaks (erred_by noting_error fault p.0)) fails
-      (now-at Sink old st old.stream.breaks (Sink.view old.sink, notes) [] from ∙ law old.stream.breaks (Sink.view old.sink, notes) ok))
+      rw (p.1, p.2) (
+        fails.0,
+        λ notes.
+            token-fails Sink old.sink new.sink _ (Sink.view old.sink) notes token (line_number old.stream.breaks) told (λ p. at_end Sink old.stream.breaks (erred_by noting_error fault p.0)) fails.1
+            (now-at Sink old st old.stream.breaks (Sink.view old.sink, notes) [] from ∙ law old.stream.breaks (Sink.view old.sink, notes) ok),
+      )
 
   behind : (fault : Option Fault) (told owed : Owed) (old mid new : Tokenizer K) (token : Token) (result : Result (Unit {0}) ParseFault) → IsNoMore (owed_for fault) told → Told Sink nothing_owed token old mid → Errs Sink told mid new result
       → ((notes : Notes ℕ) → now Sink old old.stream.breaks (Sink.view old.sink, notes) [] ≡ at_end Sink old.stream.breaks (Sink.view mid.sink, more (owed_for fault) (more owed notes))) → owed ≡ and_heard (Sink.is_quiet (Sink.view old.sink) token) nothing_owed → Closes Sink old new result
@@ -97,13 +106,16 @@ module _ {K H : Type 0} (Sink : Ghosts K H) where
         ∙ ap (λ n. at_end Sink old.stream.breaks (Sink.view new.sink, n)) (more-more (owed_for fault) owed notes);
     stream = ap (λ k. k.stream) h.changed ∙ ap (λ k. k.stream) first.changed;
     sound = sound_erred Sink mid new h first.sound;
-    works = λ e. told-works first.works (h.works e);
+    stays = stays-then Sink old.sink mid.sink new.sink first.stays h.stays;
   }
-  behind fault told owed old mid new token (Err error) less first fails law is = λ notes.
-      fails-along Sink old.sink _ _ error (law notes)
-      (fails-before Sink mid.sink old.sink _ error (λ e. told-works first.works e)
-      (every-fails Sink mid.sink (Sink.view mid.sink) error (at_end Sink old.stream.breaks (Sink.view mid.sink, more (owed_for fault) (more owed notes))) fails
-      (λ h. bind-err (noting Sink.step Sink.is_quiet (Sink.view mid.sink, more (owed_for fault) (more owed notes)) EOFToken (line_number old.stream.breaks)) _ (noting-refused Sink (Sink.view mid.sink) (more (owed_for fault) (more owed notes)) h EOFToken (line_number old.stream.breaks)))))
+  behind fault told owed old mid new token (Err error) less first fails law is = (
+    fell-behind Sink old.sink mid.sink new.sink first.stays fails.0,
+    λ notes.
+        fails-along Sink old.sink new.sink _ _ error (law notes)
+        (fails-before Sink old.sink mid.sink new.sink _ error first.stays
+        (every-fails Sink mid.sink new.sink (Sink.view mid.sink) error (at_end Sink old.stream.breaks (Sink.view mid.sink, more (owed_for fault) (more owed notes))) fails.1
+        (λ h. bind-err (noting Sink.step Sink.is_quiet (Sink.view mid.sink, more (owed_for fault) (more owed notes)) EOFToken (line_number old.stream.breaks)) _ (noting-refused Sink (Sink.view mid.sink) (more (owed_for fault) (more owed notes)) h EOFToken (line_number old.stream.breaks))))),
+  )
 
   -- The token was told, and then the error of the end, or that error could not be told.
   pub closes_then : (fault : Option Fault) (told : Owed) (old mid new : Tokenizer K) (st : State) (token : Token) (result : Result (Unit {0}) ParseFault) → IsNoMore (owed_for fault) told → IsAt old st → Sink.is_sound (Sink.view old.sink) → TellsThen fault st old token

@@ -12,8 +12,8 @@ use Rattle.html_tokens.specs.Sink.{◌>>=◌, SinkLaws}
 use Rattle.html_tokenizer.specs.Calls.{at_end, Closes}
 use Rattle.html_tokenizer.specs.declared.tokenizer.Tokenizer.{Tokenizer}
 use Rattle.html_tokenizer.specs.Rest.{rows_of, standing}
-use Rattle.html_tokenizer.specs.Steps.{owed_for, Owed, IsAt, more, IsNoTag, Fails, Tells, and_heard, reads, plays}
-use Rattle.html_tokenizer.proofs.Glue.{at, now-at, token-fails, told-works}
+use Rattle.html_tokenizer.specs.Steps.{owed_for, Owed, IsAt, more, IsNoTag, Falls, Tells, and_heard, reads, plays}
+use Rattle.html_tokenizer.proofs.Glue.{at, now-at, token-fails}
 use Rattle.html_tokenizer.proofs.Lawful.{noting-lawful, erred-sound, erred-more}
 use Rattle.html_tokenizer.proofs.Readings.{play-end}
 use Rattle.html_tokenizer.proofs.Rises.{heard-more}
@@ -38,12 +38,14 @@ module _ {K H : Type 0} (Sink : Ghosts K H) where
             ∙ ap (λ n. at_end Sink old.stream.breaks (Sink.view new.sink, n)) (heard-more (Sink.is_quiet (Sink.view old.sink) token) owed notes);
         stream = ap (λ k. k.stream) told.changed ∙ stream;
         sound = told.sound;
-        works = λ h. told-works told.works h;
+        stays = rw (← same) told.stays;
       }
-  closes-told owed old target new st token (Err fault) from same stream ok fails law = λ notes.
-      let f : Fails Sink old.sink (Sink.step (Sink.view old.sink) token (line_number old.stream.breaks)) fault = rw (← same, ← stream) fails in
-      token-fails Sink old.sink _ (Sink.view old.sink) (more owed notes) token (line_number old.stream.breaks) fault _ f
-      (now-at Sink old st old.stream.breaks (Sink.view old.sink, notes) [] from ∙ law old.stream.breaks (Sink.view old.sink, notes) ok)
+  closes-told owed old target new st token (Err fault) from same stream ok fails law =
+      let f : Falls Sink old.sink new.sink (Sink.step (Sink.view old.sink) token (line_number old.stream.breaks)) fault = rw (← same, ← stream) fails in (
+        f.0,
+        λ notes. token-fails Sink old.sink new.sink _ (Sink.view old.sink) (more owed notes) token (line_number old.stream.breaks) fault _ f.1
+            (now-at Sink old st old.stream.breaks (Sink.view old.sink, notes) [] from ∙ law old.stream.breaks (Sink.view old.sink, notes) ok),
+      )
 
 module _ {K H : Type 0} (Sink : Ghosts K H) (laws : SinkLaws Sink.is_sound Sink.step Sink.ended Sink.is_quiet) where
   -- what an item makes of the sink that is a token but no tag, breaks no line, and takes all that is left

@@ -15,7 +15,7 @@ use Rattle.html_tokens.specs.Reading.{line_number, line_break, line_breaks}
 use Rattle.html_tokens.specs.Sink.{◌>>=◌, SinkLaws}
 use Rattle.html_tokenizer.specs.declared.tokenizer.Tokenizer.{Tokenizer}
 use Rattle.html_tokenizer.specs.Rest.{rows_of, standing}
-use Rattle.html_tokenizer.specs.Steps.{owed_for, Owed, IsAt, more, IsNoTag, Fails, Told, Took, Keeps, reads, plays}
+use Rattle.html_tokenizer.specs.Steps.{owed_for, Owed, IsAt, more, IsNoTag, Falls, Told, Took, Keeps, reads, plays}
 use Rattle.html_tokenizer.proofs.Lawful.{noting-lawful, erred-sound, erred-more, slight-absorbed}
 use Rattle.html_tokenizer.proofs.Readings.{play-is, play-end, sum-zero, play-absorbs}
 use Rattle.html_tokenizer.proofs.Glue.{Says, at, took_emitted, failed, no-break}
@@ -40,7 +40,7 @@ module _ {K H : Type 0} (Sink : Ghosts K H) (laws : SinkLaws Sink.is_sound Sink.
   emitted-took old source new c st token e from ok same stream to told says = rw e (took_emitted Sink old source new 62 st state.Data token from ok same stream to told says)
 
   pub emitted-failed : (owed : Owed) (old source new : Tokenizer K) (c : ℕ) (st : State) (token : Token) (result : Result (ProcessResult H) ParseFault) (fault : ParseFault) → c ≡ 62 → IsAt old st → Sink.is_sound (Sink.view old.sink) → IsErrAnd result (λ y. y ≡ fault)
-      → Fails Sink old.sink (Sink.step (Sink.view old.sink) token (line_number old.stream.breaks)) fault → EndSays st old source owed token → Keeps Sink old new c result
+      → Falls Sink old.sink new.sink (Sink.step (Sink.view old.sink) token (line_number old.stream.breaks)) fault → EndSays st old source owed token → Keeps Sink old new c result
   emitted-failed owed old source new c st token result fault e from ok is fails says = rw e (failed Sink owed old new 62 st token result fault _ from ok is fails says)
 
   -- an item, whether no line break is counted or none

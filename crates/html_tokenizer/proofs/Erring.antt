@@ -11,7 +11,7 @@ use Rattle.html_tokenizer.specs.declared.tokenizer.Tokenizer.{Tokenizer}
 use Rattle.html_tokenizer.specs.Rest.{pending}
 use Rattle.html_tokenizer.specs.Calls.{KeepsRun}
 use Rattle.html_tokenizer.specs.Steps.{now, Owed, Erred, Errs, Keeps, nothing_owed, owed_for, owed_for_each, together}
-use Rattle.html_tokenizer.proofs.Glue.{fails-before}
+use Rattle.html_tokenizer.proofs.Glue.{stays-then, fell-behind, fails-before}
 use Rattle.html_tokenizer.proofs.HeldRefused.{held-refused}
 use Rattle.html_tokenizer.proofs.Refused.{noting-refused, noting-errs, every-fails}
 use Rattle.html_tokenizer.proofs.Rises.{IsNoMore, rises-then, rises-less, each-more}
@@ -23,27 +23,33 @@ module _ {K H : Type 0} (Sink : Ghosts K H) where
   keeps_refused old new held c fault result fails is =
       let p = err_from_is_err_and result is in
       let k : Tokenizer K = record old { char_ref = held } in
-      rw (p.1, p.2) (λ notes t.
-      every-fails Sink old.sink (Sink.view old.sink) fault (now Sink k old.stream.breaks (Sink.view old.sink, notes) (c ∷ t)) fails
-      (λ h. held-refused (noting Sink.step Sink.is_quiet) noting_error (noting_cdata Sink.asks_cdata) (noting_end Sink.ended) (noting-errs Sink) old.state k old.stream.breaks (Sink.view old.sink, notes) (pending held ++ c ∷ t)
-      (noting-refused Sink (Sink.view old.sink) notes h)))
+      rw (p.1, p.2) (
+        fails.0,
+        λ notes t.
+            every-fails Sink old.sink new.sink (Sink.view old.sink) fault (now Sink k old.stream.breaks (Sink.view old.sink, notes) (c ∷ t)) fails.1
+            (λ h. held-refused (noting Sink.step Sink.is_quiet) noting_error (noting_cdata Sink.asks_cdata) (noting_end Sink.ended) (noting-errs Sink) old.state k old.stream.breaks (Sink.view old.sink, notes) (pending held ++ c ∷ t)
+            (noting-refused Sink (Sink.view old.sink) notes h)),
+      )
 
   -- The same of a run.
   pub run_refused : (old new : Tokenizer K) (run : List ℕ) (fault : ParseFault) (result : Result (Unit {0}) ParseFault) → Errs Sink nothing_owed old new (Err fault)
       → IsErrAnd result (λ y. y ≡ fault) → KeepsRun Sink old new run result
   run_refused old new run fault result fails is =
       let p = err_from_is_err_and result is in
-      rw (p.1, p.2) (λ notes t.
-      every-fails Sink old.sink (Sink.view old.sink) fault (now Sink old old.stream.breaks (Sink.view old.sink, notes) (run ++ t)) fails
-      (λ h. held-refused (noting Sink.step Sink.is_quiet) noting_error (noting_cdata Sink.asks_cdata) (noting_end Sink.ended) (noting-errs Sink) old.state old old.stream.breaks (Sink.view old.sink, notes) (pending old.char_ref ++ (run ++ t))
-      (noting-refused Sink (Sink.view old.sink) notes h)))
+      rw (p.1, p.2) (
+        fails.0,
+        λ notes t.
+            every-fails Sink old.sink new.sink (Sink.view old.sink) fault (now Sink old old.stream.breaks (Sink.view old.sink, notes) (run ++ t)) fails.1
+            (λ h. held-refused (noting Sink.step Sink.is_quiet) noting_error (noting_cdata Sink.asks_cdata) (noting_end Sink.ended) (noting-errs Sink) old.state old old.stream.breaks (Sink.view old.sink, notes) (pending old.char_ref ++ (run ++ t))
+            (noting-refused Sink (Sink.view old.sink) notes h)),
+      )
 
   -- Errors were told, and then more.
   pub erred-then : {m n : Owed} (old mid new : Tokenizer K) → Erred Sink m old mid → Erred Sink n mid new → Erred Sink (together n m) old new
   erred-then old mid new h k = record {
     sink = k.sink ∙ h.sink;
     changed = k.changed ∙ ap {A = Tokenizer K} (λ x. record x { sink = new.sink }) h.changed;
-    works = λ e. h.works (k.works e);
+    stays = stays-then Sink old.sink mid.sink new.sink h.stays k.stays;
     rises = rises-then Sink.errors old.sink mid.sink new.sink h.rises k.rises;
   }
 
@@ -52,11 +58,11 @@ module _ {K H : Type 0} (Sink : Ghosts K H) where
       → Erred Sink (owed_for_each passes (front ++ c ∷ [])) old new
   erred-each passes front c old mid new h k =
       let both = erred-then old mid new h k in
-      record { sink = both.sink; changed = both.changed; works = both.works; rises = rises-less Sink.errors old.sink new.sink (each-more passes front c) both.rises }
+      record { sink = both.sink; changed = both.changed; stays = both.stays; rises = rises-less Sink.errors old.sink new.sink (each-more passes front c) both.rises }
 
   -- What was told tells what says no more.
   pub errs-less : {m : Owed} (n : Owed) (old new : Tokenizer K) (result : Result (Unit {0}) ParseFault) → IsNoMore n m → Errs Sink m old new result → Errs Sink n old new result
-  errs-less n old new (Ok x) less h = record { sink = h.sink; changed = h.changed; works = h.works; rises = rises-less Sink.errors old.sink new.sink less h.rises }
+  errs-less n old new (Ok x) less h = record { sink = h.sink; changed = h.changed; stays = h.stays; rises = rises-less Sink.errors old.sink new.sink less h.rises }
   errs-less n old new (Err fault) less h = h
 
   -- Errors were told, and then one could not be told.
@@ -64,4 +70,4 @@ module _ {K H : Type 0} (Sink : Ghosts K H) where
       → IsErrAnd result (λ y. y ≡ fault) → Errs Sink n old new result
   errs-behind n old mid new fault result h fails is =
       let p = err_from_is_err_and result is in
-      rw (p.1, p.2) (λ token line. rw (← h.sink) (fails-before Sink mid.sink old.sink _ fault h.works (fails token line)))
+      rw (p.1, p.2) (fell-behind Sink old.sink mid.sink new.sink h.stays fails.0, λ token line. rw (← h.sink) (fails-before Sink old.sink mid.sink new.sink _ fault h.stays (fails.1 token line)))

@@ -11,24 +11,22 @@ use Rattle.html_tokens.specs.declared.replies.ProcessResult.{ProcessResult}
 use Rattle.html_tokens.specs.declared.replies.ProcessResult.TheVariants as flow
 use Rattle.html_tokens.specs.Notes.{Notes, noting, noting_error, noting_cdata, noting_end}
 use Rattle.html_tokens.specs.Sink.{Reply}
-use Rattle.html_tokenizer.specs.Calls.{ComesAsRunAt, to_come, paused_with, IsReady, Passes, KeepsRun, KeepsText, Leaves, Moved, Moves, Fed, Runs, Rests, owed_for_text}
+use Rattle.html_tokenizer.specs.CharRefs.{fits_in}
+use Rattle.html_tokenizer.specs.Calls.{ComesAsRunAt, to_come, paused_with, IsReady, Passes, KeepsRun, KeepsText, Leaves, HasMoved, Moved, Moves, Fed, Runs, Rests, owed_for_text}
 use Rattle.html_tokenizer.specs.Input.{coming_in, newline_for, last_of, ComesAs, Vanishes}
 use Rattle.html_tokenizer.specs.declared.tokenizer.Stream.{Stream}
 use Rattle.html_tokenizer.specs.declared.tokenizer.Tokenizer.{Tokenizer}
-use Rattle.html_tokenizer.specs.Rest.{pending, coming}
-use Rattle.html_tokenizer.specs.Steps.{Owed, PausesAt, paused_by, more, noted_by, Rises, now, nothing_owed, together}
+use Rattle.html_tokenizer.specs.Rest.{pending, coming, rows_of}
+use Rattle.html_tokenizer.proofs.HeldParts.{holds-part}
+use Rattle.html_tokenizer.specs.Steps.{Owed, PausesAt, paused_by, more, noted_by, Rises, now, Stays, nothing_owed, together}
 use Rattle.html_tokenizer.proofs.Rises.{more-more, text-no-more, none-no-more, rises-same, rises-less, rises-besides}
 use Rattle.std.specs.Prelude.{if◌then◌else◌}
 use Rattle.html_tokenizer.proofs.InputChars.{takes-more}
-use Rattle.html_tokenizer.proofs.Glue.{held-other, fails-along, fails-before}
+use Rattle.html_tokenizer.proofs.Glue.{held-other, fails-along, fails-before, stays-same, stays-then, fell-behind, fell-same}
 use Rattle.html_tokenizer.specs.Stops.{stops_of}
 use Rattle.html_queue.specs.declared.set.SmallCharSet.{SmallCharSet}
 use Rattle.html_tokens.specs.declared.states.State.{State}
 use Rattle.html_tokens.specs.declared.sink.TokenSink.{Ghosts}
-
--- what was there is what was taken and what is left
-took-front : (taken : List ℕ) (from to : Queue) (t : List ℕ) → Takes taken from to → from.characters ++ t ≡ taken ++ (to.characters ++ t)
-took-front taken from to t h = ap (λ u. u ++ t) h.split ∙ append_assoc taken to.characters t
 
 -- a character that stands for ">" is ">"
 newline-close : (c : ℕ) (b : Bool) → nat_eq c 13 ≡ b → (if b then 10 else c) ≡ 62 → c ≡ 62
@@ -66,13 +64,13 @@ module _ {K H : Type 0} (Sink : Ghosts K H) where
     pub rises : Rises Sink.errors (together owed (owed_for_text old.stream.exact_errors came)) old.sink new.sink
     pub same : (notes : Notes ℕ) (t : List ℕ) → to_come Sink old notes (taken ++ t) ≡ to_come Sink new (more owed notes) t
     pub ready : IsReady Sink new
-    pub works : Sink.has_failed new.sink ≡ true → Sink.has_failed old.sink ≡ true
+    pub stays : Stays Sink old.sink new.sink
     pub ended : new.stream.has_ended ≡ old.stream.has_ended
     pub failed : new.stream.has_failed ≡ old.stream.has_failed
     pub exact : new.stream.exact_errors ≡ old.stream.exact_errors
 
   pub started : (old : Tokenizer K) (from : Queue) → IsReady Sink old → Going old old from from
-  started old from ready = record { taken = []; takes = record { split = refl; counted = omega arith }; came = []; comes = λ t. refl; owed = nothing_owed; rises = rises-less Sink.errors old.sink old.sink (none-no-more old.stream.exact_errors) (rises-same Sink.errors old.sink old.sink refl); same = λ notes t. refl; ready = ready; works = λ h. h; ended = refl; failed = refl; exact = refl }
+  started old from ready = record { taken = []; takes = record { split = refl; counted = omega arith }; came = []; comes = λ t. refl; owed = nothing_owed; rises = rises-less Sink.errors old.sink old.sink (none-no-more old.stream.exact_errors) (rises-same Sink.errors old.sink old.sink refl); same = λ notes t. refl; ready = ready; stays = stays-same Sink old.sink old.sink refl; ended = refl; failed = refl; exact = refl }
 
   -- what was to come over all that was taken
   both-taken : (old mid new : Tokenizer K) (from via to : Queue) (result : ProcessResult H) (h : Going old mid from via) (m : Moved Sink mid new via to result) (notes : Notes ℕ) (t : List ℕ)
@@ -108,7 +106,7 @@ module _ {K H : Type 0} (Sink : Ghosts K H) where
     rises = both-rise old mid new from via to flow.Continue h m;
     same = both-taken old mid new from via to flow.Continue h m;
     ready = m.ready;
-    works = λ x. h.works (m.works x);
+    stays = stays-then Sink old.sink mid.sink new.sink h.stays m.stays;
     ended = m.ended ∙ h.ended;
     failed = m.failed ∙ h.failed;
     exact = m.exact ∙ h.exact;
@@ -126,7 +124,7 @@ module _ {K H : Type 0} (Sink : Ghosts K H) where
     rises = both-rise old mid new from via to result h m;
     same = λ notes t. both-taken old mid new from via to result h m notes t ∙ ap (λ x. to_come Sink new (record (more (together m.owed h.owed) notes) { pauses = x }) t) (pauses_same notes.pauses);
     ready = m.ready;
-    works = λ x. h.works (m.works x);
+    stays = stays-then Sink old.sink mid.sink new.sink h.stays m.stays;
     ended = m.ended ∙ h.ended;
     failed = m.failed ∙ h.failed;
     exact = m.exact ∙ h.exact;
@@ -134,27 +132,29 @@ module _ {K H : Type 0} (Sink : Ghosts K H) where
   }
 
   pub fed-whole : (old mid new : Tokenizer K) (from via to : Queue) → Going old mid from via → Moved Sink mid new via to flow.Suspend → Fed Sink old new from to answer.Done
-  fed-whole old mid new from via to h m = fed old mid new from via to flow.Suspend answer.Done h m (λ pauses. refl) m.left
+  fed-whole old mid new from via to h m = fed old mid new from via to flow.Suspend answer.Done h m (λ pauses. refl) (m.left, holds-part (rows_of new) new.state new.char_ref m.ready.fits)
 
   pub fed-script : (old mid new : Tokenizer K) (from via to : Queue) (handle : H) → Going old mid from via → Moved Sink mid new via to (flow.Script handle) → Fed Sink old new from to (answer.Script handle)
-  fed-script old mid new from via to handle h m = fed old mid new from via to (flow.Script handle) (answer.Script handle) h m (λ pauses. refl) (last-close h.taken m.taken m.left.0, m.left.1)
+  fed-script old mid new from via to handle h m = fed old mid new from via to (flow.Script handle) (answer.Script handle) h m (λ pauses. refl) (last-close h.taken m.taken m.left.0, m.left.1, m.left.2)
 
   pub fed-encoding : (old mid new : Tokenizer K) (from via to : Queue) (label : List ℕ) → Going old mid from via → Moved Sink mid new via to (flow.EncodingIndicator label) → Fed Sink old new from to (answer.EncodingIndicator label)
-  fed-encoding old mid new from via to label h m = fed old mid new from via to (flow.EncodingIndicator label) (answer.EncodingIndicator label) h m (λ pauses. refl) (last-close h.taken m.taken m.left.0, m.left.1)
+  fed-encoding old mid new from via to label h m = fed old mid new from via to (flow.EncodingIndicator label) (answer.EncodingIndicator label) h m (λ pauses. refl) (last-close h.taken m.taken m.left.0, m.left.1, m.left.2)
+
+  -- what was taken so far, as a move
+  gone : (old new : Tokenizer K) (from to : Queue) → Going old new from to → HasMoved Sink (λ pauses. pauses) (λ taken. Unit {0}) old new from to
+  gone old new from to h = record { taken = h.taken; takes = h.takes; came = h.came; comes = h.comes; owed = h.owed; rises = h.rises; same = h.same; ready = h.ready; stays = h.stays; ended = h.ended; failed = h.failed; exact = h.exact; left = tt }
 
   -- a step failed, and so does the call
   pub not-fed : (old mid new : Tokenizer K) (from via to : Queue) (fault : ParseFault) (result : Result (TokenizerResult H) ParseFault) → Going old mid from via → Moves Sink mid new via to (Err fault)
       → IsErrAnd result (λ y. y ≡ fault) → Runs Sink old new from to result
   not-fed old mid new from via to fault result h m is =
       let p = err_from_is_err_and result is in
-      rw (p.1, p.2) (λ notes t. fails-along Sink old.sink _ _ fault
-      (ap (λ u. to_come Sink old notes (u ++ t)) h.takes.split ∙ ap (λ u. to_come Sink old notes u) (append_assoc h.taken via.characters t) ∙ h.same notes (via.characters ++ t))
-      (fails-before Sink mid.sink old.sink _ fault h.works (m (more h.owed notes) t)))
+      rw (p.1, p.2) (record { at = mid; via = via; moved = gone old mid from via h; stuck = m })
 
   -- NO CHARACTER IS LEFT, OR ONE COMES, OR A RUN
 
-  other-fits : (old mid : Tokenizer K) → mid ≡ record old { stream = mid.stream } → IsReady Sink old → IsReady Sink mid
-  other-fits old mid is ready = rw is (record { sound = ready.sound; fits = ready.fits })
+  other-fits : (old mid : Tokenizer K) → mid ≡ record old { stream = mid.stream } → IsOther old.stream mid.stream → IsReady Sink old → IsReady Sink mid
+  other-fits old mid is other ready = rw is (record { sound = ready.sound; fits = ap (λ s. fits_in s.table old.char_ref old.state) other ∙ ready.fits })
 
   pub moved-nowhere : (old mid : Tokenizer K) (from to : Queue) → mid ≡ record old { stream = mid.stream } → Vanishes old.stream mid.stream from to → IsReady Sink old → Moved Sink old mid from to flow.Suspend
   moved-nowhere old mid from to is h ready = record {
@@ -165,19 +165,19 @@ module _ {K H : Type 0} (Sink : Ghosts K H) where
     owed = nothing_owed;
     rises = rises-less Sink.errors old.sink mid.sink (none-no-more old.stream.exact_errors) (rises-same Sink.errors old.sink mid.sink (ap (λ (k : Tokenizer K). k.sink) is));
     same = λ notes t. comes-to old mid (h.taken ++ t) (coming_in mid.stream t) notes h.changed is (h.all t);
-    ready = other-fits old mid is ready;
-    works = λ x. ap (λ (k : Tokenizer K). Sink.has_failed k.sink) (sym is) ∙ x;
+    ready = other-fits old mid is h.changed ready;
+    stays = stays-same Sink old.sink mid.sink (ap (λ (k : Tokenizer K). k.sink) is);
     ended = ap (λ s. s.has_ended) h.changed;
     failed = ap (λ s. s.has_failed) h.changed;
     exact = ap (λ s. s.exact_errors) h.changed;
     left = h.empty;
   }
 
-  leaves : (result : ProcessResult H) (c : ℕ) (new : Tokenizer K) (taken : List ℕ) (to : Queue) → 0 < length taken → newline_for (last_of taken) ≡ c → PausesAt result c new → Leaves Sink result new taken to
+  leaves : (result : ProcessResult H) (c : ℕ) (new : Tokenizer K) (taken : List ℕ) (to : Queue) → 0 < length taken → newline_for (last_of taken) ≡ c → PausesAt Sink result c new → Leaves Sink result new taken to
   leaves flow.Continue c new taken to filled last h = filled
   leaves flow.Suspend c new taken to filled last h = absurd h
-  leaves (flow.Script handle) c new taken to filled last h = (newline-close (last_of taken) (nat_eq (last_of taken) 13) refl (last ∙ h.0), h.1)
-  leaves (flow.EncodingIndicator label) c new taken to filled last h = (newline-close (last_of taken) (nat_eq (last_of taken) 13) refl (last ∙ h.0), h.1)
+  leaves (flow.Script handle) c new taken to filled last h = (newline-close (last_of taken) (nat_eq (last_of taken) 13) refl (last ∙ h.0), h.1, h.2)
+  leaves (flow.EncodingIndicator label) c new taken to filled last h = (newline-close (last_of taken) (nat_eq (last_of taken) 13) refl (last ∙ h.0), h.1, h.2)
 
   -- what errors rose by from the machine whose input's front was taken
   from-mid : (old mid new : Tokenizer K) (owed : Owed) (came : List ℕ) → mid ≡ record old { stream = mid.stream } → mid.stream.exact_errors ≡ old.stream.exact_errors → Rises Sink.errors (together owed (owed_for_text mid.stream.exact_errors came)) mid.sink new.sink → Rises Sink.errors (together owed (owed_for_text old.stream.exact_errors came)) old.sink new.sink
@@ -203,15 +203,33 @@ module _ {K H : Type 0} (Sink : Ghosts K H) where
         ∙ p.same notes (coming_in mid.stream t)
         ∙ ap (λ s. now Sink new new.stream.breaks (Sink.view new.sink, noted_by Sink.number p.owed notes result) (coming_in s t)) (sym p.stream);
     ready = record { sound = p.sound; fits = p.fits };
-    works = λ x. ap (λ (k : Tokenizer K). Sink.has_failed k.sink) (sym is) ∙ p.works x;
+    stays = stays-then Sink old.sink mid.sink new.sink (stays-same Sink old.sink mid.sink (ap (λ (k : Tokenizer K). k.sink) is)) p.stays;
     ended = ap (λ s. s.has_ended) p.stream ∙ ap (λ s. s.has_ended) h.changed;
     failed = ap (λ s. s.has_failed) p.stream ∙ ap (λ s. s.has_failed) h.changed;
     exact = ap (λ s. s.exact_errors) p.stream ∙ ap (λ s. s.exact_errors) h.changed;
     left = leaves result c new h.taken to h.filled h.last p.paused;
   }
-  moved-one old mid new from to c (Err fault) is h p = λ notes t.
-      fails-along Sink old.sink _ _ fault (ap (λ u. to_come Sink old notes u) (took-front h.taken from to t h.takes) ∙ comes-to old mid (h.taken ++ (to.characters ++ t)) (c ∷ coming_in mid.stream (to.characters ++ t)) notes h.changed is (h.front (to.characters ++ t)))
-      (fails-before Sink mid.sink old.sink _ fault (λ x. ap (λ (k : Tokenizer K). Sink.has_failed k.sink) (sym is) ∙ x) (p notes (coming_in mid.stream (to.characters ++ t))))
+  moved-one old mid new from to c (Err fault) is h p =
+      let stays : Stays Sink old.sink mid.sink = stays-same Sink old.sink mid.sink (ap (λ (k : Tokenizer K). k.sink) is) in
+      record {
+        lost = h.taken;
+        takes = h.takes;
+        fell = fell-behind Sink old.sink mid.sink new.sink stays p.0;
+        fails = λ notes t.
+            fails-along Sink old.sink new.sink _ _ fault (comes-to old mid (h.taken ++ t) (c ∷ coming_in mid.stream t) notes h.changed is (h.front t))
+            (fails-before Sink old.sink mid.sink new.sink _ fault stays (p.1 notes (coming_in mid.stream t)));
+      }
+
+  -- what comes next could not be had
+  pub not-moved : (old mid : Tokenizer K) (from to : Queue) (fault : ParseFault) (result : Result (ProcessResult H) ParseFault) → mid ≡ record old { stream = mid.stream } → to ≡ from → fault ≡ Memory → IsReady Sink old → IsErrAnd result (λ y. y ≡ fault) → Moves Sink old mid from to result
+  not-moved old mid from to fault result is same memory ready e =
+      let p = err_from_is_err_and result e in
+      rw (p.1, p.2, memory, same) (record {
+        lost = [];
+        takes = record { split = refl; counted = omega arith };
+        fell = fell-same Sink old.sink mid.sink (ap (λ (k : Tokenizer K). k.sink) is) ready.sound;
+        fails = λ notes t. tt;
+      })
 
   pub moved-run : (old mid new : Tokenizer K) (from to : Queue) (run : List ℕ) (result : Result (ProcessResult H) ParseFault) → mid ≡ record old { stream = mid.stream } → ComesAsRunAt old mid.stream from to run
       → KeepsText Sink mid new run result → Moves Sink old new from to result
@@ -230,7 +248,7 @@ module _ {K H : Type 0} (Sink : Ghosts K H) where
         ∙ p.same notes (coming_in mid.stream t)
         ∙ ap (λ s. now Sink new s.breaks (Sink.view new.sink, more p.owed notes) (coming_in s t)) (sym p.stream);
     ready = record { sound = p.sound; fits = p.fits };
-    works = λ x. ap (λ (k : Tokenizer K). Sink.has_failed k.sink) (sym is) ∙ p.works x;
+    stays = stays-then Sink old.sink mid.sink new.sink (stays-same Sink old.sink mid.sink (ap (λ (k : Tokenizer K). k.sink) is)) p.stays;
     ended = ap (λ s. s.has_ended) p.stream ∙ ap (λ s. s.has_ended) h.comes.changed;
     failed = ap (λ s. s.has_failed) p.stream ∙ ap (λ s. s.has_failed) h.comes.changed;
     exact = ap (λ s. s.exact_errors) p.stream ∙ ap (λ s. s.exact_errors) h.comes.changed;
@@ -239,9 +257,16 @@ module _ {K H : Type 0} (Sink : Ghosts K H) where
   moved-run old mid new from to run (Ok flow.Suspend) is h p = absurd p
   moved-run old mid new from to run (Ok (flow.Script handle)) is h p = absurd p
   moved-run old mid new from to run (Ok (flow.EncodingIndicator label)) is h p = absurd p
-  moved-run old mid new from to run (Err fault) is h p = λ notes t.
-      fails-along Sink old.sink _ _ fault (ap (λ u. to_come Sink old notes u) (took-front run from to t h.comes.takes) ∙ comes-to old mid (run ++ (to.characters ++ t)) (run ++ coming_in mid.stream (to.characters ++ t)) notes h.comes.changed is (h.comes.front (to.characters ++ t)))
-      (fails-before Sink mid.sink old.sink _ fault (λ x. ap (λ (k : Tokenizer K). Sink.has_failed k.sink) (sym is) ∙ x) (p notes (coming_in mid.stream (to.characters ++ t))))
+  moved-run old mid new from to run (Err fault) is h p =
+      let stays : Stays Sink old.sink mid.sink = stays-same Sink old.sink mid.sink (ap (λ (k : Tokenizer K). k.sink) is) in
+      record {
+        lost = run;
+        takes = h.comes.takes;
+        fell = fell-behind Sink old.sink mid.sink new.sink stays p.0;
+        fails = λ notes t.
+            fails-along Sink old.sink new.sink _ _ fault (comes-to old mid (run ++ t) (run ++ coming_in mid.stream t) notes h.comes.changed is (h.comes.front t))
+            (fails-before Sink old.sink mid.sink new.sink _ fault stays (p.1 notes (coming_in mid.stream t)));
+      }
 
   -- The run could not be taken.
   pub not-taken : (old new : Tokenizer K) (run : List ℕ) (fault : ParseFault) (result : Result (ProcessResult H) ParseFault) → KeepsRun Sink old new run (Err fault) → IsErrAnd result (λ y. y ≡ fault)

@@ -27,16 +27,12 @@ use Rattle.html_tokenizer.specs.declared.tokenizer.Tokenizer.{Tokenizer}
 use Rattle.html_tokenizer.specs.Rest.{rows_of, standing, pending, held_at}
 use Rattle.html_tokenizer.proofs.Lawful.{erred-more}
 use Rattle.html_tokenizer.proofs.Readings.{sum-zero}
-use Rattle.html_tokenizer.specs.Steps.{Owed, nothing_owed, owed_for, and_heard, together, owed_by, IsAt, paused_by, more, noted_by, Rises, now, Fails, Told, Erred, Took, Keeps, EndsTag, reads}
+use Rattle.html_tokenizer.specs.Steps.{Owed, nothing_owed, owed_for, and_heard, together, owed_by, IsAt, paused_by, more, noted_by, Rises, now, Stays, Fell, FailsAmong, Fails, Falls, IsOfText, Told, Erred, Took, Keeps, EndsTag, reads}
 use Rattle.html_tokenizer.proofs.Rises.{more-more, heard-more, rises-slight, rises-then, rises-less}
 
 -- a character that is no line break ends no line
 pub no-break : (b c : ℕ) → nat_eq c 10 ≡ false → b + line_break (nat_eq c 10) ≡ b
 no-break b c h = rw h (sum-zero b)
-
--- a sink that took a token has not failed
-pub told-works : {a b : Bool} → a ≡ false → a ≡ true → b ≡ true
-told-works e h = absurd cc
 
 pub bind-err : {A B F : Type 0} (r : Result A F) (f : A → Result B F) → IsErr r → IsErr (r >>= f)
 bind-err (Ok x) f h = cc
@@ -51,8 +47,8 @@ err-noted notes (Ok p) h = cc
 err-noted notes (Err e) h = refl
 
 -- where no reference is held, none is held in a state that has none
-pub fits-at : {K : Type 0} (k : Tokenizer K) (st : State) → IsAt k st → fits_in k.char_ref k.state ≡ true
-fits-at k st h = ap (λ r. fits_in r k.state) h.fresh
+pub fits-at : {K : Type 0} (k : Tokenizer K) (st : State) → IsAt k st → fits_in (rows_of k) k.char_ref k.state ≡ true
+fits-at k st h = ap (λ r. fits_in (rows_of k) r k.state) h.fresh
 
 -- what is slight is not quiet
 quiet-not_odd : (odd : Bool) → (owed_for (slight_if odd)).is_quiet ≡ true → odd ≡ false
@@ -60,6 +56,20 @@ quiet-not_odd true h = absurd cc
 quiet-not_odd false h = refl
 
 module _ {K H : Type 0} (Sink : Ghosts K H) where
+  -- nothing was told
+  pub stays-same : (old new : K) → new ≡ old → Stays Sink old new
+  stays-same old new e = record { failed = λ h. ap Sink.has_failed (sym e) ∙ h; loans = ap Sink.references e }
+
+  pub stays-then : (old mid new : K) → Stays Sink old mid → Stays Sink mid new → Stays Sink old new
+  stays-then old mid new h k = record { failed = λ x. h.failed (k.failed x); loans = k.loans ∙ h.loans }
+
+  pub fell-behind : (old mid new : K) → Stays Sink old mid → Fell Sink mid new → Fell Sink old new
+  fell-behind old mid new h k = record { sound = k.sound; loans = k.loans ∙ h.loans }
+
+  -- a call failed that left the sink as it was
+  pub fell-same : (old new : K) → new ≡ old → Sink.is_sound (Sink.view old) → Fell Sink old new
+  fell-same old new e ok = record { sound = λ h. rw e ok; loans = ap Sink.references e }
+
   abbrev pub at : State → Tokenizer K → ℕ → Sink.State × Notes ℕ → List ℕ → Result (Sink.State × Notes ℕ) (Refusal × ℕ)
   at st k b s t = held_at (noting Sink.step Sink.is_quiet) noting_error (noting_cdata Sink.asks_cdata) (noting_end Sink.ended) st k b s t
 
@@ -83,7 +93,7 @@ module _ {K H : Type 0} (Sink : Ghosts K H) where
       stream = stream;
       sound = rw same ok;
       fits = fits-at new st' to;
-      works = λ h. ap Sink.has_failed (sym same) ∙ h;
+      stays = stays-same old.sink new.sink same;
       paused = tt;
     },
     quiet-not_odd odd,
@@ -102,12 +112,12 @@ module _ {K H : Type 0} (Sink : Ghosts K H) where
   took old new c st st' from to stream same ok law = took_odd false old new c st st' from to stream same ok law
 
   -- What a failed call was to give comes first in this.
-  pub fails-first : (sink : K) {A B F G : Type 0} (r : Result A F) (given : Result B G) (fault : ParseFault) → (IsErr r → IsErr given) → Fails Sink sink r fault → Fails Sink sink given fault
-  fails-first sink r given Memory h f = tt
-  fails-first sink r given TokenInText h f = (h f.0, f.1)
-  fails-first sink r given Ended h f = (h f.0, f.1)
-  fails-first sink r given Shape h f = (h f.0, f.1)
-  fails-first sink r given Failed h f = f
+  pub fails-first : (among : Token → Type 0) (old new : K) {A B F G : Type 0} (r : Result A F) (given : Result B G) (fault : ParseFault) → (IsErr r → IsErr given) → FailsAmong Sink among old new r fault → FailsAmong Sink among old new given fault
+  fails-first among old new r given Memory h f = tt
+  fails-first among old new r given TokenInText h f = (h f.0, f.1)
+  fails-first among old new r given Ended h f = (h f.0, f.1)
+  fails-first among old new r given Shape h f = (h f.0, f.1)
+  fails-first among old new r given Failed h f = f
 
 -- The sink and what is known of the input but the table do not matter to what is held.
 module _ {K T : Type 0} (step : NotedStep T) (erred : Fault → T → T) (cdata : T → Bool) (ends : T → T) where
@@ -178,25 +188,33 @@ module _ {K H : Type 0} (Sink : Ghosts K H) where
   abbrev pub Says : State → Tokenizer K → ℕ → Owed → Token → (ℕ → Sink.State × Notes ℕ → List ℕ → Result (Sink.State × Notes ℕ) (Refusal × ℕ)) → Type 0
   Says st old c owed token next = (b : ℕ) (s : Sink.State × Notes ℕ) → Sink.is_sound s.0 → (t : List ℕ) → at Sink st old b s (c ∷ t) ≡ (noting Sink.step Sink.is_quiet (s.0, more owed s.1) token (line_number b) >>= λ p. next b p.0 t)
 
-  pub fails-along : (sink : K) {A F : Type 0} (a b : Result A F) (fault : ParseFault) → a ≡ b → Fails Sink sink b fault → Fails Sink sink a fault
-  fails-along sink a b fault e f = rw e f
+  pub fails-along : (old new : K) {A F : Type 0} (a b : Result A F) (fault : ParseFault) → a ≡ b → Fails Sink old new b fault → Fails Sink old new a fault
+  fails-along old new a b fault e f = rw e f
 
   -- What was to be told was refused, and so is all that was to come.
-  pub token-fails : (sink : K) {A : Type 0} (given : Result A (Refusal × ℕ)) (s : Sink.State) (notes : Notes ℕ) (token : Token) (line : ℕ) (fault : ParseFault) (next : (Sink.State × Notes ℕ) × Reply → Result A (Refusal × ℕ))
-      → Fails Sink sink (Sink.step s token line) fault → given ≡ (noting Sink.step Sink.is_quiet (s, notes) token line >>= next) → Fails Sink sink given fault
-  token-fails sink given s notes token line fault next fails e =
-      fails-along sink _ _ fault e (fails-first Sink sink (Sink.step s token line) _ fault (λ h. bind-err (noting Sink.step Sink.is_quiet (s, notes) token line) next (noted-err (heard (Sink.is_quiet s token) notes) (Sink.step s token line) h)) fails)
+  pub token_fails : (among : Token → Type 0) (old new : K) {A : Type 0} (given : Result A (Refusal × ℕ)) (s : Sink.State) (notes : Notes ℕ) (token : Token) (line : ℕ) (fault : ParseFault) (next : (Sink.State × Notes ℕ) × Reply → Result A (Refusal × ℕ))
+      → FailsAmong Sink among old new (Sink.step s token line) fault → given ≡ (noting Sink.step Sink.is_quiet (s, notes) token line >>= next) → FailsAmong Sink among old new given fault
+  token_fails among old new given s notes token line fault next fails e =
+      rw e (fails-first Sink among old new (Sink.step s token line) _ fault (λ h. bind-err (noting Sink.step Sink.is_quiet (s, notes) token line) next (noted-err (heard (Sink.is_quiet s token) notes) (Sink.step s token line) h)) fails)
+
+  -- the same of a token of the text
+  pub token-fails : (old new : K) {A : Type 0} (given : Result A (Refusal × ℕ)) (s : Sink.State) (notes : Notes ℕ) (token : Token) (line : ℕ) (fault : ParseFault) (next : (Sink.State × Notes ℕ) × Reply → Result A (Refusal × ℕ))
+      → Fails Sink old new (Sink.step s token line) fault → given ≡ (noting Sink.step Sink.is_quiet (s, notes) token line >>= next) → Fails Sink old new given fault
+  token-fails old new given s notes token line fault next fails e = token_fails IsOfText old new given s notes token line fault next fails e
 
   -- The call that tells a token failed, and it was to be told next.
   pub failed : (owed : Owed) (old new : Tokenizer K) (c : ℕ) (st : State) (token : Token) (result : Result (ProcessResult H) ParseFault) (fault : ParseFault) (next : ℕ → Sink.State × Notes ℕ → List ℕ → Result (Sink.State × Notes ℕ) (Refusal × ℕ))
-      → IsAt old st → Sink.is_sound (Sink.view old.sink) → IsErrAnd result (λ y. y ≡ fault) → Fails Sink old.sink (Sink.step (Sink.view old.sink) token (line_number old.stream.breaks)) fault
+      → IsAt old st → Sink.is_sound (Sink.view old.sink) → IsErrAnd result (λ y. y ≡ fault) → Falls Sink old.sink new.sink (Sink.step (Sink.view old.sink) token (line_number old.stream.breaks)) fault
       → Says st old c owed token next
       → Keeps Sink old new c result
   failed owed old new c st token result fault next from ok is fails law =
       let p = err_from_is_err_and result is in
-      rw (p.1, p.2) (λ notes t.
-      token-fails old.sink _ (Sink.view old.sink) (more owed notes) token (line_number old.stream.breaks) fault _ fails
-      (now-at Sink old st old.stream.breaks (Sink.view old.sink, notes) (c ∷ t) from ∙ law old.stream.breaks (Sink.view old.sink, notes) ok t))
+      rw (p.1, p.2) (
+        fails.0,
+        λ notes t.
+            token-fails old.sink new.sink _ (Sink.view old.sink) (more owed notes) token (line_number old.stream.breaks) fault _ fails.1
+            (now-at Sink old st old.stream.breaks (Sink.view old.sink, notes) (c ∷ t) from ∙ law old.stream.breaks (Sink.view old.sink, notes) ok t),
+      )
 
   -- what is to come where a token was told behind what is owed
   pub told-next : {owed : Owed} (owing : Owed) (old mid : Tokenizer K) (token : Token) (notes : Notes ℕ) (next : Sink.State × Notes ℕ → Result (Sink.State × Notes ℕ) (Refusal × ℕ)) → Told Sink owed token old mid
@@ -225,7 +243,7 @@ module _ {K H : Type 0} (Sink : Ghosts K H) where
     stream = stream;
     sound = told.sound;
     fits = fits-at target st' to;
-    works = λ h. told-works told.works h;
+    stays = told.stays;
     paused = tt;
   })
 
@@ -249,24 +267,28 @@ module _ {K H : Type 0} (Sink : Ghosts K H) where
             ∙ sym (ap (λ k. now Sink k (old.stream.breaks + line_break (nat_eq c 10)) (Sink.view k.sink, more (and_heard (Sink.is_quiet (Sink.view old.sink) token) owed) notes) t) told.changed);
         stream = ap (λ k. k.stream) told.changed ∙ stream;
         sound = told.sound;
-        fits = ap (λ k. fits_in k.char_ref k.state) told.changed ∙ fits-at source st' to;
-        works = λ h. told-works told.works h;
+        fits = ap (λ k. fits_in (rows_of k) k.char_ref k.state) told.changed ∙ fits-at source st' to;
+        stays = told'.stays;
         paused = tt;
       }
 
   -- A sink that has failed, if the one before it had, fails as that does.
-  pub fails-before : (after before : K) {A F : Type 0} (given : Result A F) (fault : ParseFault) → (Sink.has_failed after ≡ true → Sink.has_failed before ≡ true) → Fails Sink after given fault → Fails Sink before given fault
-  fails-before after before given Memory works f = f
-  fails-before after before given TokenInText works f = f
-  fails-before after before given Ended works f = f
-  fails-before after before given Shape works f = f
-  fails-before after before given Failed works f = works f
+  pub fails_before : (among : Token → Type 0) (before after new : K) {A F : Type 0} (given : Result A F) (fault : ParseFault) → Stays Sink before after → FailsAmong Sink among after new given fault → FailsAmong Sink among before new given fault
+  fails_before among before after new given Memory stays f = f
+  fails_before among before after new given TokenInText stays f = f
+  fails_before among before after new given Ended stays f = f
+  fails_before among before after new given Shape stays f = f
+  fails_before among before after new given Failed stays f = stays.failed f
+
+  -- the same of a token of the text
+  pub fails-before : (before after new : K) {A F : Type 0} (given : Result A F) (fault : ParseFault) → Stays Sink before after → Fails Sink after new given fault → Fails Sink before new given fault
+  fails-before before after new given fault stays f = fails_before IsOfText before after new given fault stays f
 
   -- The character goes on to where the machine makes of it, and of all that follows, what was to be made, with so many faulty items told.
-  pub keeps-behind : (owed : Owed) (old mid new : Tokenizer K) (c : ℕ) (result : Result (ProcessResult H) ParseFault) → mid.stream ≡ old.stream → (Sink.has_failed mid.sink ≡ true → Sink.has_failed old.sink ≡ true) → Rises Sink.errors owed old.sink mid.sink
+  pub keeps-behind : (owed : Owed) (old mid new : Tokenizer K) (c : ℕ) (result : Result (ProcessResult H) ParseFault) → mid.stream ≡ old.stream → Stays Sink old.sink mid.sink → Rises Sink.errors owed old.sink mid.sink
       → ((notes : Notes ℕ) (t : List ℕ) → now Sink old old.stream.breaks (Sink.view old.sink, notes) (c ∷ t) ≡ now Sink mid old.stream.breaks (Sink.view mid.sink, more owed notes) (c ∷ t))
       → Keeps Sink mid new c result → Keeps Sink old new c result
-  keeps-behind owed old mid new c (Ok result) stream works rises e h = record {
+  keeps-behind owed old mid new c (Ok result) stream stays rises e h = record {
     owed = together h.owed owed;
     rises = rises-then Sink.errors old.sink mid.sink new.sink rises h.rises;
     same = λ notes t. e notes t ∙ rw (← stream) (h.same (more owed notes) t)
@@ -274,23 +296,26 @@ module _ {K H : Type 0} (Sink : Ghosts K H) where
     stream = h.stream ∙ stream;
     sound = h.sound;
     fits = h.fits;
-    works = λ x. works (h.works x);
+    stays = stays-then Sink old.sink mid.sink new.sink stays h.stays;
     paused = h.paused;
   }
-  keeps-behind owed old mid new c (Err fault) stream works rises e h = λ notes t. fails-along old.sink _ _ fault (e notes t) (rw (← stream) (fails-before mid.sink old.sink _ fault works (h (more owed notes) t)))
+  keeps-behind owed old mid new c (Err fault) stream stays rises e h = (
+    fell-behind Sink old.sink mid.sink new.sink stays h.0,
+    λ notes t. fails-along old.sink new.sink _ _ fault (e notes t) (rw (← stream) (fails-before old.sink mid.sink new.sink _ fault stays (h.1 (more owed notes) t))),
+  )
 
   -- the same with none
-  pub keeps-along : (old mid new : Tokenizer K) (c : ℕ) (result : Result (ProcessResult H) ParseFault) → mid.stream ≡ old.stream → (Sink.has_failed mid.sink ≡ true → Sink.has_failed old.sink ≡ true) → Rises Sink.errors nothing_owed old.sink mid.sink
+  pub keeps-along : (old mid new : Tokenizer K) (c : ℕ) (result : Result (ProcessResult H) ParseFault) → mid.stream ≡ old.stream → Stays Sink old.sink mid.sink → Rises Sink.errors nothing_owed old.sink mid.sink
       → ((notes : Notes ℕ) (t : List ℕ) → now Sink old old.stream.breaks (Sink.view old.sink, notes) (c ∷ t) ≡ now Sink mid old.stream.breaks (Sink.view mid.sink, notes) (c ∷ t))
       → Keeps Sink mid new c result → Keeps Sink old new c result
-  keeps-along old mid new c result stream works rises e h = keeps-behind nothing_owed old mid new c result stream works rises e h
+  keeps-along old mid new c result stream stays rises e h = keeps-behind nothing_owed old mid new c result stream stays rises e h
 
   -- The character, which may be odd here, is taken by another state, which nothing led to but the machine's own fields.
   pub keeps_odd : (odd : Bool) (old mid new : Tokenizer K) (c : ℕ) (st st' : State) (result : Result (ProcessResult H) ParseFault) → IsAt old st → IsAt mid st' → mid.stream ≡ old.stream → mid.sink ≡ old.sink
       → ((b : ℕ) (s : Sink.State × Notes ℕ) (t : List ℕ) → at Sink st old b s (c ∷ t) ≡ at Sink st' mid b (erred_by noting_error (slight_if odd) s) (c ∷ t))
       → Keeps Sink mid new c result → Keeps Sink old new c result
   keeps_odd odd old mid new c st st' result from to stream same law h =
-      keeps-behind (owed_for (slight_if odd)) old mid new c result stream (λ h. ap Sink.has_failed (sym same) ∙ h) (rises-slight Sink.errors odd old.sink mid.sink same) (λ notes t.
+      keeps-behind (owed_for (slight_if odd)) old mid new c result stream (stays-same Sink old.sink mid.sink same) (rises-slight Sink.errors odd old.sink mid.sink same) (λ notes t.
       now-at Sink old st old.stream.breaks (Sink.view old.sink, notes) (c ∷ t) from
       ∙ law old.stream.breaks (Sink.view old.sink, notes) t
       ∙ ap (λ s. at Sink st' mid old.stream.breaks s (c ∷ t)) (erred-more (slight_if odd) (Sink.view old.sink, notes))
@@ -309,7 +334,7 @@ module _ {K H : Type 0} (Sink : Ghosts K H) where
       → Says st old c owed token (λ b s t. at Sink st' target b s (c ∷ t))
       → Keeps Sink on new c result → Keeps Sink old new c result
   keeps_told {owed} old mid on new target c st st' token result from ok told is to stream law h =
-      keeps-behind (and_heard (Sink.is_quiet (Sink.view old.sink) token) owed) old on new c result (ap (λ k. k.stream) is ∙ stream) (λ h. told-works told.works (ap (λ k. Sink.has_failed k.sink) (sym is) ∙ h)) (rw is told.rises) (λ notes t.
+      keeps-behind (and_heard (Sink.is_quiet (Sink.view old.sink) token) owed) old on new c result (ap (λ k. k.stream) is ∙ stream) (rw is told.stays) (rw is told.rises) (λ notes t.
       now-at Sink old st old.stream.breaks (Sink.view old.sink, notes) (c ∷ t) from
       ∙ law old.stream.breaks (Sink.view old.sink, notes) ok t
       ∙ told-next owed old mid token notes (λ s. at Sink st' target old.stream.breaks s (c ∷ t)) told
@@ -332,12 +357,15 @@ module _ {K H : Type 0} (Sink : Ghosts K H) where
     stream = h.stream;
     sound = h.sound;
     fits = h.fits;
-    works = λ x. told-works h.works x;
+    stays = h.stays;
     paused = rw close h.paused;
   }
-  took_tag old new c st (Err fault) from close h law ok = λ notes t.
-      token-fails old.sink _ (Sink.view old.sink) (more (owed_for (grave_if (is_faulty_tag old.tag))) notes) (TagToken old.tag) (line_number old.stream.breaks) fault _ h
-      (now-at Sink old st old.stream.breaks (Sink.view old.sink, notes) (c ∷ t) from ∙ law old.stream.breaks (Sink.view old.sink, notes) ok t)
+  took_tag old new c st (Err fault) from close h law ok = (
+    h.0,
+    λ notes t.
+        token-fails old.sink new.sink _ (Sink.view old.sink) (more (owed_for (grave_if (is_faulty_tag old.tag))) notes) (TagToken old.tag) (line_number old.stream.breaks) fault _ h.1
+        (now-at Sink old st old.stream.breaks (Sink.view old.sink, notes) (c ∷ t) from ∙ law old.stream.breaks (Sink.view old.sink, notes) ok t),
+  )
 
   -- An error that was told changes nothing that is to come.
   pub erred-now : {owed : Owed} (old mid : Tokenizer K) (b : ℕ) (notes : Notes ℕ) (t : List ℕ) → Erred Sink owed old mid → now Sink old b (Sink.view old.sink, notes) t ≡ now Sink mid b (Sink.view mid.sink, notes) t
@@ -366,10 +394,10 @@ module _ {K H : Type 0} (Sink : Ghosts K H) where
   -- An error of an odd character was told, and then the character is taken, whose reading notes that it is odd.
   pub keeps_erred : (odd : Bool) (old mid new : Tokenizer K) (c : ℕ) (result : Result (ProcessResult H) ParseFault) → Erred Sink (owed_for (grave_if odd)) old mid → (odd ≡ true → Absorbs old c) → Keeps Sink mid new c result → Keeps Sink old new c result
   keeps_erred true old mid new c result h absorbs k =
-      keeps-behind (owed_for (Some Slight)) old mid new c result (ap (λ k. k.stream) h.changed) h.works (rises-less Sink.errors old.sink mid.sink (record { faults = omega arith; quiet = λ e. absurd cc }) h.rises)
+      keeps-behind (owed_for (Some Slight)) old mid new c result (ap (λ k. k.stream) h.changed) h.stays (rises-less Sink.errors old.sink mid.sink (record { faults = omega arith; quiet = λ e. absurd cc }) h.rises)
       (λ notes t. absorbs refl old.stream.breaks (Sink.view old.sink, notes) t ∙ erred-now old mid old.stream.breaks (more (owed_for (Some Slight)) notes) (c ∷ t) h) k
   keeps_erred false old mid new c result h absorbs k =
-      keeps-along old mid new c result (ap (λ k. k.stream) h.changed) h.works h.rises (λ notes t. erred-now old mid old.stream.breaks notes (c ∷ t) h) k
+      keeps-along old mid new c result (ap (λ k. k.stream) h.changed) h.stays h.rises (λ notes t. erred-now old mid old.stream.breaks notes (c ∷ t) h) k
 
   -- An error was told for a faulty item that gives no token, and the character is taken by another state.
   pub took_faulty : {owed : Owed} (old mid new : Tokenizer K) (c : ℕ) (st st' : State) → IsAt old st → IsAt new st' → Sink.is_sound (Sink.view old.sink) → Erred Sink owed old mid → new.stream ≡ mid.stream → new.sink ≡ mid.sink
@@ -386,6 +414,6 @@ module _ {K H : Type 0} (Sink : Ghosts K H) where
     stream = stream ∙ ap (λ k. k.stream) h.changed;
     sound = rw (ap Sink.view same ∙ h.sink) ok;
     fits = fits-at new st' to;
-    works = λ x. h.works (ap Sink.has_failed (sym same) ∙ x);
+    stays = rw same h.stays;
     paused = tt;
   }

@@ -13,11 +13,12 @@ use Rattle.html_tokens.specs.declared.token.Token.{Token}
 use Rattle.html_tokens.specs.declared.sink.TokenSink.{Ghosts}
 use Rattle.html_tokens.specs.Notes.{Notes, noting}
 use Rattle.html_tokens.specs.Reading.{◌>>=◌, line_number}
-use Rattle.html_tokenizer.specs.CharRefs.{is_held, may_hold}
+use Rattle.html_tokenizer.specs.CharRefs.{is_held, is_held_front, may_go_on, may_hold}
 use Rattle.html_tokenizer.specs.declared.tokenizer.Tokenizer.{Tokenizer}
-use Rattle.html_tokenizer.specs.Rest.{held_at}
-use Rattle.html_tokenizer.specs.Steps.{Owed, and_heard, IsAt, more as more_noted, Fails, Told, Took, Keeps, now, nothing_owed}
-use Rattle.html_tokenizer.proofs.Glue.{at, keeps-behind, no-break, now-target, token-fails, told-next, told-works}
+use Rattle.std.specs.Prelude.{◌&&◌}
+use Rattle.html_tokenizer.specs.Rest.{held_at, rows_of}
+use Rattle.html_tokenizer.specs.Steps.{Owed, and_heard, IsAt, more as more_noted, Falls, Told, Took, Keeps, now, nothing_owed}
+use Rattle.html_tokenizer.proofs.Glue.{at, keeps-behind, no-break, now-target, token-fails, told-next, stays-same}
 use Rattle.html_tokenizer.proofs.HeldReadings.{held-unbroken}
 use Rattle.html_tokenizer.proofs.Rises.{rises-same}
 
@@ -41,9 +42,9 @@ module _ {K H : Type 0} (Sink : Ghosts K H) where
       ∙ held-other_reference st h k (Some cs) b s (38 ∷ cs ++ t)
 
   -- A character more is held.
-  pub took-held : (old : Tokenizer K) (c : ℕ) (cs more : List ℕ) → may_hold old.state ≡ true → Sink.is_sound (Sink.view old.sink) → is_held c ≡ true → more ≡ cs ++ c ∷ []
+  pub took-held : (old : Tokenizer K) (c : ℕ) (cs more : List ℕ) → may_hold old.state ≡ true → Sink.is_sound (Sink.view old.sink) → is_held c ≡ true → may_go_on (rows_of old) cs c ≡ true → more ≡ cs ++ c ∷ []
       → Took Sink (record old { char_ref = Some cs }) (record old { char_ref = Some more }) c flow.Continue
-  took-held old c cs more fits ok held is = record {
+  took-held old c cs more fits ok held front is = record {
     owed = nothing_owed;
     rises = rises-same Sink.errors old.sink old.sink refl;
     same = λ notes t.
@@ -53,8 +54,8 @@ module _ {K H : Type 0} (Sink : Ghosts K H) where
         ∙ ap (λ n. now Sink (record old { char_ref = Some more }) n (Sink.view old.sink, notes) t) (sym (no-break old.stream.breaks c (held-unbroken c held)));
     stream = refl;
     sound = ok;
-    fits = fits;
-    works = λ h. h;
+    fits = ap (λ m. is_held_front (rows_of old) m && may_hold old.state) is ∙ (ap (λ b. b && may_hold old.state) front ∙ fits);
+    stays = stays-same Sink old.sink old.sink refl;
     paused = tt;
   }
 
@@ -68,7 +69,7 @@ module _ {K H : Type 0} (Sink : Ghosts K H) where
       → Keeps Sink mid new c result → Keeps Sink (record old { char_ref = Some cs }) new c result
   keeps-resolved {owed} old mid new cs c st token result from fits ok told law h =
       let heard = and_heard (Sink.is_quiet (Sink.view old.sink) token) owed in
-      keeps-behind Sink heard (record old { char_ref = Some cs }) mid new c result (ap (λ k. k.stream) told.changed) (λ h. told-works told.works h) told.rises (λ notes t.
+      keeps-behind Sink heard (record old { char_ref = Some cs }) mid new c result (ap (λ k. k.stream) told.changed) told.stays told.rises (λ notes t.
       now-held old st cs old.stream.breaks (Sink.view old.sink, notes) (c ∷ t) from.state fits
       ∙ law old.stream.breaks (Sink.view old.sink, notes) ok t
       ∙ told-next Sink owed old mid token notes (λ s. at Sink st old old.stream.breaks s (c ∷ t)) told
@@ -77,10 +78,13 @@ module _ {K H : Type 0} (Sink : Ghosts K H) where
 
   -- What was held could not be told.
   pub not-resolved : (owed : Owed) (old new : Tokenizer K) (cs : List ℕ) (c : ℕ) (st : State) (token : Token) (result : Result (ProcessResult H) ParseFault) (fault : ParseFault) → IsAt old st → may_hold st ≡ true → Sink.is_sound (Sink.view old.sink)
-      → IsErrAnd result (λ y. y ≡ fault) → Fails Sink old.sink (Sink.step (Sink.view old.sink) token (line_number old.stream.breaks)) fault → Resolves st old cs c owed token
+      → IsErrAnd result (λ y. y ≡ fault) → Falls Sink old.sink new.sink (Sink.step (Sink.view old.sink) token (line_number old.stream.breaks)) fault → Resolves st old cs c owed token
       → Keeps Sink (record old { char_ref = Some cs }) new c result
   not-resolved owed old new cs c st token result fault from fits ok is fails law =
       let p = err_from_is_err_and result is in
-      rw (p.1, p.2) (λ notes t.
-      token-fails Sink old.sink _ (Sink.view old.sink) (more_noted owed notes) token (line_number old.stream.breaks) fault _ fails
-      (now-held old st cs old.stream.breaks (Sink.view old.sink, notes) (c ∷ t) from.state fits ∙ law old.stream.breaks (Sink.view old.sink, notes) ok t))
+      rw (p.1, p.2) (
+        fails.0,
+        λ notes t.
+            token-fails Sink old.sink new.sink _ (Sink.view old.sink) (more_noted owed notes) token (line_number old.stream.breaks) fault _ fails.1
+            (now-held old st cs old.stream.breaks (Sink.view old.sink, notes) (c ∷ t) from.state fits ∙ law old.stream.breaks (Sink.view old.sink, notes) ok t),
+      )

@@ -77,7 +77,7 @@ module _ {T : Type 0} (sound : T → Type 0) (step : NotedStep T) (erred : Fault
   pub reading-held : (st : Stand) (b : ℕ) (s : T) (cs : List ℕ) → sound (erred_by erred (fault_of_reference rows cs) s) → (c : ℕ) (t : List ℕ) → ReadsHeld rows st → IsDecided rows cs c
       → reading step erred cdata ends rows st b s (38 ∷ cs ++ c ∷ t) ≡ (step (erred_by erred (fault_of_reference rows cs) s) (CharacterTokens (resolved false rows cs false)) (line_number b) >>= λ p. reading step erred cdata ends rows st b p.0 (c ∷ t))
   reading-held st b s cs h c t reads d =
-      reading-by (fault_of_reference rows cs) st b s h (decided false rows cs false) cs (c ∷ t) reads d.held (decided-within false rows cs false) (reference-decided false rows cs c t d.checked d.ends ∙ decided-in_text rows cs _) (fault-decided rows cs c t d.checked d.ends)
+      reading-by (fault_of_reference rows cs) st b s h (decided false rows cs false) cs (c ∷ t) reads d.held (decided-within false rows cs false) (reference-decided false rows cs c t d.checked d.front d.ends ∙ decided-in_text rows cs _) (fault-decided rows cs c t d.checked d.front d.ends)
 
   -- the same where the input ends
   pub reading-at_end : (st : Stand) (b : ℕ) (s : T) (cs : List ℕ) → sound (erred_by erred (fault_of_reference rows cs) s) → ReadsHeld rows st → list_all is_held cs ≡ true

@@ -16,7 +16,7 @@ use Rattle.html_tokens.specs.Sink.{SinkLaws}
 use Rattle.html_tokenizer.specs.CharRefs.{IsDecided, decided, is_faulty, is_held, resolved, resolved_by}
 use Rattle.html_tokenizer.specs.declared.tokenizer.Tokenizer.{Tokenizer}
 use Rattle.html_tokenizer.specs.Rest.{rows_of, standing, held_at}
-use Rattle.html_tokenizer.specs.Steps.{owed_for, IsAt, more, Fails, Told, Tells, Keeps, reads}
+use Rattle.html_tokenizer.specs.Steps.{owed_for, IsAt, more, Falls, Told, Tells, Keeps, reads}
 use Rattle.html_tokenizer.proofs.CharRefs.{fault-within}
 use Rattle.html_tokenizer.proofs.Errors.{tells-less}
 use Rattle.html_tokenizer.proofs.Glue.{at}
@@ -75,7 +75,7 @@ module _ {K H : Type 0} (Sink : Ghosts K H) (laws : SinkLaws Sink.is_sound Sink.
   data-ended old mid new cs c result from ok d told h = keeps-resolved Sink old mid new cs c state.Data (CharacterTokens (resolved false (rows_of old) cs false)) result from refl ok told (data-resolves old cs c d) h
 
   pub data-failed : (old new : Tokenizer K) (cs : List ℕ) (c : ℕ) (result : Result (ProcessResult H) ParseFault) (fault : ParseFault) → IsAt old state.Data → Sink.is_sound (Sink.view old.sink) → IsDecided (rows_of old) cs c
-      → IsErrAnd result (λ y. y ≡ fault) → Fails Sink old.sink (Sink.step (Sink.view old.sink) (CharacterTokens (resolved false (rows_of old) cs false)) (line_number old.stream.breaks)) fault
+      → IsErrAnd result (λ y. y ≡ fault) → Falls Sink old.sink new.sink (Sink.step (Sink.view old.sink) (CharacterTokens (resolved false (rows_of old) cs false)) (line_number old.stream.breaks)) fault
       → Keeps Sink (record old { char_ref = Some cs }) new c result
   data-failed old new cs c result fault from ok d is fails = not-resolved Sink (owed_for (fault_of_reference (rows_of old) cs)) old new cs c state.Data (CharacterTokens (resolved false (rows_of old) cs false)) result fault from refl ok is fails (data-resolves old cs c d)
 
@@ -85,6 +85,6 @@ module _ {K H : Type 0} (Sink : Ghosts K H) (laws : SinkLaws Sink.is_sound Sink.
   rcdata-ended old mid new cs c result from ok d told h = keeps-resolved Sink old mid new cs c (state.RawData raw.Rcdata) (CharacterTokens (resolved false (rows_of old) cs false)) result from refl ok told (rcdata-resolves old cs c d) h
 
   pub rcdata-failed : (old new : Tokenizer K) (cs : List ℕ) (c : ℕ) (result : Result (ProcessResult H) ParseFault) (fault : ParseFault) → IsAt old (state.RawData raw.Rcdata) → Sink.is_sound (Sink.view old.sink) → IsDecided (rows_of old) cs c
-      → IsErrAnd result (λ y. y ≡ fault) → Fails Sink old.sink (Sink.step (Sink.view old.sink) (CharacterTokens (resolved false (rows_of old) cs false)) (line_number old.stream.breaks)) fault
+      → IsErrAnd result (λ y. y ≡ fault) → Falls Sink old.sink new.sink (Sink.step (Sink.view old.sink) (CharacterTokens (resolved false (rows_of old) cs false)) (line_number old.stream.breaks)) fault
       → Keeps Sink (record old { char_ref = Some cs }) new c result
   rcdata-failed old new cs c result fault from ok d is fails = not-resolved Sink (owed_for (fault_of_reference (rows_of old) cs)) old new cs c (state.RawData raw.Rcdata) (CharacterTokens (resolved false (rows_of old) cs false)) result fault from refl ok is fails (rcdata-resolves old cs c d)

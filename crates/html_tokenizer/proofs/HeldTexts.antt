@@ -9,7 +9,7 @@ use Rattle.markup.specs.Plain.{is_plain}
 use Rattle.markup.proofs.Plain.{chars-plain}
 use Rattle.html_tokens.specs.Table.{Row}
 use Rattle.html_references.proofs.Names.{bytes_of_plain}
-use Rattle.html_tokenizer.specs.CharRefs.{goes_on_by, is_held, is_named_with, may_go_on}
+use Rattle.html_tokenizer.specs.CharRefs.{is_held, is_named_with}
 
 held-below : (c : ℕ) → is_held c ≡ true → nat_lt c 128 ≡ true
 held-below c h = grind (arith, nat_tests)
@@ -32,8 +32,3 @@ held-bytes bytes cs u e h = bytes_of_plain bytes cs u e (plain-held cs h)
 
 pub held-behind : (part bytes cs : List ℕ) (n : ℕ) → part ≡ drop n bytes → bytes ≡ cs → list_all is_held cs ≡ true → chars part ≡ drop n cs
 held-behind part bytes cs n e f h = rw (e, f) (chars-plain (drop n cs) (plain-held (drop n cs) (held-drop n cs h)))
-
--- a reference goes on only by what is held
-pub goes_on-held : (rows : List Row) (cs : List ℕ) (c : ℕ) → may_go_on rows cs c ≡ true → is_held c ≡ true
-goes_on-held rows [] c h = h
-goes_on-held rows (d ∷ ds) c h = rw ((and_parts (is_named_with c) (goes_on_by (nat_eq d 35) rows (d ∷ ds)) h).0) refl

@@ -17,7 +17,7 @@ use Rattle.html_tokenizer.specs.declared.tokenizer.Tokenizer.{Tokenizer}
 use Rattle.html_tokenizer.specs.Rest.{rows_of, standing, held_at}
 use Rattle.html_tokenizer.specs.Steps.{owed_for, more, now, IsAt, Erred, Keeps}
 use Rattle.html_tokenizer.proofs.CharRefs.{fault-decided, faulty-some, reference-decided, reference-end}
-use Rattle.html_tokenizer.proofs.Glue.{Absorbs, at, at_erred, keeps-behind, keeps_erred, now-at}
+use Rattle.html_tokenizer.proofs.Glue.{Absorbs, at, at_erred, keeps-behind, keeps_erred, now-at, stays-same}
 use Rattle.html_tokenizer.proofs.HeldGlue.{now-held}
 use Rattle.html_tokenizer.proofs.HeldValues.{play-unquoted, play-double, play-single}
 use Rattle.html_tokenizer.proofs.Lawful.{erred-more, slight-absorbed}
@@ -65,7 +65,7 @@ module _ {K H : Type 0} (Sink : Ghosts K H) where
       ≡ at Sink (state.AttributeValue kind) (record old { attribute_value = old.attribute_value ++ resolved true (rows_of old) cs (goes_on_at (c ∷ [])) }) b (wronged_by old cs s) (c ∷ t)
   value-comes old kind cs c from d b s t =
       now-held Sink old (state.AttributeValue kind) cs b s (c ∷ t) from.state refl
-      ∙ value-resolves kind old cs (c ∷ t) (goes_on_at (c ∷ [])) d.held (reference-decided true (rows_of old) cs c t d.checked d.ends) (fault-decided (rows_of old) cs c t d.checked d.ends) b s
+      ∙ value-resolves kind old cs (c ∷ t) (goes_on_at (c ∷ [])) d.held (reference-decided true (rows_of old) cs c t d.checked d.front d.ends) (fault-decided (rows_of old) cs c t d.checked d.front d.ends) b s
 
   -- what was held is put behind the value, and the character is taken there
   pub value-ended : (old new : Tokenizer K) (kind : AttrValueKind) (cs text : List ℕ) (c : ℕ) (result : Result (ProcessResult H) ParseFault) → IsAt old (state.AttributeValue kind) → IsDecided (rows_of old) cs c
@@ -74,7 +74,7 @@ module _ {K H : Type 0} (Sink : Ghosts K H) where
   value-ended old new kind cs text c result from d is h =
       let wrong = is_some (fault_of_reference (rows_of old) cs) in
       let mid : Tokenizer K = record old { attribute_value = old.attribute_value ++ resolved true (rows_of old) cs (goes_on_at (c ∷ [])) } in
-      keeps-behind Sink (owed_for (slight_if wrong)) (record old { char_ref = Some cs }) mid new c result refl (λ x. x) (rises-slight Sink.errors wrong old.sink old.sink refl) (λ notes t.
+      keeps-behind Sink (owed_for (slight_if wrong)) (record old { char_ref = Some cs }) mid new c result refl (stays-same Sink old.sink old.sink refl) (rises-slight Sink.errors wrong old.sink old.sink refl) (λ notes t.
       value-comes old kind cs c from d old.stream.breaks (Sink.view old.sink, notes) t
       ∙ sym (now-at Sink mid (state.AttributeValue kind) old.stream.breaks (wronged_by old cs (Sink.view old.sink, notes)) (c ∷ t) (record { state = from.state; fresh = from.fresh }))) (rw is at h)
 
@@ -93,6 +93,6 @@ module _ {K H : Type 0} (Sink : Ghosts K H) where
   value-erred told follows old mid new kind cs text c result from d named h is k =
       let rows : rows_of mid ≡ rows_of old = ap (λ k. rows_of k) h.changed in
       keeps_erred Sink told (record old { char_ref = Some cs }) (record mid { char_ref = Some cs }) new c result
-      (record { sink = h.sink; changed = ap {A = Tokenizer K} (λ k. record k { char_ref = Some cs }) h.changed; works = h.works; rises = h.rises })
+      (record { sink = h.sink; changed = ap {A = Tokenizer K} (λ k. record k { char_ref = Some cs }) h.changed; stays = h.stays; rises = h.rises })
       (λ e. value-absorbs old kind cs c from d (faulty-some true (rows_of old) cs follows (sym named ∙ e)))
       (value-ended mid new kind cs text c result (at_erred Sink old mid (state.AttributeValue kind) h from) (rw rows d) (rw rows is) k)

@@ -22,7 +22,9 @@ pub mod Errors
 pub mod Feeding
 pub mod Finished
 pub mod Glue
+pub mod HeldFronts
 pub mod HeldGlue
+pub mod HeldParts
 pub mod HeldReadings
 pub mod HeldRefused
 pub mod HeldTextStates

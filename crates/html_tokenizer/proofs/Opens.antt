@@ -20,7 +20,7 @@ use Rattle.html_tokens.specs.Sink.{◌>>=◌, SinkLaws}
 use Rattle.html_tokens.specs.Tags.{named, name_after}
 use Rattle.html_tokenizer.specs.declared.tokenizer.Tokenizer.{Tokenizer}
 use Rattle.html_tokenizer.specs.Rest.{rows_of, standing, held_at}
-use Rattle.html_tokenizer.specs.Steps.{IsAt, Fails, Told, Took, Keeps, Erred, owed_for, a_fault, reads, plays}
+use Rattle.html_tokenizer.specs.Steps.{IsAt, FallsAll, Falls, Told, Took, Keeps, Erred, owed_for, a_fault, reads, plays}
 use Rattle.html_tokenizer.proofs.Lawful.{noting-lawful}
 use Rattle.html_tokenizer.proofs.Readings.{reading-is, reading-char_as, sum-zero}
 use Rattle.html_tokenizer.proofs.Ends.{behind-one}
@@ -138,7 +138,7 @@ module _ {K H : Type 0} (Sink : Ghosts K H) (laws : SinkLaws Sink.is_sound Sink.
       (ap {A = Tokenizer K} (λ k. record k { state = state.Data }) told.changed) (record { state = refl; fresh = from.fresh }) refl (open-says old c e) keeps
 
   pub open-text_failed : (old new : Tokenizer K) (c : ℕ) (result : Result (ProcessResult H) ParseFault) (fault : ParseFault) → IsAt old state.TagOpen → Sink.is_sound (Sink.view old.sink) → IsText (opening c) → IsErrAnd result (λ y. y ≡ fault)
-      → Fails Sink old.sink (Sink.step (Sink.view old.sink) (CharacterTokens (60 ∷ [])) (line_number old.stream.breaks)) fault → Keeps Sink old new c result
+      → Falls Sink old.sink new.sink (Sink.step (Sink.view old.sink) (CharacterTokens (60 ∷ [])) (line_number old.stream.breaks)) fault → Keeps Sink old new c result
   open-text_failed old new c result fault from ok e is fails = failed Sink (owed_for (Some Slight)) old new c state.TagOpen (CharacterTokens (60 ∷ [])) result fault _ from ok is fails (open-says old c e)
 
   -- "</>" gives nothing but an error
@@ -154,7 +154,7 @@ module _ {K H : Type 0} (Sink : Ghosts K H) (laws : SinkLaws Sink.is_sound Sink.
       ∙ ap (λ (k : Tokenizer K). reads Sink (rows_of k) (standing k InData) (b + 0) (noting_error Grave s) t) (sym h.changed))
 
   pub end-failed : (old new : Tokenizer K) (c : ℕ) (result : Result (ProcessResult H) ParseFault) (fault : ParseFault) → IsAt old state.EndTagOpen → IsErrAnd result (λ y. y ≡ fault)
-      → ((token : Token) (line : ℕ) → Fails Sink old.sink (Sink.step (Sink.view old.sink) token line) fault) → Keeps Sink old new c result
+      → FallsAll Sink old.sink new.sink fault → Keeps Sink old new c result
   unfolding held_at
   end-failed old new c result fault from is fails = keeps_failed Sink old new c state.EndTagOpen result fault from is fails
       (λ b s h t. reading-refused (noting Sink.step Sink.is_quiet) noting_error (noting_cdata Sink.asks_cdata) (noting_end Sink.ended) (rows_of old) (noting-errs Sink) s h 0 (standing old InData) b (60 ∷ 47 ∷ c ∷ t))

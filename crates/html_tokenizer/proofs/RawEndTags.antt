@@ -1,6 +1,6 @@
 -- "<" and "</" in raw text, which may begin the fitting end tag.
-use Rattle.std.proofs.Common.{◌≡◌, ◌∙◌, ℕ, ◌+◌, true, false, nat_eq, List, [], ◌∷◌, Result, refl, sym, ap}
-use Rattle.std.specs.Prelude.{◌&&◌}
+use Rattle.std.proofs.Common.{◌≡◌, ◌∙◌, ℕ, ◌+◌, true, false, nat_eq, List, [], ◌∷◌, ◌++◌, Result, refl, sym, ap, Option}
+use Rattle.std.specs.Prelude.{◌&&◌, ◌⊎◌}
 use Rattle.std.specs.Char.{is_ascii_alphabetic}
 use Rattle.std.proofs.lemmas.Bool.{ne_eqb}
 use Rattle.std.specs.Result.{IsErrAnd}
@@ -20,16 +20,20 @@ use Rattle.html_tokens.specs.Reading.{◌>>=◌, line_number, line_break}
 use Rattle.html_tokens.specs.Sink.{SinkLaws}
 use Rattle.html_tokenizer.specs.declared.tokenizer.Tokenizer.{Tokenizer}
 use Rattle.html_tokenizer.specs.Rest.{rows_of, standing, kind_after, held_at}
-use Rattle.html_tokenizer.specs.Steps.{IsAt, Fails, Told, TakesAs, Took, Keeps, nothing_owed}
-use Rattle.html_tokenizer.specs.Words.{may_escape}
+use Rattle.html_tokenizer.specs.Steps.{IsAt, Falls, Told, TakesAs, Took, Keeps, nothing_owed}
+use Rattle.html_tokenizer.specs.Words.{ends_raw_text, may_escape}
 use Rattle.html_tokenizer.proofs.Lawful.{noting-lawful}
 use Rattle.html_tokenizer.proofs.Readings.{sum-zero}
 use Rattle.html_tokenizer.proofs.Runs.{reading-text, reading-two}
 use Rattle.html_tokenizer.proofs.Glue.{Says, took, keeps_silent, at, no-break}
 use Rattle.html_tokenizer.proofs.Telling.{keeps_taken, keeps_then, not-told_from}
-use Rattle.html_tokenizer.proofs.RawKinds.{and-none, unfit-empty, letter-no_open, letter-no_reference, letter-no_null, letter-no_break, letter-no_slash, kind-same, kind-open, kind-no_name, fitting-slash, fitting-word}
+use Rattle.html_tokenizer.proofs.RawKinds.{and-none, unfit-empty, letter-no_open, letter-no_reference, letter-no_null, letter-no_break, letter-no_slash, kind-same, kind-open, kind-slash, fitting-slash}
 use Rattle.html_tokenizer.proofs.RawStates.{raw_text, plain-item, open-item, held-open}
 use Rattle.html_tokenizer.proofs.ScriptStates.{char-says, kind-says}
+
+-- where no letters are held
+pub open-apart : (last : Option (List ℕ)) (word : List ℕ) (c : ℕ) → word ≡ [] → (ends_raw_text last word c ≡ false → (t : List ℕ) → is_fitting_end last (47 ∷ (word ++ c ∷ t)) ≡ false) → ends_raw_text last [] c ≡ false → (t : List ℕ) → is_fitting_end last (47 ∷ c ∷ t) ≡ false
+open-apart last word c e = rw e (λ h. h)
 
 module _ {K H : Type 0} (Sink : Ghosts K H) (laws : SinkLaws Sink.is_sound Sink.step Sink.ended Sink.is_quiet) where
   -- "<" and then another character are told, and the text has this kind behind them
@@ -62,7 +66,7 @@ module _ {K H : Type 0} (Sink : Ghosts K H) (laws : SinkLaws Sink.is_sound Sink.
   less-kept old mid new kind c result from ok e p f told h = keeps_then Sink old (record old { state = state.RawData kind }) mid new c (state.RawLessThanSign kind) (state.RawData kind) (CharacterTokens (60 ∷ [])) result from (record { state = refl; fresh = from.fresh }) refl refl ok told (less-says old kind c e p (ne_eqb c 47 f)) h
 
   pub less-failed : (old new : Tokenizer K) (kind : RawKind) (c : ℕ) (result : Result (ProcessResult H) ParseFault) (fault : ParseFault) → IsAt old (state.RawLessThanSign kind) → Sink.is_sound (Sink.view old.sink) → ends_at_tag kind ≡ true → may_escape kind c ≡ false → (c ≡ 47 → ⊥) → IsErrAnd result (λ y. y ≡ fault)
-      → Fails Sink old.sink (Sink.step (Sink.view old.sink) (CharacterTokens (60 ∷ [])) (line_number old.stream.breaks)) fault → Keeps Sink old new c result
+      → Falls Sink old.sink new.sink (Sink.step (Sink.view old.sink) (CharacterTokens (60 ∷ [])) (line_number old.stream.breaks)) fault → Keeps Sink old new c result
   less-failed old new kind c result fault from ok e p f is fails = not-told_from Sink nothing_owed old old new c (state.RawLessThanSign kind) (CharacterTokens (60 ∷ [])) result fault _ from refl refl ok is fails (less-says old kind c e p (ne_eqb c 47 f))
 
   -- "<!" in the text of a script
@@ -113,17 +117,17 @@ module _ {K H : Type 0} (Sink : Ghosts K H) (laws : SinkLaws Sink.is_sound Sink.
       (λ b s t. ap (λ n. raw_text Sink old kind n s (60 ∷ 47 ∷ c ∷ t)) (sym (no-break b c (letter-no_break c l)))))
 
   -- "</" was text
-  no_name-says : (old : Tokenizer K) (kind : RawKind) (c : ℕ) → is_ascii_alphabetic c ≡ false → Says Sink (state.RawEndTagOpen kind) old c nothing_owed (CharacterTokens (60 ∷ 47 ∷ [])) (λ b s t. at Sink (state.RawData kind) (record old { state = state.RawData kind }) b s (c ∷ t))
+  no_name-says : (old : Tokenizer K) (kind : RawKind) (c : ℕ) → ((t : List ℕ) → is_fitting_end old.last_start_tag (47 ∷ c ∷ t) ≡ false) → (is_ascii_alphabetic c ≡ false) ⊎ (ends_at_tag kind ≡ true) → Says Sink (state.RawEndTagOpen kind) old c nothing_owed (CharacterTokens (60 ∷ 47 ∷ [])) (λ b s t. at Sink (state.RawData kind) (record old { state = state.RawData kind }) b s (c ∷ t))
   unfolding held_at
-  no_name-says old kind c l b s h t =
-      two-says old kind b s h 47 (c ∷ t) refl refl refl refl (fits-none old kind (47 ∷ c ∷ t) (fitting-word old.last_start_tag [] c t refl l ∙ unfit-empty old.last_start_tag c))
-      ∙ ap (λ k. noting Sink.step Sink.is_quiet s (CharacterTokens (60 ∷ 47 ∷ [])) (line_number b) >>= λ p. raw_text Sink old (kind_behind k 47 (c ∷ t)) b p.0 (c ∷ t)) (kind-no_name kind c t l)
+  no_name-says old kind c f l b s h t =
+      two-says old kind b s h 47 (c ∷ t) refl refl refl refl (fits-none old kind (47 ∷ c ∷ t) (f t))
+      ∙ ap (λ k. noting Sink.step Sink.is_quiet s (CharacterTokens (60 ∷ 47 ∷ [])) (line_number b) >>= λ p. raw_text Sink old (kind_behind k 47 (c ∷ t)) b p.0 (c ∷ t)) (kind-slash kind c t l)
       ∙ ap (λ k. noting Sink.step Sink.is_quiet s (CharacterTokens (60 ∷ 47 ∷ [])) (line_number b) >>= λ p. raw_text Sink old k b p.0 (c ∷ t)) (kind-same kind 47 (c ∷ t) refl refl)
 
-  pub no_name-kept : (old mid new : Tokenizer K) (kind : RawKind) (c : ℕ) (result : Result (ProcessResult H) ParseFault) → IsAt old (state.RawEndTagOpen kind) → Sink.is_sound (Sink.view old.sink) → is_ascii_alphabetic c ≡ false
+  pub no_name-kept : (old mid new : Tokenizer K) (kind : RawKind) (c : ℕ) (result : Result (ProcessResult H) ParseFault) → IsAt old (state.RawEndTagOpen kind) → Sink.is_sound (Sink.view old.sink) → (ends_raw_text old.last_start_tag [] c ≡ false → (t : List ℕ) → is_fitting_end old.last_start_tag (47 ∷ c ∷ t) ≡ false) → (is_ascii_alphabetic c ≡ false) ⊎ (ends_at_tag kind ≡ true)
       → Told Sink nothing_owed (CharacterTokens (60 ∷ 47 ∷ [])) (record old { state = state.RawData kind }) mid → Keeps Sink mid new c result → Keeps Sink old new c result
-  no_name-kept old mid new kind c result from ok l told h = keeps_then Sink old (record old { state = state.RawData kind }) mid new c (state.RawEndTagOpen kind) (state.RawData kind) (CharacterTokens (60 ∷ 47 ∷ [])) result from (record { state = refl; fresh = from.fresh }) refl refl ok told (no_name-says old kind c l) h
+  no_name-kept old mid new kind c result from ok f l told h = keeps_then Sink old (record old { state = state.RawData kind }) mid new c (state.RawEndTagOpen kind) (state.RawData kind) (CharacterTokens (60 ∷ 47 ∷ [])) result from (record { state = refl; fresh = from.fresh }) refl refl ok told (no_name-says old kind c (f (unfit-empty old.last_start_tag c)) l) h
 
-  pub no_name-failed : (old new : Tokenizer K) (kind : RawKind) (c : ℕ) (result : Result (ProcessResult H) ParseFault) (fault : ParseFault) → IsAt old (state.RawEndTagOpen kind) → Sink.is_sound (Sink.view old.sink) → is_ascii_alphabetic c ≡ false → IsErrAnd result (λ y. y ≡ fault)
-      → Fails Sink old.sink (Sink.step (Sink.view old.sink) (CharacterTokens (60 ∷ 47 ∷ [])) (line_number old.stream.breaks)) fault → Keeps Sink old new c result
-  no_name-failed old new kind c result fault from ok l is fails = not-told_from Sink nothing_owed old old new c (state.RawEndTagOpen kind) (CharacterTokens (60 ∷ 47 ∷ [])) result fault _ from refl refl ok is fails (no_name-says old kind c l)
+  pub no_name-failed : (old new : Tokenizer K) (kind : RawKind) (c : ℕ) (result : Result (ProcessResult H) ParseFault) (fault : ParseFault) → IsAt old (state.RawEndTagOpen kind) → Sink.is_sound (Sink.view old.sink) → (ends_raw_text old.last_start_tag [] c ≡ false → (t : List ℕ) → is_fitting_end old.last_start_tag (47 ∷ c ∷ t) ≡ false) → (is_ascii_alphabetic c ≡ false) ⊎ (ends_at_tag kind ≡ true) → IsErrAnd result (λ y. y ≡ fault)
+      → Falls Sink old.sink new.sink (Sink.step (Sink.view old.sink) (CharacterTokens (60 ∷ 47 ∷ [])) (line_number old.stream.breaks)) fault → Keeps Sink old new c result
+  no_name-failed old new kind c result fault from ok f l is fails = not-told_from Sink nothing_owed old old new c (state.RawEndTagOpen kind) (CharacterTokens (60 ∷ 47 ∷ [])) result fault _ from refl refl ok is fails (no_name-says old kind c (f (unfit-empty old.last_start_tag c)) l)

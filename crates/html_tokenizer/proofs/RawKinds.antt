@@ -1,8 +1,10 @@
 -- How the kind of raw text goes on, and where its end tag stands.
-use Rattle.std.proofs.Common.{◌≡◌, ◌∙◌, ℕ, Bool, true, false, nat_eq, List, [], ◌∷◌, ◌++◌, map, Option, Some, None, refl, ap, arith, append_assoc}
-use Rattle.std.specs.Prelude.{◌&&◌, codes, if◌then◌else◌}
+use Rattle.std.proofs.Common.{◌≡◌, ◌∙◌, ℕ, suc, length, sym, Bool, true, false, nat_eq, List, [], ◌∷◌, ◌++◌, map, Option, Some, None, refl, ap, arith, append_assoc, inl, inr}
+use Rattle.std.specs.Prelude.{◌⊎◌, ◌&&◌, nat_lt, slice_index, codes, if◌then◌else◌}
 use Rattle.std.specs.Char.{to_ascii_lowercase, is_ascii_alphabetic}
 use Rattle.std.specs.List.{list_all}
+use Rattle.std.specs.Str.{IsUtf8, chars}
+use Rattle.std.proofs.lemmas.Bool.{lt-ltb}
 use Rattle.std.proofs.lemmas.Bool.Decides.{nat_tests}
 use Rattle.html_tokens.specs.declared.states.RawKind.{RawKind}
 use Rattle.html_tokens.specs.declared.states.RawKind.TheVariants.{Rcdata, Rawtext, ScriptData, ScriptDataEscaped}
@@ -11,8 +13,8 @@ use Rattle.html_tokens.specs.declared.states.ScriptEscapeKind.TheVariants.{Escap
 use Rattle.html_tokens.specs.Characters.{ends_tag_name, begins_by, begins_name}
 use Rattle.html_tokens.specs.RawText.{is_letters, is_fitting_end, ends_at_tag, kind_behind}
 use Rattle.html_tokenizer.specs.Rest.{kind_after}
-use Rattle.html_tokenizer.proofs.Words.{and_parts}
-use Rattle.html_tokenizer.specs.Words.{same_any_case, ends_raw_text, ends_script, may_escape}
+use Rattle.html_tokenizer.proofs.Words.{and_parts, letters-bytes}
+use Rattle.html_tokenizer.specs.Words.{has_next, same_any_case, ends_raw_text, ends_script, may_escape}
 
 pub and-none : (a : Bool) → (a && false) ≡ false
 and-none true = refl
@@ -109,6 +111,11 @@ kind-no_name ScriptData c t e = refl
 kind-no_name (ScriptDataEscaped Escaped) c t e = refl
 kind-no_name (ScriptDataEscaped DoubleEscaped) c t e = rw (apart 115 c refl e) refl
 
+-- the same where one of both is so
+pub kind-slash : (kind : RawKind) (c : ℕ) (t : List ℕ) → (is_ascii_alphabetic c ≡ false) ⊎ (ends_at_tag kind ≡ true) → kind_behind kind 60 (47 ∷ c ∷ t) ≡ kind
+kind-slash kind c t (inl e) = kind-no_name kind c t e
+kind-slash kind c t (inr e) = kind-open_slash kind (c ∷ t) e
+
 pub double_escaped : (kind : RawKind) → ends_at_tag kind ≡ false → kind ≡ ScriptDataEscaped DoubleEscaped
 double_escaped (ScriptDataEscaped DoubleEscaped) e = refl
 double_escaped (ScriptDataEscaped Escaped) e = absurd cc
@@ -175,3 +182,40 @@ kind-end_script word c t h e =
     kind_after-letters (kind_behind first 47 (word ++ c ∷ t)) word (c ∷ t) h
     ∙ kind-same first 47 (word ++ c ∷ t) refl refl
     ∙ rw (begins-script word c t h e) (chosen (ends_script word c) Escaped DoubleEscaped)
+
+-- A NAME THAT DOES NOT GO ON BY A LETTER
+
+next-shift : (a b : ℕ) → nat_lt (suc a) (suc b) ≡ nat_lt a b
+next-shift a b = grind (arith, nat_tests)
+
+first-next : (m : ℕ) (x : Bool) → (nat_lt 0 (suc m) && x) ≡ false → x ≡ false
+first-next m x h = ap (λ b. b && x) (sym (lt-ltb 0 (suc m) (omega arith))) ∙ h
+
+begins-other : (b x : Bool) → x ≡ false → begins_by b (λ _. x) ≡ false
+begins-other true x e = e
+begins-other false x e = refl
+
+begins-apart : (name word : List ℕ) (c : ℕ) (t : List ℕ) → list_all is_ascii_alphabetic word ≡ true → is_ascii_alphabetic c ≡ true → has_next name word c ≡ false → begins_name (map to_ascii_lowercase name) (word ++ c ∷ t) ≡ false
+begins-apart [] [] c t w l h = letter-no_end c l
+begins-apart [] (a ∷ word) c t w l h = letter-no_end a (and_parts _ _ w).0
+begins-apart (n ∷ name) [] c t w l h =
+    let e : nat_eq (to_ascii_lowercase n) (to_ascii_lowercase c) ≡ false = first-next (length name) _ h in
+    rw e refl
+begins-apart (n ∷ name) (a ∷ word) c t w l h =
+    let shifted : has_next name word c ≡ false = ap (λ b. b && nat_eq (to_ascii_lowercase (slice_index name (length word))) (to_ascii_lowercase c)) (sym (next-shift (length word) (length name))) ∙ h in
+    begins-other (nat_eq (to_ascii_lowercase n) (to_ascii_lowercase a)) _ (begins-apart name word c t (and_parts _ _ w).1 l shifted)
+
+letters-of : (name : List ℕ) → is_letters name ≡ true → list_all is_ascii_alphabetic name ≡ true
+letters-of [] h = absurd cc
+letters-of (c ∷ cs) h = h
+
+apart-by : (b : Bool) (name u : List ℕ) → is_letters name ≡ b → (list_all is_ascii_alphabetic name ≡ true → begins_name (map to_ascii_lowercase name) u ≡ false) → (is_letters name && (true && begins_name (map to_ascii_lowercase name) u)) ≡ false
+apart-by true name u e f = rw (e, f (letters-of name e)) refl
+apart-by false name u e f = rw e refl
+
+-- where the name does not go on by a letter, no fitting end tag stands there
+pub fitting-apart : (bytes name word : List ℕ) (c : ℕ) (t : List ℕ) → IsUtf8 bytes → chars bytes ≡ name → list_all is_ascii_alphabetic word ≡ true → is_ascii_alphabetic c ≡ true → has_next bytes word c ≡ false → is_fitting_end (Some name) (47 ∷ (word ++ c ∷ t)) ≡ false
+fitting-apart bytes name word c t u e w l h =
+    apart-by (is_letters name) name (word ++ c ∷ t) refl (λ all.
+    let same : bytes ≡ name = letters-bytes bytes u (ap (list_all is_ascii_alphabetic) e ∙ all) ∙ e in
+    begins-apart name word c t w l (ap (λ b. has_next b word c) (sym same) ∙ h))

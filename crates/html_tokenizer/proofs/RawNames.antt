@@ -21,14 +21,14 @@ use Rattle.html_tokens.specs.Reading.{◌>>=◌, line_number, line_break}
 use Rattle.html_tokens.specs.Sink.{SinkLaws}
 use Rattle.html_tokenizer.specs.declared.tokenizer.Tokenizer.{Tokenizer}
 use Rattle.html_tokenizer.specs.Rest.{rows_of, standing, held_at}
-use Rattle.html_tokenizer.specs.Steps.{IsAt, Fails, Told, Took, Keeps, nothing_owed}
+use Rattle.html_tokenizer.specs.Steps.{IsAt, Falls, Told, Took, Keeps, nothing_owed}
 use Rattle.html_tokenizer.specs.Words.{ends_raw_text}
 use Rattle.html_tokenizer.proofs.Lawful.{noting-lawful}
 use Rattle.html_tokenizer.proofs.Runs.{reading-text, told-more}
 use Rattle.html_tokenizer.proofs.Glue.{Says, took, at, no-break}
 use Rattle.html_tokenizer.proofs.Telling.{keeps_then, not-told_from}
 use Rattle.html_tokenizer.proofs.Words.{and_parts}
-use Rattle.html_tokenizer.proofs.RawKinds.{letter-no_open, letter-no_reference, letter-no_dash, letter-no_null, letter-no_break, kind-same, kind_after-letters, kind-open_slash, double_escaped, fitting-word}
+use Rattle.html_tokenizer.proofs.RawKinds.{letter-no_open, letter-no_reference, letter-no_dash, letter-no_null, letter-no_break, kind-same, kind_after-letters, kind-open_slash, double_escaped}
 use Rattle.html_tokenizer.proofs.RawStates.{raw_text, plain-item}
 use Rattle.html_tokenizer.proofs.RawEndTags.{two-says, fits-none}
 
@@ -65,21 +65,21 @@ module _ {K H : Type 0} (Sink : Ghosts K H) (laws : SinkLaws Sink.is_sound Sink.
       ∙ ap (λ w. raw_text Sink old kind (b + line_break (nat_eq c 10)) s (60 ∷ 47 ∷ (w ++ t))) (sym e))
 
   -- the end tag was text
-  unfit-says : (old : Tokenizer K) (kind : RawKind) (c : ℕ) → list_all is_ascii_alphabetic old.word ≡ true → is_ascii_alphabetic c ≡ false → ends_at_tag kind ≡ true → ends_raw_text old.last_start_tag old.word c ≡ false
+  unfit-says : (old : Tokenizer K) (kind : RawKind) (c : ℕ) → list_all is_ascii_alphabetic old.word ≡ true → ((t : List ℕ) → is_fitting_end old.last_start_tag (47 ∷ (old.word ++ c ∷ t)) ≡ false) → ends_at_tag kind ≡ true
       → Says Sink (state.RawEndTagName kind) old c nothing_owed (CharacterTokens (60 ∷ 47 ∷ old.word)) (λ b s t. at Sink (state.RawData kind) (record old { state = state.RawData kind }) b s (c ∷ t))
   unfolding held_at
-  unfit-says old kind c w l e f b s h t =
-      end_tag-run old kind old.word b s h (c ∷ t) w (fits-none Sink laws old kind (47 ∷ (old.word ++ c ∷ t)) (fitting-word old.last_start_tag old.word c t w l ∙ f))
+  unfit-says old kind c w f e b s h t =
+      end_tag-run old kind old.word b s h (c ∷ t) w (fits-none Sink laws old kind (47 ∷ (old.word ++ c ∷ t)) (f t))
       ∙ ap (λ k. noting Sink.step Sink.is_quiet s (CharacterTokens (60 ∷ 47 ∷ old.word)) (line_number b) >>= λ p. raw_text Sink old (kind_behind k 47 (old.word ++ c ∷ t)) b p.0 (c ∷ t)) (kind-open_slash kind (old.word ++ c ∷ t) e)
       ∙ ap (λ k. noting Sink.step Sink.is_quiet s (CharacterTokens (60 ∷ 47 ∷ old.word)) (line_number b) >>= λ p. raw_text Sink old k b p.0 (c ∷ t)) (kind-same kind 47 (old.word ++ c ∷ t) refl refl)
 
-  pub unfit-kept : (old mid new : Tokenizer K) (kind : RawKind) (c : ℕ) (result : Result (ProcessResult H) ParseFault) → IsAt old (state.RawEndTagName kind) → Sink.is_sound (Sink.view old.sink) → list_all is_ascii_alphabetic old.word ≡ true → is_ascii_alphabetic c ≡ false → ends_at_tag kind ≡ true → ends_raw_text old.last_start_tag old.word c ≡ false
+  pub unfit-kept : (old mid new : Tokenizer K) (kind : RawKind) (c : ℕ) (result : Result (ProcessResult H) ParseFault) → IsAt old (state.RawEndTagName kind) → Sink.is_sound (Sink.view old.sink) → list_all is_ascii_alphabetic old.word ≡ true → (ends_raw_text old.last_start_tag old.word c ≡ false → (t : List ℕ) → is_fitting_end old.last_start_tag (47 ∷ (old.word ++ c ∷ t)) ≡ false) → ends_at_tag kind ≡ true → ends_raw_text old.last_start_tag old.word c ≡ false
       → Told Sink nothing_owed (CharacterTokens (60 ∷ 47 ∷ old.word)) (record old { state = state.RawData kind }) mid → Keeps Sink mid new c result → Keeps Sink old new c result
-  unfit-kept old mid new kind c result from ok w l e f told h = keeps_then Sink old (record old { state = state.RawData kind }) mid new c (state.RawEndTagName kind) (state.RawData kind) (CharacterTokens (60 ∷ 47 ∷ old.word)) result from (record { state = refl; fresh = from.fresh }) refl refl ok told (unfit-says old kind c w l e f) h
+  unfit-kept old mid new kind c result from ok w l e f told h = keeps_then Sink old (record old { state = state.RawData kind }) mid new c (state.RawEndTagName kind) (state.RawData kind) (CharacterTokens (60 ∷ 47 ∷ old.word)) result from (record { state = refl; fresh = from.fresh }) refl refl ok told (unfit-says old kind c w (l f) e) h
 
-  pub unfit-failed : (old new : Tokenizer K) (kind : RawKind) (c : ℕ) (result : Result (ProcessResult H) ParseFault) (fault : ParseFault) → IsAt old (state.RawEndTagName kind) → Sink.is_sound (Sink.view old.sink) → list_all is_ascii_alphabetic old.word ≡ true → is_ascii_alphabetic c ≡ false → ends_at_tag kind ≡ true → ends_raw_text old.last_start_tag old.word c ≡ false → IsErrAnd result (λ y. y ≡ fault)
-      → Fails Sink old.sink (Sink.step (Sink.view old.sink) (CharacterTokens (60 ∷ 47 ∷ old.word)) (line_number old.stream.breaks)) fault → Keeps Sink old new c result
-  unfit-failed old new kind c result fault from ok w l e f is fails = not-told_from Sink nothing_owed old old new c (state.RawEndTagName kind) (CharacterTokens (60 ∷ 47 ∷ old.word)) result fault _ from refl refl ok is fails (unfit-says old kind c w l e f)
+  pub unfit-failed : (old new : Tokenizer K) (kind : RawKind) (c : ℕ) (result : Result (ProcessResult H) ParseFault) (fault : ParseFault) → IsAt old (state.RawEndTagName kind) → Sink.is_sound (Sink.view old.sink) → list_all is_ascii_alphabetic old.word ≡ true → (ends_raw_text old.last_start_tag old.word c ≡ false → (t : List ℕ) → is_fitting_end old.last_start_tag (47 ∷ (old.word ++ c ∷ t)) ≡ false) → ends_at_tag kind ≡ true → ends_raw_text old.last_start_tag old.word c ≡ false → IsErrAnd result (λ y. y ≡ fault)
+      → Falls Sink old.sink new.sink (Sink.step (Sink.view old.sink) (CharacterTokens (60 ∷ 47 ∷ old.word)) (line_number old.stream.breaks)) fault → Keeps Sink old new c result
+  unfit-failed old new kind c result fault from ok w l e f is fails = not-told_from Sink nothing_owed old old new c (state.RawEndTagName kind) (CharacterTokens (60 ∷ 47 ∷ old.word)) result fault _ from refl refl ok is fails (unfit-says old kind c w (l f) e)
 
   -- the same in text that is escaped twice, where no end tag is held
   deep-says : (old : Tokenizer K) (c : ℕ) → list_all is_ascii_alphabetic old.word ≡ true
@@ -97,5 +97,5 @@ module _ {K H : Type 0} (Sink : Ghosts K H) (laws : SinkLaws Sink.is_sound Sink.
       keeps_then Sink old (record old { state = state.ScriptDataDoubleEscapeEnd }) mid new c (state.RawEndTagName (raw.ScriptDataEscaped script.DoubleEscaped)) state.ScriptDataDoubleEscapeEnd (CharacterTokens (60 ∷ 47 ∷ old.word)) result (rw (double_escaped kind e) at from) (record { state = refl; fresh = from.fresh }) refl refl ok told (deep-says old c w) h
 
   pub deep_end-failed : (old new : Tokenizer K) (kind : RawKind) (c : ℕ) (result : Result (ProcessResult H) ParseFault) (fault : ParseFault) → IsAt old (state.RawEndTagName kind) → Sink.is_sound (Sink.view old.sink) → list_all is_ascii_alphabetic old.word ≡ true → ends_at_tag kind ≡ false → IsErrAnd result (λ y. y ≡ fault)
-      → Fails Sink old.sink (Sink.step (Sink.view old.sink) (CharacterTokens (60 ∷ 47 ∷ old.word)) (line_number old.stream.breaks)) fault → Keeps Sink old new c result
+      → Falls Sink old.sink new.sink (Sink.step (Sink.view old.sink) (CharacterTokens (60 ∷ 47 ∷ old.word)) (line_number old.stream.breaks)) fault → Keeps Sink old new c result
   deep_end-failed old new kind c result fault from ok w e is fails = not-told_from Sink nothing_owed old old new c (state.RawEndTagName (raw.ScriptDataEscaped script.DoubleEscaped)) (CharacterTokens (60 ∷ 47 ∷ old.word)) result fault _ (rw (double_escaped kind e) at from) refl refl ok is fails (deep-says old c w)

@@ -18,7 +18,7 @@ use Rattle.html_tokens.specs.Reading.{erred_by, said, next_stand, line_breaks, r
 use Rattle.html_tokens.specs.Sink.{◌>>=◌, Reply, Refusal}
 use Rattle.html_tokens.specs.Table.{Row}
 use Rattle.html_tokenizer.specs.declared.tokenizer.Tokenizer.{Tokenizer}
-use Rattle.html_tokenizer.specs.Steps.{IsAt, Fails, Keeps}
+use Rattle.html_tokenizer.specs.Steps.{IsAt, Fails, FallsAll, Keeps}
 use Rattle.html_tokenizer.proofs.Glue.{at, now-at, fails-along, bind-err, noted-err, err-noted}
 
 module _ {T : Type 0} (step : NotedStep T) where
@@ -52,22 +52,25 @@ module _ {K H : Type 0} (Sink : Ghosts K H) where
   pub noting-errs : (fault : Fault) (s : Sink.State × Notes ℕ) → AllRefused (noting Sink.step Sink.is_quiet) s → AllRefused (noting Sink.step Sink.is_quiet) (noting_error fault s)
   noting-errs fault s h token line = noted-err _ (Sink.step s.0 token line) (err-noted (heard (Sink.is_quiet s.0 token) s.1) (Sink.step s.0 token line) (h token line))
 
-  pub every-fails : (sink : K) (s : Sink.State) (fault : ParseFault) {A F : Type 0} (given : Result A F) → ((token : Token) (line : ℕ) → Fails Sink sink (Sink.step s token line) fault)
-      → (((token : Token) (line : ℕ) → IsErr (Sink.step s token line)) → IsErr given) → Fails Sink sink given fault
-  every-fails sink s Memory given h k = tt
-  every-fails sink s TokenInText given h k = (k (λ token line. (h token line).0), (h EOFToken 0).1)
-  every-fails sink s Ended given h k = (k (λ token line. (h token line).0), (h EOFToken 0).1)
-  every-fails sink s Shape given h k = (k (λ token line. (h token line).0), (h EOFToken 0).1)
-  every-fails sink s Failed given h k = h EOFToken 0
+  pub every-fails : (old new : K) (s : Sink.State) (fault : ParseFault) {A F : Type 0} (given : Result A F) → ((token : Token) (line : ℕ) → Fails Sink old new (Sink.step s token line) fault)
+      → (((token : Token) (line : ℕ) → IsErr (Sink.step s token line)) → IsErr given) → Fails Sink old new given fault
+  every-fails old new s Memory given h k = tt
+  every-fails old new s TokenInText given h k = (k (λ token line. (h token line).0), (h EOFToken 0).1)
+  every-fails old new s Ended given h k = (k (λ token line. (h token line).0), (h EOFToken 0).1)
+  every-fails old new s Shape given h k = (k (λ token line. (h token line).0), (h EOFToken 0).1)
+  every-fails old new s Failed given h k = h EOFToken 0
 
   -- An error could not be told, and what was to come is refused where every token is.
   pub keeps_failed : (old new : Tokenizer K) (c : ℕ) (st : State) (result : Result (ProcessResult H) ParseFault) (fault : ParseFault) → IsAt old st → IsErrAnd result (λ y. y ≡ fault)
-      → ((token : Token) (line : ℕ) → Fails Sink old.sink (Sink.step (Sink.view old.sink) token line) fault)
+      → FallsAll Sink old.sink new.sink fault
       → ((b : ℕ) (s : Sink.State × Notes ℕ) → ((token : Token) (line : ℕ) → IsErr (noting Sink.step Sink.is_quiet s token line)) → (t : List ℕ) → IsErr (at Sink st old b s (c ∷ t)))
       → Keeps Sink old new c result
   keeps_failed old new c st result fault from is fails law =
       let p = err_from_is_err_and result is in
-      rw (p.1, p.2) (λ notes t.
-      fails-along Sink old.sink _ _ fault (now-at Sink old st old.stream.breaks (Sink.view old.sink, notes) (c ∷ t) from)
-      (every-fails old.sink (Sink.view old.sink) fault (at Sink st old old.stream.breaks (Sink.view old.sink, notes) (c ∷ t)) fails
-      (λ h. law old.stream.breaks (Sink.view old.sink, notes) (noting-refused (Sink.view old.sink) notes h) t)))
+      rw (p.1, p.2) (
+        fails.0,
+        λ notes t.
+            fails-along Sink old.sink new.sink _ _ fault (now-at Sink old st old.stream.breaks (Sink.view old.sink, notes) (c ∷ t) from)
+            (every-fails old.sink new.sink (Sink.view old.sink) fault (at Sink st old old.stream.breaks (Sink.view old.sink, notes) (c ∷ t)) fails.1
+            (λ h. law old.stream.breaks (Sink.view old.sink, notes) (noting-refused (Sink.view old.sink) notes h) t)),
+      )

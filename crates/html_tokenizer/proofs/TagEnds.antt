@@ -17,8 +17,8 @@ use Rattle.html_tokens.specs.Sink.{numbered}
 use Rattle.html_tokens.specs.Tags.{last_name, behind_tag, is_faulty_tag}
 use Rattle.html_tokenizer.specs.declared.tokenizer.Tokenizer.{Tokenizer}
 use Rattle.html_tokenizer.specs.Rest.{rows_of, standing, held_at}
-use Rattle.html_tokenizer.specs.Steps.{owed_for, IsAt, PausesAt, more, noted_by, Rises, state_behind, answer_to, Fails, Erred, EndedTag, EndsTag, nothing_owed, owed_by, and_heard, reads}
-use Rattle.html_tokenizer.proofs.Glue.{at, fits-at, now-at}
+use Rattle.html_tokenizer.specs.Steps.{owed_for, IsAt, PausesAt, more, noted_by, Rises, state_behind, answer_to, FailsAmong, FallsAll, Fell, Stays, IsOfText, Erred, EndedTag, EndsTag, nothing_owed, owed_by, and_heard, reads}
+use Rattle.html_tokenizer.proofs.Glue.{at, fits-at, now-at, stays-then, fell-behind, fails-before}
 use Rattle.html_tokenizer.proofs.Rises.{heard-more, rises-heard}
 use Rattle.html_tokenizer.proofs.Lawful.{erred-more}
 
@@ -31,10 +31,10 @@ module _ {K H : Type 0} (Sink : Ghosts K H) where
 
   -- the error that goes before a tag was refused, so the tag would be
   pub tag-failed : (old new : Tokenizer K) (result : Result (ProcessResult H) ParseFault) (fault : ParseFault) → IsErrAnd result (λ y. y ≡ fault)
-      → ((token : Token) (line : ℕ) → Fails Sink old.sink (Sink.step (Sink.view old.sink) token line) fault) → EndsTag Sink old new result
+      → FallsAll Sink old.sink new.sink fault → EndsTag Sink old new result
   tag-failed old new result fault is fails =
       let p = err_from_is_err_and result is in
-      rw (p.1, p.2) (fails (TagToken old.tag) (line_number old.stream.breaks))
+      rw (p.1, p.2) (fails.0, fails.1 (TagToken old.tag) (line_number old.stream.breaks))
 
   -- what is read behind a tag is what the machine reads where the reply has it
   reads-behind : (k : Tokenizer K) (reply : TokenSinkResult H) (b : ℕ) (s : Sink.State) (notes : Notes ℕ) (t : List ℕ)
@@ -51,17 +51,17 @@ module _ {K H : Type 0} (Sink : Ghosts K H) where
   behind old new h = rw h refl
 
   -- a reply that hands back control does so in data
-  paused-behind : (reply : TokenSinkResult H) (k : Tokenizer K) → IsAt k (state_behind reply) → PausesAt (answer_to reply) 62 k
-  paused-behind reply.Continue k at = tt
-  paused-behind (reply.Script handle) k at = (refl, at)
-  paused-behind reply.Plaintext k at = tt
-  paused-behind (reply.RawData kind) k at = tt
-  paused-behind (reply.EncodingIndicator label) k at = (refl, at)
+  paused-behind : (answer : TokenSinkResult H) (k : Tokenizer K) (before : Sink.State) (tag : Tag) (line : ℕ) → IsAt k (state_behind answer) → Sink.is_sound before → Sink.step before (TagToken tag) line ≡ Ok (Sink.view k.sink, numbered Sink.number answer) → PausesAt Sink (answer_to answer) 62 k
+  paused-behind reply.Continue k before tag line at ok is = tt
+  paused-behind (reply.Script handle) k before tag line at ok is = (refl, at, record { before = before; sound = ok; tag = tag; line = line; is = is })
+  paused-behind reply.Plaintext k before tag line at ok is = tt
+  paused-behind (reply.RawData kind) k before tag line at ok is = tt
+  paused-behind (reply.EncodingIndicator label) k before tag line at ok is = (refl, at, record { before = before; sound = ok; tag = tag; line = line; is = is })
 
-  ended : (old new : Tokenizer K) (reply : TokenSinkResult H) → IsAt new (state_behind reply) → new.stream ≡ old.stream → new.last_start_tag ≡ last_name old.tag.kind old.tag.name old.last_start_tag
-      → Sink.step (Sink.view old.sink) (TagToken old.tag) (line_number old.stream.breaks) ≡ Ok (Sink.view new.sink, numbered Sink.number reply) → Sink.is_sound (Sink.view new.sink) → Sink.has_failed new.sink ≡ false → Rises Sink.errors (owed_by Sink old) old.sink new.sink
+  ended : (old new : Tokenizer K) (reply : TokenSinkResult H) → Sink.is_sound (Sink.view old.sink) → IsAt new (state_behind reply) → new.stream ≡ old.stream → new.last_start_tag ≡ last_name old.tag.kind old.tag.name old.last_start_tag
+      → Sink.step (Sink.view old.sink) (TagToken old.tag) (line_number old.stream.breaks) ≡ Ok (Sink.view new.sink, numbered Sink.number reply) → Sink.is_sound (Sink.view new.sink) → Stays Sink old.sink new.sink → Rises Sink.errors (owed_by Sink old) old.sink new.sink
       → EndedTag Sink old new (answer_to reply)
-  ended old new reply to stream last gives ok works rises =
+  ended old new reply sound to stream last gives ok stays rises =
       let fault = owed_for (grave_if (is_faulty_tag old.tag)) in
       let owed = owed_by Sink old in
       record {
@@ -76,17 +76,17 @@ module _ {K H : Type 0} (Sink : Ghosts K H) where
         stream = stream;
         sound = ok;
         fits = fits-at new (state_behind reply) to;
-        works = works;
-        paused = paused-behind reply new to;
+        stays = stays;
+        paused = paused-behind reply new (Sink.view old.sink) old.tag (line_number old.stream.breaks) to sound gives;
       }
 
   -- The tag was told behind its error, if it has one.
-  pub tag-ended : (old mid new : Tokenizer K) (after : K) (last : Option (List ℕ)) (left tag : Tag) (line : ℕ) (reply : TokenSinkResult H) (result : ProcessResult H) → old.char_ref ≡ None → Erred Sink (owed_for (grave_if (is_faulty_tag old.tag))) old mid
+  pub tag-ended : (old mid new : Tokenizer K) (after : K) (last : Option (List ℕ)) (left tag : Tag) (line : ℕ) (reply : TokenSinkResult H) (result : ProcessResult H) → old.char_ref ≡ None → Sink.is_sound (Sink.view old.sink) → Erred Sink (owed_for (grave_if (is_faulty_tag old.tag))) old mid
       → last ≡ last_name old.tag.kind old.tag.name old.last_start_tag → tag ≡ mid.tag → line ≡ line_number mid.stream.breaks
-      → Sink.step (Sink.view mid.sink) (TagToken tag) line ≡ Ok (Sink.view after, numbered Sink.number reply) → Sink.is_sound (Sink.view after) → Sink.has_failed after ≡ false → Rises Sink.errors (and_heard (Sink.is_quiet (Sink.view mid.sink) (TagToken tag)) nothing_owed) mid.sink after
+      → Sink.step (Sink.view mid.sink) (TagToken tag) line ≡ Ok (Sink.view after, numbered Sink.number reply) → Sink.is_sound (Sink.view after) → Stays Sink mid.sink after → Rises Sink.errors (and_heard (Sink.is_quiet (Sink.view mid.sink) (TagToken tag)) nothing_owed) mid.sink after
       → new ≡ record mid { sink = after; state = state_behind reply; last_start_tag = last; tag = left } → result ≡ answer_to reply
       → EndedTag Sink old new result
-  tag-ended old mid new after last left tag line reply result fresh erred is_last is_tag is_line gives ok works rises is answer =
+  tag-ended old mid new after last left tag line reply result fresh sound erred is_last is_tag is_line gives ok stays rises is answer =
       let gives' : Sink.step (Sink.view old.sink) (TagToken old.tag) (line_number old.stream.breaks) ≡ Ok (Sink.view after, numbered Sink.number reply) =
       ap (λ s. Sink.step s (TagToken old.tag) (line_number old.stream.breaks)) (sym erred.sink)
       ∙ ap (λ (k : Tokenizer K). Sink.step (Sink.view mid.sink) (TagToken k.tag) (line_number k.stream.breaks)) (sym erred.changed)
@@ -95,6 +95,17 @@ module _ {K H : Type 0} (Sink : Ghosts K H) where
       ∙ gives in
       let same_quiet : Sink.is_quiet (Sink.view mid.sink) (TagToken tag) ≡ Sink.is_quiet (Sink.view old.sink) (TagToken old.tag) =
       ap (λ x. Sink.is_quiet (Sink.view mid.sink) (TagToken x)) is_tag ∙ (ap (λ (k : Tokenizer K). Sink.is_quiet (Sink.view mid.sink) (TagToken k.tag)) erred.changed ∙ ap (λ s. Sink.is_quiet s (TagToken old.tag)) erred.sink) in
-      rw (is, answer) (ended old (record mid { sink = after; state = state_behind reply; last_start_tag = last; tag = left }) reply
+      rw (is, answer) (ended old (record mid { sink = after; state = state_behind reply; last_start_tag = last; tag = left }) reply sound
       (record { state = refl; fresh = ap (λ (k : Tokenizer K). k.char_ref) erred.changed ∙ fresh })
-      (ap (λ (k : Tokenizer K). k.stream) erred.changed) is_last gives' ok works (subst (λ q. Rises Sink.errors (and_heard q (owed_for (grave_if (is_faulty_tag old.tag)))) old.sink after) same_quiet (rises-heard Sink.errors (Sink.is_quiet (Sink.view mid.sink) (TagToken tag)) old.sink mid.sink after erred.rises rises)))
+      (ap (λ (k : Tokenizer K). k.stream) erred.changed) is_last gives' ok (stays-then Sink old.sink mid.sink after erred.stays stays) (subst (λ q. Rises Sink.errors (and_heard q (owed_for (grave_if (is_faulty_tag old.tag)))) old.sink after) same_quiet (rises-heard Sink.errors (Sink.is_quiet (Sink.view mid.sink) (TagToken tag)) old.sink mid.sink after erred.rises rises)))
+
+  -- The tag was refused, behind its error if it has one.
+  pub tag-refused : (old mid new : Tokenizer K) (tag : Tag) (line : ℕ) (result : Result (ProcessResult H) ParseFault) (fault : ParseFault) → Erred Sink (owed_for (grave_if (is_faulty_tag old.tag))) old mid → tag ≡ mid.tag → line ≡ line_number mid.stream.breaks → IsErrAnd result (λ y. y ≡ fault)
+      → Fell Sink mid.sink new.sink → FailsAmong Sink IsOfText mid.sink new.sink (Sink.step (Sink.view mid.sink) (TagToken tag) line) fault → EndsTag Sink old new result
+  tag-refused old mid new tag line result fault erred is_tag is_line is fell fails =
+      let p = err_from_is_err_and result is in
+      let same : Sink.step (Sink.view mid.sink) (TagToken tag) line ≡ Sink.step (Sink.view old.sink) (TagToken old.tag) (line_number old.stream.breaks) =
+      ap (λ x. Sink.step (Sink.view mid.sink) (TagToken x) line) (is_tag ∙ ap (λ (k : Tokenizer K). k.tag) erred.changed)
+      ∙ ap (λ n. Sink.step (Sink.view mid.sink) (TagToken old.tag) n) (is_line ∙ ap (λ (k : Tokenizer K). line_number k.stream.breaks) erred.changed)
+      ∙ ap (λ s. Sink.step s (TagToken old.tag) (line_number old.stream.breaks)) erred.sink in
+      rw (p.1, p.2) (fell-behind Sink old.sink mid.sink new.sink erred.stays fell, fails-before Sink old.sink mid.sink new.sink _ fault erred.stays (rw same at fails))

@@ -10,7 +10,7 @@ use Rattle.html_tokens.specs.Sink.{Refusal}
 use Rattle.html_tokenizer.specs.CharRefs.{may_hold}
 use Rattle.html_tokenizer.specs.declared.tokenizer.Tokenizer.{Tokenizer}
 use Rattle.html_tokenizer.specs.Steps.{IsAt, Took, nothing_owed}
-use Rattle.html_tokenizer.proofs.Glue.{no-break, at, now-at, took, state-absorbs, Absorbs}
+use Rattle.html_tokenizer.proofs.Glue.{stays-same, no-break, at, now-at, took, state-absorbs, Absorbs}
 use Rattle.html_tokenizer.proofs.Readings.{sum-zero}
 use Rattle.html_tokenizer.proofs.Rises.{rises-same}
 
@@ -40,7 +40,7 @@ module _ {K H : Type 0} (Sink : Ghosts K H) where
         stream = refl;
         sound = ok;
         fits = ap may_hold from.state ∙ fits;
-        works = λ h. h;
+        stays = stays-same Sink old.sink old.sink refl;
         paused = tt;
       }
 

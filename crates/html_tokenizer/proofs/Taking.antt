@@ -14,7 +14,7 @@ use Rattle.html_tokenizer.specs.declared.tokenizer.Stream.{Stream}
 use Rattle.html_tokenizer.specs.declared.tokenizer.Tokenizer.{Tokenizer}
 use Rattle.html_tokenizer.specs.Rest.{pending}
 use Rattle.html_tokenizer.specs.Steps.{Owed, now, noted_by, PausesAt, Erred, Errs, Took, Keeps, nothing_owed}
-use Rattle.html_tokenizer.proofs.Glue.{held-other, erred-now, fails-along, fails-before}
+use Rattle.html_tokenizer.proofs.Glue.{held-other, erred-now, stays-then, fell-behind, fails-along, fails-before}
 use Rattle.html_tokenizer.proofs.Rises.{rises-then}
 use Rattle.html_tokenizer.proofs.HeldRefused.{held-refused}
 use Rattle.html_tokenizer.proofs.Lines.{held-lines, lines-capped}
@@ -32,11 +32,11 @@ module _ {K H : Type 0} (Sink : Ghosts K H) where
   counted-by k b s t false = ap (λ n. now Sink k n s t) (sum-zero b)
 
   -- a pause is where it was, whatever is known of the input
-  pub notes-counted : (k : Tokenizer K) (stream : Stream) (c : ℕ) (result : ProcessResult H) → PausesAt result c k → PausesAt result c (record k { stream = stream })
+  pub notes-counted : (k : Tokenizer K) (stream : Stream) (c : ℕ) (result : ProcessResult H) → PausesAt Sink result c k → PausesAt Sink result c (record k { stream = stream })
   notes-counted k stream c flow.Continue h = tt
   notes-counted k stream c flow.Suspend h = absurd h
-  notes-counted k stream c (flow.Script handle) h = (h.0, record { state = h.1.state; fresh = h.1.fresh })
-  notes-counted k stream c (flow.EncodingIndicator label) h = (h.0, record { state = h.1.state; fresh = h.1.fresh })
+  notes-counted k stream c (flow.Script handle) h = (h.0, record { state = h.1.state; fresh = h.1.fresh }, h.2)
+  notes-counted k stream c (flow.EncodingIndicator label) h = (h.0, record { state = h.1.state; fresh = h.1.fresh }, h.2)
 
   -- what is to come of a character that was taken is so too where its line is counted
   counted-same : (old mid : Tokenizer K) (c : ℕ) (result : ProcessResult H) (h : Took Sink old mid c result) (notes : Notes ℕ) (t : List ℕ)
@@ -64,7 +64,7 @@ module _ {K H : Type 0} (Sink : Ghosts K H) where
         stream = ap {A = Stream} (λ x. record x { breaks = counted mid.stream.breaks c }) (h.stream ∙ same-stream);
         sound = h.sound;
         fits = h.fits;
-        works = λ x. e.works (h.works x);
+        stays = stays-then Sink old.sink erred.sink mid.sink e.stays h.stays;
         paused = notes-counted mid (record mid.stream { breaks = counted mid.stream.breaks c }) c result h.paused;
       })
 
@@ -73,14 +73,17 @@ module _ {K H : Type 0} (Sink : Ghosts K H) where
       → IsErrAnd result (λ y. y ≡ fault) → Passes Sink old mid c result
   not-passed old erred mid c fault result e h is =
       let p = err_from_is_err_and result is in
-      rw (p.1, p.2) (λ notes t. fails-along Sink old.sink _ _ fault (erred-same old erred notes (c ∷ t) e) (fails-before Sink erred.sink old.sink _ fault e.works (h notes t)))
+      rw (p.1, p.2) (fell-behind Sink old.sink erred.sink mid.sink e.stays h.0, λ notes t. fails-along Sink old.sink mid.sink _ _ fault (erred-same old erred notes (c ∷ t) e) (fails-before Sink old.sink erred.sink mid.sink _ fault e.stays (h.1 notes t)))
 
   -- The error of the character could not be told, so nothing could.
   pub error-refused : (old mid : Tokenizer K) (c : ℕ) (fault : ParseFault) (result : Result (ProcessResult H) ParseFault) → Errs Sink nothing_owed old mid (Err fault)
       → IsErrAnd result (λ y. y ≡ fault) → Passes Sink old mid c result
   error-refused old mid c fault result fails is =
       let p = err_from_is_err_and result is in
-      rw (p.1, p.2) (λ notes t.
-      every-fails Sink old.sink (Sink.view old.sink) fault (now Sink old old.stream.breaks (Sink.view old.sink, notes) (c ∷ t)) fails
-      (λ h. held-refused (noting Sink.step Sink.is_quiet) noting_error (noting_cdata Sink.asks_cdata) (noting_end Sink.ended) (noting-errs Sink) old.state old old.stream.breaks (Sink.view old.sink, notes) (pending old.char_ref ++ c ∷ t)
-      (noting-refused Sink (Sink.view old.sink) notes h)))
+      rw (p.1, p.2) (
+        fails.0,
+        λ notes t.
+            every-fails Sink old.sink mid.sink (Sink.view old.sink) fault (now Sink old old.stream.breaks (Sink.view old.sink, notes) (c ∷ t)) fails.1
+            (λ h. held-refused (noting Sink.step Sink.is_quiet) noting_error (noting_cdata Sink.asks_cdata) (noting_end Sink.ended) (noting-errs Sink) old.state old old.stream.breaks (Sink.view old.sink, notes) (pending old.char_ref ++ c ∷ t)
+            (noting-refused Sink (Sink.view old.sink) notes h)),
+      )

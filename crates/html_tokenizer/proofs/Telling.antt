@@ -13,10 +13,10 @@ use Rattle.html_tokens.specs.Reading.{line_break, line_number}
 use Rattle.html_tokens.specs.Sink.{Refusal}
 use Rattle.html_tokenizer.specs.CharRefs.{fits_in, may_hold}
 use Rattle.html_tokenizer.specs.declared.tokenizer.Tokenizer.{Tokenizer}
-use Rattle.html_tokenizer.specs.Rest.{pending, held_at}
-use Rattle.html_tokenizer.specs.Steps.{Owed, IsAt, more, Fails, Told, TakesAs, Took, Keeps, now, nothing_owed}
+use Rattle.html_tokenizer.specs.Rest.{pending, held_at, rows_of}
+use Rattle.html_tokenizer.specs.Steps.{Owed, IsAt, more, Falls, Told, TakesAs, Took, Keeps, now, nothing_owed}
 use Rattle.html_tokenizer.proofs.Rises.{rises-same}
-use Rattle.html_tokenizer.proofs.Glue.{at, now-at, Says, took_told, keeps_told, token-fails, no-break}
+use Rattle.html_tokenizer.proofs.Glue.{at, now-at, Says, took_told, keeps_told, token-fails, stays-same, no-break}
 
 module _ {K H : Type 0} (Sink : Ghosts K H) where
   -- where only the state and what is held were set before a token was told
@@ -25,21 +25,24 @@ module _ {K H : Type 0} (Sink : Ghosts K H) where
     gives = λ line e. ap (λ k. Sink.step (Sink.view k) token line) (sym same) ∙ told.gives line (e ∙ ap (λ x. line_number x.breaks) (sym stream));
     changed = refl;
     sound = told.sound;
-    works = told.works;
+    stays = rw (← same) told.stays;
     rises = rw (← same) told.rises;
   }
 
-  fails-from : (old target : Tokenizer K) (token : Token) (fault : ParseFault) → target.sink ≡ old.sink → target.stream ≡ old.stream → Fails Sink target.sink (Sink.step (Sink.view target.sink) token (line_number target.stream.breaks)) fault → Fails Sink old.sink (Sink.step (Sink.view old.sink) token (line_number old.stream.breaks)) fault
-  fails-from old target token fault same stream h = rw (← same, ← stream) h
+  fails-from : (old target new : Tokenizer K) (token : Token) (fault : ParseFault) → target.sink ≡ old.sink → target.stream ≡ old.stream → Falls Sink target.sink new.sink (Sink.step (Sink.view target.sink) token (line_number target.stream.breaks)) fault → Falls Sink old.sink new.sink (Sink.step (Sink.view old.sink) token (line_number old.stream.breaks)) fault
+  fails-from old target new token fault same stream h = rw (← same, ← stream) h
 
   -- The token that is told next could not be told.
   pub not-told : (owed : Owed) (old new : Tokenizer K) (c : ℕ) (st : State) (token : Token) (fault : ParseFault) (next : ℕ → Sink.State × Notes ℕ → List ℕ → Result (Sink.State × Notes ℕ) (Refusal × ℕ))
-      → IsAt old st → Sink.is_sound (Sink.view old.sink) → Fails Sink old.sink (Sink.step (Sink.view old.sink) token (line_number old.stream.breaks)) fault
+      → IsAt old st → Sink.is_sound (Sink.view old.sink) → Falls Sink old.sink new.sink (Sink.step (Sink.view old.sink) token (line_number old.stream.breaks)) fault
       → Says Sink st old c owed token next
       → Keeps Sink old new c (Err fault)
-  not-told owed old new c st token fault next from ok fails law = λ notes t.
-      token-fails Sink old.sink _ (Sink.view old.sink) (more owed notes) token (line_number old.stream.breaks) fault _ fails
-      (now-at Sink old st old.stream.breaks (Sink.view old.sink, notes) (c ∷ t) from ∙ law old.stream.breaks (Sink.view old.sink, notes) ok t)
+  not-told owed old new c st token fault next from ok fails law = (
+    fails.0,
+    λ notes t.
+        token-fails Sink old.sink new.sink _ (Sink.view old.sink) (more owed notes) token (line_number old.stream.breaks) fault _ fails.1
+        (now-at Sink old st old.stream.breaks (Sink.view old.sink, notes) (c ∷ t) from ∙ law old.stream.breaks (Sink.view old.sink, notes) ok t),
+  )
 
   -- The state was set, and the character taken as this token.
   pub keeps_taken : (owed : Owed) (old target new : Tokenizer K) (c : ℕ) (st st' : State) (token : Token) (result : Result (ProcessResult H) ParseFault) → IsAt old st → IsAt target st' → target.sink ≡ old.sink → target.stream ≡ old.stream → Sink.is_sound (Sink.view old.sink)
@@ -52,7 +55,7 @@ module _ {K H : Type 0} (Sink : Ghosts K H) where
   keeps_taken owed old target new c st st' token (Ok (flow.Script handle)) from to same stream ok told law = absurd told
   keeps_taken owed old target new c st st' token (Ok (flow.EncodingIndicator label)) from to same stream ok told law = absurd told
   keeps_taken owed old target new c st st' token (Err fault) from to same stream ok fails law =
-      not-told owed old new c st token fault _ from ok (fails-from old target token fault same stream fails) law
+      not-told owed old new c st token fault _ from ok (fails-from old target new token fault same stream fails) law
 
   -- The state was set, a token told, and then the character is taken by that state.
   pub keeps_then : {owed : Owed} (old target mid new : Tokenizer K) (c : ℕ) (st st' : State) (token : Token) (result : Result (ProcessResult H) ParseFault) → IsAt old st → IsAt target st' → target.sink ≡ old.sink → target.stream ≡ old.stream → Sink.is_sound (Sink.view old.sink)
@@ -65,12 +68,12 @@ module _ {K H : Type 0} (Sink : Ghosts K H) where
   -- The state was set, and the token that is told next could not be told.
   pub not-told_from : (owed : Owed) (old target new : Tokenizer K) (c : ℕ) (st : State) (token : Token) (result : Result (ProcessResult H) ParseFault) (fault : ParseFault) (next : ℕ → Sink.State × Notes ℕ → List ℕ → Result (Sink.State × Notes ℕ) (Refusal × ℕ))
       → IsAt old st → target.sink ≡ old.sink → target.stream ≡ old.stream → Sink.is_sound (Sink.view old.sink) → IsErrAnd result (λ y. y ≡ fault)
-      → Fails Sink target.sink (Sink.step (Sink.view target.sink) token (line_number target.stream.breaks)) fault
+      → Falls Sink target.sink new.sink (Sink.step (Sink.view target.sink) token (line_number target.stream.breaks)) fault
       → Says Sink st old c owed token next
       → Keeps Sink old new c result
   not-told_from owed old target new c st token result fault next from same stream ok is fails law =
       let p = err_from_is_err_and result is in
-      rw (p.1, p.2) (not-told owed old new c st token fault next from ok (fails-from old target token fault same stream fails) law)
+      rw (p.1, p.2) (not-told owed old new c st token fault next from ok (fails-from old target new token fault same stream fails) law)
 
   -- what is to come where a reference has begun
   begun : (k : Tokenizer K) (st : State) (b : ℕ) (s : Sink.State × Notes ℕ) (t : List ℕ) → k.state ≡ st → k.char_ref ≡ Some [] → now Sink k b s t ≡ at Sink st k b s (38 ∷ t)
@@ -91,7 +94,7 @@ module _ {K H : Type 0} (Sink : Ghosts K H) where
         ∙ ap (λ n. now Sink new n (Sink.view new.sink, notes) t) (sym (no-break old.stream.breaks c unbroken));
     stream = stream;
     sound = rw same ok;
-    fits = ap (λ r. fits_in r new.state) held ∙ (ap may_hold state ∙ fits);
-    works = λ h. ap Sink.has_failed (sym same) ∙ h;
+    fits = ap (λ r. fits_in (rows_of new) r new.state) held ∙ (ap may_hold state ∙ fits);
+    stays = stays-same Sink old.sink new.sink same;
     paused = tt;
   }

@@ -31,11 +31,11 @@ use Rattle.html_tokenizer.specs.CharRefs.{fits_in}
 use Rattle.html_tokenizer.specs.declared.tokenizer.Tokenizer.{Tokenizer}
 use Rattle.html_tokenizer.specs.Quotes.{quote_of}
 use Rattle.html_tokenizer.specs.Rest.{rows_of, standing, held_at}
-use Rattle.html_tokenizer.specs.Steps.{Owed, Erred, IsAt, more, Tells, Took, how_many, now, nothing_owed, owed_for_each, and_heard, together, reads}
+use Rattle.html_tokenizer.specs.Steps.{Owed, Erred, Fell, IsAt, more, Tells, Took, how_many, now, nothing_owed, owed_for_each, and_heard, together, reads}
 use Rattle.html_tokenizer.specs.Stops.{with_breaks, raw_stops, value_stops, state_stops, IsRunAt}
 use Rattle.html_tokenizer.proofs.AttributeValues.{quoted-more, unquoted-held}
 use Rattle.html_tokenizer.proofs.Comments.{bogus-push, comment-push}
-use Rattle.html_tokenizer.proofs.Glue.{at, now-at, now-target, erred-now, at_erred, sound_erred, token-fails, told-next, told-works, no-break, fits-at}
+use Rattle.html_tokenizer.proofs.Glue.{at, now-at, now-target, erred-now, at_erred, sound_erred, token-fails, told-next, stays-same, stays-then, fell-same, no-break, fits-at}
 use Rattle.html_tokenizer.proofs.Rises.{more-more, rises-less, rises-same, rises-then}
 use Rattle.html_tokenizer.proofs.Lawful.{Lawful, noting-lawful}
 use Rattle.html_tokenizer.proofs.RawStates.{raw-item}
@@ -155,12 +155,15 @@ module _ {K H : Type 0} (Sink : Ghosts K H) where
         ∙ sym (ap (λ k. now Sink k old.stream.breaks (Sink.view new.sink, more (and_heard (Sink.is_quiet (Sink.view old.sink) (CharacterTokens run)) nothing_owed) notes) t) told.changed);
     stream = ap (λ k. k.stream) told.changed;
     sound = told.sound;
-    fits = ap (λ k. fits_in k.char_ref k.state) told.changed ∙ fits-at old st from;
-    works = λ h. told-works told.works h;
+    fits = ap (λ k. fits_in (rows_of k) k.char_ref k.state) told.changed ∙ fits-at old st from;
+    stays = told.stays;
   }
-  run-kept old new run st (Err fault) from ok fails law = λ notes t.
-      token-fails Sink old.sink _ (Sink.view old.sink) notes (CharacterTokens run) (line_number old.stream.breaks) fault _ fails
-      (now-at Sink old st old.stream.breaks (Sink.view old.sink, notes) (run ++ t) from ∙ law old.stream.breaks (Sink.view old.sink, notes) ok t)
+  run-kept old new run st (Err fault) from ok fails law = (
+    fails.0,
+    λ notes t.
+        token-fails Sink old.sink new.sink _ (Sink.view old.sink) notes (CharacterTokens run) (line_number old.stream.breaks) fault _ fails.1
+        (now-at Sink old st old.stream.breaks (Sink.view old.sink, notes) (run ++ t) from ∙ law old.stream.breaks (Sink.view old.sink, notes) ok t),
+  )
 
   -- A character was taken, and then a run.
   took-then : (old mid new : Tokenizer K) (c : ℕ) (run : List ℕ) → nat_eq c 10 ≡ false → Took Sink old mid c flow.Continue → TookRun Sink mid new run → TookRun Sink old new (c ∷ run)
@@ -175,7 +178,7 @@ module _ {K H : Type 0} (Sink : Ghosts K H) where
     stream = rest.stream ∙ first.stream;
     sound = rest.sound;
     fits = rest.fits;
-    works = λ h. first.works (rest.works h);
+    stays = stays-then Sink old.sink mid.sink new.sink first.stays rest.stays;
   }
 
   -- Errors were told, and then a run was taken that is quiet only where none were.
@@ -187,18 +190,18 @@ module _ {K H : Type 0} (Sink : Ghosts K H) where
     stream = took.stream ∙ ap (λ k. k.stream) h.changed;
     sound = took.sound;
     fits = took.fits;
-    works = λ e. h.works (took.works e);
+    stays = stays-then Sink old.sink mid.sink new.sink h.stays took.stays;
   }
 
   -- A machine by what it holds of a text, where each character that is not in a set is held behind the others, and is quiet only
   -- where it is not odd.
-  module _ (machine : List ℕ → Tokenizer K) (bits : ℕ) (odd : ℕ → Bool) (unbroken : has bits 10 ≡ true) (ok : (front : List ℕ) → Sink.is_sound (Sink.view (machine front).sink)) (fits : (front : List ℕ) → fits_in (machine front).char_ref (machine front).state ≡ true)
+  module _ (machine : List ℕ → Tokenizer K) (bits : ℕ) (odd : ℕ → Bool) (unbroken : has bits 10 ≡ true) (ok : (front : List ℕ) → Sink.is_sound (Sink.view (machine front).sink)) (fits : (front : List ℕ) → fits_in (rows_of (machine front)) (machine front).char_ref (machine front).state ≡ true)
       (each : (front : List ℕ) (c : ℕ) → has bits c ≡ false → (took : Took Sink (machine front) (machine (front ++ c ∷ [])) c flow.Continue) × (took.owed.is_quiet ≡ true → odd c ≡ false)) where
     run-noted : (front run : List ℕ) → All (λ c. has bits c ≡ false) run → (took : TookRun Sink (machine front) (machine (front ++ run)) run) × (took.owed.is_quiet ≡ true → how_many odd run ≡ 0)
     unfolding took-then
     run-noted front [] lacking =
         let none : (took : TookRun Sink (machine front) (machine front) []) × (took.owed.is_quiet ≡ true → how_many odd [] ≡ 0) =
-        (record { owed = nothing_owed; rises = rises-same Sink.errors (machine front).sink (machine front).sink refl; same = λ notes t. refl; stream = refl; sound = ok front; fits = fits front; works = λ h. h }, λ h. refl) in
+        (record { owed = nothing_owed; rises = rises-same Sink.errors (machine front).sink (machine front).sink refl; same = λ notes t. refl; stream = refl; sound = ok front; fits = fits front; stays = stays-same Sink (machine front).sink (machine front).sink refl }, λ h. refl) in
         rw (append-nil front) none
     run-noted front (c ∷ run) lacking =
         let lacks = All-head (λ c. has bits c ≡ false) c run lacking in
@@ -211,16 +214,16 @@ module _ {K H : Type 0} (Sink : Ghosts K H) where
         rw (append_assoc front (c ∷ []) run) at both
 
   -- The same, where nothing is said of what is odd.
-  run-held : (machine : List ℕ → Tokenizer K) (bits : ℕ) → has bits 10 ≡ true → ((front : List ℕ) → Sink.is_sound (Sink.view (machine front).sink)) → ((front : List ℕ) → fits_in (machine front).char_ref (machine front).state ≡ true)
+  run-held : (machine : List ℕ → Tokenizer K) (bits : ℕ) → has bits 10 ≡ true → ((front : List ℕ) → Sink.is_sound (Sink.view (machine front).sink)) → ((front : List ℕ) → fits_in (rows_of (machine front)) (machine front).char_ref (machine front).state ≡ true)
       → ((front : List ℕ) (c : ℕ) → has bits c ≡ false → Took Sink (machine front) (machine (front ++ c ∷ [])) c flow.Continue)
       → (front run : List ℕ) → All (λ c. has bits c ≡ false) run → TookRun Sink (machine front) (machine (front ++ run)) run
   run-held machine bits unbroken ok fits each front run lacking = (run-noted machine bits (λ c. false) unbroken ok fits (λ front c lacks. (each front c lacks, λ h. refl)) front run lacking).0
 
   -- A run is held, if there is memory.
-  held-kept : (old : Tokenizer K) (machine : List ℕ → Tokenizer K) (front whole run : List ℕ) (result : Result (Unit {0}) ParseFault) → OnOk result (front ≡ whole) → IfErr result (λ fault. fault ≡ Memory) → TookRun Sink old (machine whole) run
+  held-kept : (old : Tokenizer K) (machine : List ℕ → Tokenizer K) (front whole run : List ℕ) (result : Result (Unit {0}) ParseFault) → OnOk result (front ≡ whole) → IfErr result (λ fault. fault ≡ Memory) → Fell Sink old.sink (machine front).sink → TookRun Sink old (machine whole) run
       → KeepsRun Sink old (machine front) run result
-  held-kept old machine front whole run (Ok x) is fault took = rw is took
-  held-kept old machine front whole run (Err e) is fault took = rw fault (λ notes t. tt)
+  held-kept old machine front whole run (Ok x) is fault fell took = rw is took
+  held-kept old machine front whole run (Err e) is fault fell took = rw fault (fell, λ notes t. tt)
 
   quoted-run : (old : Tokenizer K) (kind : AttrValueKind) (quote : ℕ) (bits : ℕ) (run : List ℕ) → IsAt old (state.AttributeValue kind) → Sink.is_sound (Sink.view old.sink) → quote_of kind ≡ Some quote
       → has bits 0 ≡ true → has bits 10 ≡ true → has bits 38 ≡ true → has bits quote ≡ true → All (λ c. has bits c ≡ false) run
@@ -245,7 +248,7 @@ module _ {K H : Type 0} (Sink : Ghosts K H) where
       → KeepsRun Sink old (record old { attribute_value = front }) run result
   value_run-kept old kind front run result quoted runs ok is grown fault =
       let from = run-at old run runs in
-      held-kept old (λ front. record old { attribute_value = front }) front (old.attribute_value ++ run) run result grown fault
+      held-kept old (λ front. record old { attribute_value = front }) front (old.attribute_value ++ run) run result grown fault (fell-same Sink old.sink old.sink refl ok)
       (value-run old kind run quoted (record { state = is; fresh = from.0.fresh }) ok runs.stops (rw is at from.1) runs.lacking)
 
   -- a run of a value without quotes is held, and what is odd in it is noted
@@ -266,7 +269,7 @@ module _ {K H : Type 0} (Sink : Ghosts K H) where
       let from = run-at old run runs in
       let at : IsAt old (state.AttributeValue value.Unquoted) = record { state = is; fresh = from.0.fresh } in
       let took = unquoted-run mid run (at_erred Sink old mid (state.AttributeValue value.Unquoted) told at) (sound_erred Sink old mid told ok) (lacking-in (value_stops value.Unquoted) runs.stops run (rw is at from.1) runs.lacking) in
-      held-kept old (λ front. record mid { attribute_value = front }) front (mid.attribute_value ++ run) run result grown fault
+      held-kept old (λ front. record mid { attribute_value = front }) front (mid.attribute_value ++ run) run result grown fault (record { sound = λ h. sound_erred Sink old mid told ok; loans = told.stays.loans })
       (erred-run old mid (record mid { attribute_value = mid.attribute_value ++ run }) run (owed_for_each is_odd_unquoted run) told took.0 (λ e. ap (λ n. nat_eq n 0) (took.1 e)))
 
 module _ {K H : Type 0} (Sink : Ghosts K H) (laws : SinkLaws Sink.is_sound Sink.step Sink.ended Sink.is_quiet) where
@@ -290,7 +293,7 @@ module _ {K H : Type 0} (Sink : Ghosts K H) (laws : SinkLaws Sink.is_sound Sink.
       → KeepsRun Sink old (record old { comment = front }) run result
   comment_run-kept old front run result runs ok is grown fault =
       let from = run-at old run runs in
-      held-kept Sink old (λ front. record old { comment = front }) front (old.comment ++ run) run result grown fault
+      held-kept Sink old (λ front. record old { comment = front }) front (old.comment ++ run) run result grown fault (fell-same Sink old.sink old.sink refl ok)
       (comment-run old old.state run from.0 is ok runs.stops from.1 runs.lacking)
 
   -- A run of text is told as one.

@@ -1,6 +1,6 @@
 -- Words of letters, as characters and as bytes.
 use Rattle.std.proofs.Common.{◌≡◌, ◌∙◌, ℕ, ◌≤◌, ◌<◌, length, Bool, true, false, nat_eq, List, [], ◌∷◌, ◌++◌, map, refl, sym, ap, arith}
-use Rattle.std.specs.Prelude.{◌&&◌, codes, IsTrue, ◌↔◌}
+use Rattle.std.specs.Prelude.{◌&&◌, nat_lt, slice_index, codes, IsTrue, ◌↔◌}
 use Rattle.std.specs.Char.{to_ascii_lowercase, is_ascii_alphabetic}
 use Rattle.std.specs.List.{list_all}
 use Rattle.std.specs.Str.{chars, IsUtf8, IsAscii}
@@ -9,7 +9,7 @@ use Rattle.std.proofs.lemmas.Bool.Decides.{nat_tests, same_from_decides}
 use Rattle.std.proofs.lemmas.Bool.{eqb-true}
 use Rattle.std.proofs.lemmas.Str.{encodes-chars, encode_ascii, char_from_byte, encodes-IsAscii, length-encode, len_utf8_bounds}
 use Rattle.std.proofs.lemmas.Str.Ascii.{IsAscii-nil, IsAscii-cons}
-use Rattle.html_tokenizer.specs.Words.{same_any_case}
+use Rattle.html_tokenizer.specs.Words.{has_next, same_any_case}
 
 -- both of what holds together
 pub and_parts : (a b : Bool) → (a && b) ≡ true → (a ≡ true) × (b ≡ true)
@@ -98,3 +98,19 @@ letters-same result name bs w v u e h test =
 pub script-chars : chars (codes "script") ≡ codes "script"
 unfolding chars
 script-chars = refl
+
+-- a word of letters, as its bytes
+pub own-letters : (bytes word : List ℕ) → IsUtf8 bytes → chars bytes ≡ word → list_all is_ascii_alphabetic word ≡ true → bytes ≡ word
+own-letters bytes word u e h = letters-bytes bytes u (ap (list_all is_ascii_alphabetic) e ∙ h) ∙ e
+
+-- what a name has behind a word, by the place
+pub next-none : (name word bytes : List ℕ) (c : ℕ) → bytes ≡ word → length name ≤ length bytes → false ≡ has_next name word c
+next-none name word bytes c e l =
+    let short : length name ≤ length word = rw (← e) l in
+    let none : nat_lt (length word) (length name) ≡ false = grind (arith, nat_tests) in
+    sym (ap (λ b. b && nat_eq (to_ascii_lowercase (slice_index name (length word))) (to_ascii_lowercase c)) none)
+
+pub next-some : (name word bytes : List ℕ) (c : ℕ) → bytes ≡ word → length bytes < length name → nat_eq (to_ascii_lowercase (slice_index name (length bytes))) (to_ascii_lowercase c) ≡ has_next name word c
+next-some name word bytes c e l =
+    let some : nat_lt (length bytes) (length name) ≡ true = grind (arith, nat_tests) in
+    sym (ap (λ b. b && nat_eq (to_ascii_lowercase (slice_index name (length bytes))) (to_ascii_lowercase c)) some) ∙ ap (λ w. has_next name w c) e

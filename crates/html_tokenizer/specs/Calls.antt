@@ -8,6 +8,7 @@ use Rattle.html_queue.specs.Queue.{Queue, Takes}
 use Rattle.html_tokens.specs.declared.replies.ProcessResult.{ProcessResult}
 use Rattle.html_tokens.specs.declared.replies.ProcessResult.TheVariants as flow
 use Rattle.html_tokens.specs.declared.replies.TokenSinkResult.TheVariants as reply
+use Rattle.html_tokens.specs.declared.states.State.{State}
 use Rattle.html_tokens.specs.declared.states.State.TheVariants as state
 use Rattle.html_tokens.specs.declared.token.Token.TheVariants.{EOFToken}
 use Rattle.html_tokens.specs.declared.options.TokenizerOpts.{TokenizerOpts}
@@ -19,7 +20,7 @@ use Rattle.html_tokens.specs.TextState.{is_text_state}
 use Rattle.html_tokens.specs.Notes.{Notes, noting, noting_error, noting_cdata, noting_end}
 use Rattle.html_tokens.specs.Reading.{◌>>=◌, line_number, first_place, first_stand}
 use Rattle.html_tokens.specs.Sink.{Reply, Refusal}
-use Rattle.html_tokenizer.specs.CharRefs.{fits_in}
+use Rattle.html_tokenizer.specs.CharRefs.{BeginsReference, fits_in}
 use Rattle.html_tokenizer.specs.Forbidden.{is_forbidden}
 use Rattle.html_tokenizer.specs.declared.tokenizer.Stream.{Stream}
 use Rattle.html_tokenizer.specs.declared.tokenizer.Tokenizer.{Tokenizer}
@@ -30,7 +31,7 @@ use Rattle.html_tokenizer.specs.Pieces.{ComesAsRun}
 use Rattle.html_tokenizer.specs.Stops.{stops_of}
 use Rattle.html_queue.specs.declared.set.SmallCharSet.{SmallCharSet}
 use Rattle.html_tokenizer.specs.Rest.{rest, rows_of, standing, coming}
-use Rattle.html_tokenizer.specs.Steps.{IsAt, PausesAt, Owed, nothing_owed, owed_for_each, together, more, paused_by, noted_by, Rises, now, Fails, reads}
+use Rattle.html_tokenizer.specs.Steps.{IsAt, PausesAt, Owed, nothing_owed, owed_for_each, together, more, paused_by, noted_by, Rises, now, Stays, Fell, Fails, FailsAmong, Replied, reads}
 
 -- the pauses so far, and the one with which a call of `feed` hands back control
 abbrev pub paused_with : {H : Type 0} → (H → ℕ) → List Reply → TokenizerResult H → List Reply
@@ -93,6 +94,16 @@ Refuses (Some fault) result = result ≡ Err fault
 abbrev pub is_nothing_pending : {K : Type 0} → Tokenizer K → Bool
 is_nothing_pending k = not k.stream.has_ended && not k.stream.has_failed && is_none k.char_ref && is_text_state k.state
 
+-- whether a state reads the value of an attribute
+abbrev pub is_value : State → Bool
+is_value (state.AttributeValue kind) = true
+is_value _ = false
+
+-- what is held of a reference, if something is, begins one
+abbrev pub HeldIn : List Row → State → Option (List ℕ) → Type 0
+HeldIn rows st None = Unit {0}
+HeldIn rows st (Some cs) = BeginsReference (is_value st) rows cs
+
 module _ {K H : Type 0} (Sink : Ghosts K H) where
   -- what a further text makes of the sink and of what was noted
   abbrev pub to_come : Tokenizer K → Notes ℕ → List ℕ → Result (Sink.State × Notes ℕ) (Refusal × ℕ)
@@ -110,13 +121,13 @@ module _ {K H : Type 0} (Sink : Ghosts K H) where
     pub same : (notes : Notes ℕ) (t : List ℕ) → now Sink old old.stream.breaks (Sink.view old.sink, notes) (c ∷ t) ≡ now Sink new new.stream.breaks (Sink.view new.sink, noted_by Sink.number owed notes result) t
     pub stream : new.stream ≡ record old.stream { breaks = new.stream.breaks }
     pub sound : Sink.is_sound (Sink.view new.sink)
-    pub fits : fits_in new.char_ref new.state ≡ true
-    pub works : Sink.has_failed new.sink ≡ true → Sink.has_failed old.sink ≡ true
-    pub paused : PausesAt result c new
+    pub fits : fits_in (rows_of new) new.char_ref new.state ≡ true
+    pub stays : Stays Sink old.sink new.sink
+    pub paused : PausesAt Sink result c new
 
   abbrev pub Passes : Tokenizer K → Tokenizer K → ℕ → Result (ProcessResult H) ParseFault → Type 0
   Passes old new c (Ok result) = Passed old new c result
-  Passes old new c (Err fault) = (notes : Notes ℕ) (t : List ℕ) → Fails Sink old.sink (now Sink old old.stream.breaks (Sink.view old.sink, notes) (c ∷ t)) fault
+  Passes old new c (Err fault) = Fell Sink old.sink new.sink × ((notes : Notes ℕ) (t : List ℕ) → Fails Sink old.sink new.sink (now Sink old old.stream.breaks (Sink.view old.sink, notes) (c ∷ t)) fault)
 
   -- A run of text was taken, of which no character ends a line: whatever follows, the tokenizer makes of it what it would have made
   -- of it behind the run, which owed this.
@@ -126,12 +137,12 @@ module _ {K H : Type 0} (Sink : Ghosts K H) where
     pub same : (notes : Notes ℕ) (t : List ℕ) → now Sink old old.stream.breaks (Sink.view old.sink, notes) (run ++ t) ≡ now Sink new old.stream.breaks (Sink.view new.sink, more owed notes) t
     pub stream : new.stream ≡ old.stream
     pub sound : Sink.is_sound (Sink.view new.sink)
-    pub fits : fits_in new.char_ref new.state ≡ true
-    pub works : Sink.has_failed new.sink ≡ true → Sink.has_failed old.sink ≡ true
+    pub fits : fits_in (rows_of new) new.char_ref new.state ≡ true
+    pub stays : Stays Sink old.sink new.sink
 
   abbrev pub KeepsRun : Tokenizer K → Tokenizer K → List ℕ → Result (Unit {0}) ParseFault → Type 0
   KeepsRun old new run (Ok x) = TookRun old new run
-  KeepsRun old new run (Err fault) = (notes : Notes ℕ) (t : List ℕ) → Fails Sink old.sink (now Sink old old.stream.breaks (Sink.view old.sink, notes) (run ++ t)) fault
+  KeepsRun old new run (Err fault) = Fell Sink old.sink new.sink × ((notes : Notes ℕ) (t : List ℕ) → Fails Sink old.sink new.sink (now Sink old old.stream.breaks (Sink.view old.sink, notes) (run ++ t)) fault)
 
   -- The same of a call that then goes on.
   abbrev pub KeepsText : Tokenizer K → Tokenizer K → List ℕ → Result (ProcessResult H) ParseFault → Type 0
@@ -146,24 +157,24 @@ module _ {K H : Type 0} (Sink : Ghosts K H) where
     pub same : (notes : Notes ℕ) → now Sink old old.stream.breaks (Sink.view old.sink, notes) [] ≡ at_end old.stream.breaks (Sink.view new.sink, more owed notes)
     pub stream : new.stream ≡ old.stream
     pub sound : Sink.is_sound (Sink.view new.sink)
-    pub works : Sink.has_failed new.sink ≡ true → Sink.has_failed old.sink ≡ true
+    pub stays : Stays Sink old.sink new.sink
 
   abbrev pub Closes : Tokenizer K → Tokenizer K → Result (Unit {0}) ParseFault → Type 0
   Closes old new (Ok x) = Closed old new
-  Closes old new (Err fault) = (notes : Notes ℕ) → Fails Sink old.sink (now Sink old old.stream.breaks (Sink.view old.sink, notes) []) fault
+  Closes old new (Err fault) = Fell Sink old.sink new.sink × ((notes : Notes ℕ) → Fails Sink old.sink new.sink (now Sink old old.stream.breaks (Sink.view old.sink, notes) []) fault)
 
   -- What a tokenizer needs at a call: a sink in a sound state, and a reference held only where one may stand.
   pub record IsReady (k : Tokenizer K) : Type 0 where
     pub sound : Sink.is_sound (Sink.view k.sink)
-    pub fits : fits_in k.char_ref k.state ≡ true
+    pub fits : fits_in (rows_of k) k.char_ref k.state ≡ true
 
   -- Where a step ends so: behind some characters; with an empty queue; or, where it hands back control, behind the ">" of a tag,
-  -- with data to come and nothing held.
+  -- of which this is the reply, with data to come and nothing held.
   abbrev pub Leaves : ProcessResult H → Tokenizer K → List ℕ → Queue → Type 0
   Leaves flow.Continue new taken to = 0 < length taken
   Leaves flow.Suspend new taken to = to.characters ≡ []
-  Leaves (flow.Script handle) new taken to = (last_of taken ≡ 62) × IsAt new state.Data
-  Leaves (flow.EncodingIndicator label) new taken to = (last_of taken ≡ 62) × IsAt new state.Data
+  Leaves (flow.Script handle) new taken to = (last_of taken ≡ 62) × IsAt new state.Data × Replied Sink new.sink (reply.Script (Sink.number handle))
+  Leaves (flow.EncodingIndicator label) new taken to = (last_of taken ≡ 62) × IsAt new state.Data × Replied Sink new.sink (reply.EncodingIndicator label)
 
   -- Some characters were taken from the queue, each once, these pauses were added, and the tokenizer stands where this is so of the
   -- characters taken.
@@ -178,7 +189,7 @@ module _ {K H : Type 0} (Sink : Ghosts K H) where
     -- for each further text, what was to come over the characters taken and that text is what is now to come over that text
     pub same : (notes : Notes ℕ) (t : List ℕ) → to_come old notes (taken ++ t) ≡ to_come new (record (more owed notes) { pauses = pauses_behind notes.pauses }) t
     pub ready : IsReady new
-    pub works : Sink.has_failed new.sink ≡ true → Sink.has_failed old.sink ≡ true
+    pub stays : Stays Sink old.sink new.sink
     pub ended : new.stream.has_ended ≡ old.stream.has_ended
     pub failed : new.stream.has_failed ≡ old.stream.has_failed
     pub exact : new.stream.exact_errors ≡ old.stream.exact_errors
@@ -188,23 +199,38 @@ module _ {K H : Type 0} (Sink : Ghosts K H) where
   abbrev pub Moved : Tokenizer K → Tokenizer K → Queue → Queue → ProcessResult H → Type 0
   Moved old new from to result = HasMoved (λ pauses. paused_by Sink.number pauses result) (λ taken. Leaves result new taken to) old new from to
 
+  -- A step failed, which left the sink so, and lost some characters of the queue: what was to come over these, whatever follows, is refused.
+  pub record IsStuck (old : Tokenizer K) (left : K) (from to : Queue) (fault : ParseFault) : Type 0 where
+    pub lost : List ℕ
+    pub takes : Takes lost from to
+    pub fell : Fell Sink old.sink left
+    pub fails : (notes : Notes ℕ) (t : List ℕ) → Fails Sink old.sink left (to_come old notes (lost ++ t)) fault
+
   abbrev pub Moves : Tokenizer K → Tokenizer K → Queue → Queue → Result (ProcessResult H) ParseFault → Type 0
   Moves old new from to (Ok result) = Moved old new from to result
-  Moves old new from to (Err fault) = (notes : Notes ℕ) (t : List ℕ) → Fails Sink old.sink (to_come old notes (from.characters ++ t)) fault
+  Moves old new from to (Err fault) = IsStuck old new.sink from to fault
 
-  -- Where a call ends so: with an empty queue, or, at a pause, behind the ">" of a tag, with data to come and nothing held.
+  -- Where a call ends so: with an empty queue, where of a reference no more is held than the front of one, or, at a pause, behind the ">" of a tag, of which this is the reply, with data to
+  -- come and nothing held.
   abbrev pub Rests : TokenizerResult H → Tokenizer K → List ℕ → Queue → Type 0
-  Rests Done new taken to = to.characters ≡ []
-  Rests (Script handle) new taken to = (last_of taken ≡ 62) × IsAt new state.Data
-  Rests (EncodingIndicator label) new taken to = (last_of taken ≡ 62) × IsAt new state.Data
+  Rests Done new taken to = (to.characters ≡ []) × HeldIn (rows_of new) new.state new.char_ref
+  Rests (Script handle) new taken to = (last_of taken ≡ 62) × IsAt new state.Data × Replied Sink new.sink (reply.Script (Sink.number handle))
+  Rests (EncodingIndicator label) new taken to = (last_of taken ≡ 62) × IsAt new state.Data × Replied Sink new.sink (reply.EncodingIndicator label)
 
   -- The input was read, or read up to a pause.
   abbrev pub Fed : Tokenizer K → Tokenizer K → Queue → Queue → TokenizerResult H → Type 0
   Fed old new from to result = HasMoved (λ pauses. paused_with Sink.number pauses result) (λ taken. Rests result new taken to) old new from to
 
+  -- Some characters were taken, and behind them the tokenizer stood where a step failed, which left the sink so.
+  pub record HasFailed (old : Tokenizer K) (left : K) (from to : Queue) (fault : ParseFault) : Type 0 where
+    pub at : Tokenizer K
+    pub via : Queue
+    pub moved : HasMoved (λ pauses. pauses) (λ taken. Unit {0}) old at from via
+    pub stuck : IsStuck at left via to fault
+
   abbrev pub Runs : Tokenizer K → Tokenizer K → Queue → Queue → Result (TokenizerResult H) ParseFault → Type 0
   Runs old new from to (Ok result) = Fed old new from to result
-  Runs old new from to (Err fault) = (notes : Notes ℕ) (t : List ℕ) → Fails Sink old.sink (to_come old notes (from.characters ++ t)) fault
+  Runs old new from to (Err fault) = HasFailed old new.sink from to fault
 
   -- The end was told, behind what was owed: what was to come over no further text is what the sink is now.
   pub record HasEnded (old new : Tokenizer K) : Type 0 where
@@ -217,7 +243,7 @@ module _ {K H : Type 0} (Sink : Ghosts K H) where
     pub kept : Sink.errors told ≤ Sink.errors new.sink
     pub same : (notes : Notes ℕ) → to_come old notes [] ≡ Ok (Sink.view new.sink, more owed notes)
     pub sound : Sink.is_sound (Sink.view new.sink)
-    pub works : Sink.has_failed new.sink ≡ true → Sink.has_failed old.sink ≡ true
+    pub stays : Stays Sink old.sink new.sink
     pub stream : new.stream ≡ record old.stream { has_ended = true }
 
   -- The end was told, and the sink was not yet told that it was.
@@ -227,11 +253,16 @@ module _ {K H : Type 0} (Sink : Ghosts K H) where
     pub same : (notes : Notes ℕ) → to_come old notes [] ≡ Ok (Sink.ended (Sink.view new.sink), more owed notes)
     pub stream : new.stream ≡ old.stream
     pub sound : Sink.is_sound (Sink.view new.sink)
-    pub works : Sink.has_failed new.sink ≡ true → Sink.has_failed old.sink ≡ true
+    pub stays : Stays Sink old.sink new.sink
+
+  -- What is held, or the end, could not be told: what was to come over no further text is refused.
+  pub record FailsToEnd (old new : Tokenizer K) (fault : ParseFault) : Type 0 where
+    pub fell : Fell Sink old.sink new.sink
+    pub fails : (notes : Notes ℕ) → FailsAmong Sink (λ token. Unit {0}) old.sink new.sink (to_come old notes []) fault
 
   abbrev pub TellsEnd : Tokenizer K → Tokenizer K → Result (Unit {0}) ParseFault → Type 0
   TellsEnd old new (Ok x) = ToldEnd old new
-  TellsEnd old new (Err fault) = (notes : Notes ℕ) → Fails Sink old.sink (to_come old notes []) fault
+  TellsEnd old new (Err fault) = FailsToEnd old new fault
 
   -- what a call asks of a tokenizer, if nothing stands against the call
   abbrev pub IsReadyIf : Option ParseFault → Tokenizer K → Type 0
@@ -246,8 +277,12 @@ module _ {K H : Type 0} (Sink : Ghosts K H) where
 
   abbrev pub EndGives : Option ParseFault → Tokenizer K → Tokenizer K → Result (Unit {0}) ParseFault → Type 0
   EndGives None old new (Ok x) = HasEnded old new
-  EndGives None old new (Err fault) = (new.stream.has_failed ≡ true) × ((notes : Notes ℕ) → Fails Sink old.sink (to_come old notes []) fault)
+  EndGives None old new (Err fault) = (new.stream.has_failed ≡ true) × FailsToEnd old new fault
   EndGives (Some fault) old new result = (result ≡ Err fault) × (new ≡ old)
+
+  -- A sink whose state was sound is in a sound state, unless it has failed.
+  abbrev pub KeepsSound : K → K → Type 0
+  KeepsSound old new = (Sink.has_failed old ≡ false → Sink.is_sound (Sink.view old)) → Sink.has_failed new ≡ false → Sink.is_sound (Sink.view new)
 
   -- A new tokenizer: what is to come is the reading of all the text.
   pub record IsNew (k : Tokenizer K) (sink : K) (opts : TokenizerOpts) (table : List Row) : Type 0 where

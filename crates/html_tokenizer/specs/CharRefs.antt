@@ -1,14 +1,14 @@
 -- What a tokenizer holds of a character reference, and what it makes of it (HTML Standard, sections 13.2.5.72 to 13.2.5.80).
-use Rattle.std.specs.Prelude.{◌≡◌, ℕ, Bool, true, false, ◌&&◌, ◌||◌, not, nat_eq, List, [], ◌∷◌, ◌++◌, length, take, drop, Option, Some, None}
+use Rattle.std.specs.Prelude.{◌≡◌, ℕ, Bool, true, false, ◌&&◌, ◌||◌, not, nat_eq, List, [], ◌∷◌, ◌++◌, ◌≤◌, length, take, drop, Option, Some, None, if◌then◌else◌}
 use Rattle.std.specs.Char.{is_ascii_alphanumeric, is_ascii_digit, is_ascii_hexdigit}
 use Rattle.std.specs.List.{ends_with, list_all}
 use Rattle.html_tokens.specs.declared.states.RawKind.TheVariants.{Rcdata}
 use Rattle.html_tokens.specs.declared.states.State.{State}
 use Rattle.html_tokens.specs.declared.states.State.TheVariants as state
 use Rattle.html_tokens.specs.Characters.{run}
-use Rattle.html_tokens.specs.Reference.{Reference, goes_on_at, is_no_character, named_by, number, numbered_reference, numeric, semicolon}
-use Rattle.html_tokens.specs.Table.{Row, goes_on, longest, values_of}
-use Rattle.html_references.specs.References.{IsCheckedTable}
+use Rattle.html_tokens.specs.Reference.{Reference, goes_on_at, is_no_character, named_by, number, numbered_reference, numeric, reference_at, semicolon}
+use Rattle.html_tokens.specs.Table.{Row, longest, values_of}
+use Rattle.html_references.specs.References.{IsCheckedTable, is_front}
 use Rattle.html_tokenizer.specs.Forbidden.{is_forbidden}
 use Rattle.html_tokenizer.specs.declared.numbers.Found.{Found}
 
@@ -20,14 +20,42 @@ is_named_with c = is_ascii_alphanumeric c || nat_eq c 59
 abbrev pub is_held : ℕ → Bool
 is_held c = is_named_with c || nat_eq c 35
 
-abbrev pub goes_on_by : Bool → List Row → List ℕ → Bool
-goes_on_by true rows cs = not (ends_with nat_eq cs (59 ∷ []))
-goes_on_by false rows cs = goes_on rows cs
+-- where the digits of a number in base 16, or else 10, end
+abbrev pub stops : Bool → ℕ → Bool
+stops true d = not (is_ascii_hexdigit d)
+stops false d = not (is_ascii_digit d)
+
+-- nothing stands in a text
+abbrev pub is_no_text : List ℕ → Bool
+is_no_text [] = true
+is_no_text (c ∷ t) = false
+
+-- digits, with ";" or nothing behind them, where digits stand before or do not
+abbrev pub are_digits : (ℕ → Bool) → Bool → List ℕ → Bool
+are_digits stops some [] = true
+are_digits stops some (c ∷ t) = if stops c then some && (nat_eq c 59 && is_no_text t) else are_digits stops true t
+
+abbrev pub is_number_by : Bool → ℕ → List ℕ → Bool
+is_number_by true c t = are_digits (stops true) false t
+is_number_by false c t = are_digits (stops false) false (c ∷ t)
+
+-- whether some text behind this one makes a numeric reference of both, behind "&#"
+abbrev pub is_number_front : List ℕ → Bool
+is_number_front [] = true
+is_number_front (c ∷ t) = is_number_by (nat_eq c 120 || nat_eq c 88) c t
+
+abbrev pub is_front_by : Bool → List Row → ℕ → List ℕ → Bool
+is_front_by true rows h hs = is_number_front hs
+is_front_by false rows h hs = is_front rows (h ∷ hs)
+
+-- whether some text behind this one makes a reference of both, behind "&"
+abbrev pub is_held_front : List Row → List ℕ → Bool
+is_held_front rows [] = true
+is_held_front rows (h ∷ hs) = is_front_by (nat_eq h 35) rows h hs
 
 -- Whether a reference of which this is held may go on by c. Where it may not, no text behind c changes what it is.
 abbrev pub may_go_on : List Row → List ℕ → ℕ → Bool
-may_go_on rows [] c = is_held c
-may_go_on rows (h ∷ hs) c = is_named_with c && goes_on_by (nat_eq h 35) rows (h ∷ hs)
+may_go_on rows cs c = is_held_front rows (cs ++ c ∷ [])
 
 -- whether "=", a letter or a digit stands at the front, or follows where nothing does
 abbrev pub goes_on_before : List ℕ → Bool → Bool
@@ -61,11 +89,6 @@ resolved in_value rows cs follows = resolved_by (decided in_value rows cs follow
 -- what a tokenizer found, as a reference
 abbrev pub reference_of : Found → Reference
 reference_of f = record { chars = values_of f.first f.second; len = f.len }
-
--- where the digits of a number in base 16, or else 10, end
-abbrev pub stops : Bool → ℕ → Bool
-stops true d = not (is_ascii_hexdigit d)
-stops false d = not (is_ascii_digit d)
 
 abbrev pub base_of : Bool → ℕ
 base_of true = 16
@@ -112,6 +135,7 @@ is_faulty in_value rows (h ∷ hs) follows = is_faulty_by (nat_eq h 35) in_value
 pub record IsDecided (rows : List Row) (cs : List ℕ) (c : ℕ) : Type 0 where
   pub checked : IsCheckedTable rows
   pub held : list_all is_held cs ≡ true
+  pub front : is_held_front rows cs ≡ true
   pub ends : may_go_on rows cs c ≡ false
 
 -- the states in which a reference may be held
@@ -121,7 +145,14 @@ may_hold (state.RawData Rcdata) = true
 may_hold (state.AttributeValue kind) = true
 may_hold _ = false
 
--- whether a reference is held in one of them, if one is held
-abbrev pub fits_in : Option (List ℕ) → State → Bool
-fits_in None st = true
-fits_in (Some cs) st = may_hold st
+-- Some text behind this one makes a reference of both, which takes all of this.
+pub record BeginsReference (in_value : Bool) (rows : List Row) (cs : List ℕ) : Type 0 where
+  pub more : List ℕ
+  pub reference : Reference
+  pub is : reference_at in_value rows (cs ++ more) ≡ Some reference
+  pub whole : length cs ≤ reference.len
+
+-- whether a reference is held in one of them, of which more may follow, if one is held
+abbrev pub fits_in : List Row → Option (List ℕ) → State → Bool
+fits_in rows None st = true
+fits_in rows (Some cs) st = is_held_front rows cs && may_hold st

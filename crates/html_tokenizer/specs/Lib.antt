@@ -8,6 +8,7 @@ pub mod Keywords
 pub mod Laws
 pub mod Pieces
 pub mod Quotes
+pub mod Ready
 pub mod Rest
 pub mod Steps
 pub mod Stops

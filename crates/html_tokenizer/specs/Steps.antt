@@ -8,8 +8,9 @@ use Rattle.html_tokens.specs.declared.replies.TokenSinkResult.{TokenSinkResult}
 use Rattle.html_tokens.specs.declared.replies.TokenSinkResult.TheVariants as reply
 use Rattle.html_tokens.specs.declared.states.State.{State}
 use Rattle.html_tokens.specs.declared.states.State.TheVariants as state
+use Rattle.html_tokens.specs.declared.tags.Tag.{Tag}
 use Rattle.html_tokens.specs.declared.token.Token.{Token}
-use Rattle.html_tokens.specs.declared.token.Token.TheVariants.{TagToken, ParseError}
+use Rattle.html_tokens.specs.declared.token.Token.TheVariants.{TagToken, ParseError, EOFToken}
 use Rattle.html_tokens.specs.declared.sink.TokenSink.{Ghosts}
 use Rattle.html_tokens.specs.Item.{Fault, Grave, Slight, grave_if, InData, Stand, Item}
 use Rattle.html_tokens.specs.Notes.{Notes, one_if, noting, noting_error, noting_cdata, noting_end}
@@ -26,18 +27,16 @@ pub record IsAt {K : Type 0} (k : Tokenizer K) (st : State) : Type 0 where
   pub state : k.state ≡ st
   pub fresh : k.char_ref ≡ None
 
--- where a character hands back control: it is the ">" of a tag, behind which comes data, and nothing is held
-abbrev pub PausesAt : {K H : Type 0} → ProcessResult H → ℕ → Tokenizer K → Type 0
-PausesAt flow.Continue c k = Unit {0}
-PausesAt flow.Suspend c k = ⊥
-PausesAt (flow.Script handle) c k = (c ≡ 62) × IsAt k state.Data
-PausesAt (flow.EncodingIndicator label) c k = (c ≡ 62) × IsAt k state.Data
-
 -- a token that is neither a tag nor an error
 abbrev pub IsNoTag : Token → Type 0
 IsNoTag (TagToken tag) = ⊥
 IsNoTag (ParseError message) = ⊥
 IsNoTag _ = Unit {0}
+
+-- a token of the text: any but the end of the input
+abbrev pub IsOfText : Token → Type 0
+IsOfText EOFToken = ⊥
+IsOfText _ = Unit {0}
 
 -- the pauses so far, and the one with which a call hands back control
 abbrev pub paused_by : {H : Type 0} → (H → ℕ) → List Reply → ProcessResult H → List Reply
@@ -128,50 +127,91 @@ module _ {K H : Type 0} (Sink : Ghosts K H) where
   abbrev pub now : Tokenizer K → ℕ → Sink.State × Notes ℕ → List ℕ → Result (Sink.State × Notes ℕ) (Refusal × ℕ)
   now k b s t = held (noting Sink.step Sink.is_quiet) noting_error (noting_cdata Sink.asks_cdata) (noting_end Sink.ended) k b s t
 
-  -- some token was so refused
-  pub record WasRefused (refusal : Refusal) : Type 0 where
-    pub before : Sink.State
-    pub token : Token
-    pub line : ℕ
-    pub is : Sink.step before token line ≡ Err refusal
+  -- What stays of a sink: it had failed before where it has failed, and it works through the same loans.
+  pub record Stays (old new : K) : Type 0 where
+    pub failed : Sink.has_failed new ≡ true → Sink.has_failed old ≡ true
+    pub loans : Sink.references new ≡ Sink.references old
 
-  -- A call with this sink that was to give this has failed so: a refusal is the sink's, and what was to be given is
-  -- refused too; and the sink had failed before where it so answered.
-  abbrev pub Fails : K → {A F : Type 0} → Result A F → ParseFault → Type 0
-  Fails sink given Memory = Unit {0}
-  Fails sink given TokenInText = IsErr given × WasRefused InText
-  Fails sink given Ended = IsErr given × WasRefused AfterEnd
-  Fails sink given Shape = IsErr given × WasRefused Unfit
-  Fails sink given Failed = Sink.has_failed sink ≡ true
+  -- The same where a call failed, and that the sink is in a sound state unless it has failed.
+  pub record Fell (old new : K) : Type 0 where
+    pub sound : Sink.has_failed new ≡ false → Sink.is_sound (Sink.view new)
+    pub loans : Sink.references new ≡ Sink.references old
+
+  -- in this state some such token is so refused
+  pub record IsRefused (among : Token → Type 0) (state : Sink.State) (refusal : Refusal) : Type 0 where
+    pub token : Token
+    pub is_among : among token
+    pub line : ℕ
+    pub is : Sink.step state token line ≡ Err refusal
+
+  -- A call with the sink old, which left it as new and was to give this, has failed so: a refusal is the sink's, which stands
+  -- before the token that it refuses, and what was to be given is refused too; and the sink had failed before where it so answered.
+  abbrev pub FailsAmong : (Token → Type 0) → K → K → {A F : Type 0} → Result A F → ParseFault → Type 0
+  FailsAmong among old new given Memory = Unit {0}
+  FailsAmong among old new given TokenInText = IsErr given × IsRefused among (Sink.view new) InText
+  FailsAmong among old new given Ended = IsErr given × IsRefused among (Sink.view new) AfterEnd
+  FailsAmong among old new given Shape = IsErr given × IsRefused among (Sink.view new) Unfit
+  FailsAmong among old new given Failed = Sink.has_failed old ≡ true
+
+  -- the same where the token is one of the text
+  abbrev pub Fails : K → K → {A F : Type 0} → Result A F → ParseFault → Type 0
+  Fails old new given fault = FailsAmong IsOfText old new given fault
+
+  -- A call failed so, and left its sink so.
+  abbrev pub Falls : K → K → {A F : Type 0} → Result A F → ParseFault → Type 0
+  Falls old new given fault = Fell old new × Fails old new given fault
+
+  -- The same of a call that was to tell an error: every token fails so.
+  abbrev pub FallsAll : K → K → ParseFault → Type 0
+  FallsAll old new fault = Fell old new × ((token : Token) (line : ℕ) → Fails old new (Sink.step (Sink.view old) token line) fault)
+
+  -- The sink stands where a tag led it, to which it gave this reply.
+  pub record Replied (new : K) (answer : Reply) : Type 0 where
+    pub before : Sink.State
+    pub sound : Sink.is_sound before
+    pub tag : Tag
+    pub line : ℕ
+    pub is : Sink.step before (TagToken tag) line ≡ Ok (Sink.view new, answer)
+
+  -- Where a character hands back control: it is the ">" of a tag, of which this is the reply, behind which comes data, and nothing
+  -- is held.
+  abbrev pub PausesAt : ProcessResult H → ℕ → Tokenizer K → Type 0
+  PausesAt flow.Continue c k = Unit {0}
+  PausesAt flow.Suspend c k = ⊥
+  PausesAt (flow.Script handle) c k = (c ≡ 62) × IsAt k state.Data × Replied k.sink (reply.Script (Sink.number handle))
+  PausesAt (flow.EncodingIndicator label) c k = (c ≡ 62) × IsAt k state.Data × Replied k.sink (reply.EncodingIndicator label)
 
   -- The token has gone to the sink, which answered only that reading goes on, behind what is owed. Nothing else changes.
   pub record Told (owed : Owed) (token : Token) (old new : Tokenizer K) : Type 0 where
     pub gives : (line : ℕ) → line ≡ line_number old.stream.breaks → Sink.step (Sink.view old.sink) token line ≡ Ok (Sink.view new.sink, reply.Continue)
     pub changed : new ≡ record old { sink = new.sink }
     pub sound : Sink.is_sound (Sink.view new.sink)
-    pub works : Sink.has_failed new.sink ≡ false
+    pub stays : Stays old.sink new.sink
     pub rises : Rises Sink.errors (and_heard (Sink.is_quiet (Sink.view old.sink) token) owed) old.sink new.sink
 
+  abbrev pub TellsAmong : (Token → Type 0) → Owed → Token → Tokenizer K → Tokenizer K → Result (Unit {0}) ParseFault → Type 0
+  TellsAmong among owed token old new (Ok x) = Told owed token old new
+  TellsAmong among owed token old new (Err fault) = Fell old.sink new.sink × FailsAmong among old.sink new.sink (Sink.step (Sink.view old.sink) token (line_number old.stream.breaks)) fault
+
   abbrev pub Tells : Owed → Token → Tokenizer K → Tokenizer K → Result (Unit {0}) ParseFault → Type 0
-  Tells owed token old new (Ok x) = Told owed token old new
-  Tells owed token old new (Err fault) = Fails old.sink (Sink.step (Sink.view old.sink) token (line_number old.stream.breaks)) fault
+  Tells owed token old new result = TellsAmong IsOfText owed token old new result
 
   -- The same of a call that then goes on to the next character.
   abbrev pub TakesAs : Owed → Token → Tokenizer K → Tokenizer K → Result (ProcessResult H) ParseFault → Type 0
   TakesAs owed token old new (Ok flow.Continue) = Told owed token old new
   TakesAs owed token old new (Ok _) = ⊥
-  TakesAs owed token old new (Err fault) = Fails old.sink (Sink.step (Sink.view old.sink) token (line_number old.stream.breaks)) fault
+  TakesAs owed token old new (Err fault) = Falls old.sink new.sink (Sink.step (Sink.view old.sink) token (line_number old.stream.breaks)) fault
 
   -- What is owed has been told, which changes nothing that the sink stands for.
   pub record Erred (owed : Owed) (old new : Tokenizer K) : Type 0 where
     pub sink : Sink.view new.sink ≡ Sink.view old.sink
     pub changed : new ≡ record old { sink = new.sink }
-    pub works : Sink.has_failed new.sink ≡ true → Sink.has_failed old.sink ≡ true
+    pub stays : Stays old.sink new.sink
     pub rises : Rises Sink.errors owed old.sink new.sink
 
   abbrev pub Errs : Owed → Tokenizer K → Tokenizer K → Result (Unit {0}) ParseFault → Type 0
   Errs owed old new (Ok x) = Erred owed old new
-  Errs owed old new (Err fault) = (token : Token) (line : ℕ) → Fails old.sink (Sink.step (Sink.view old.sink) token line) fault
+  Errs owed old new (Err fault) = FallsAll old.sink new.sink fault
 
   -- Whatever follows, the machine makes of it what it would have made of it behind c, which owed this.
   pub record Took (old new : Tokenizer K) (c : ℕ) (result : ProcessResult H) : Type 0 where
@@ -180,13 +220,13 @@ module _ {K H : Type 0} (Sink : Ghosts K H) where
     pub rises : Rises Sink.errors owed old.sink new.sink
     pub stream : new.stream ≡ old.stream
     pub sound : Sink.is_sound (Sink.view new.sink)
-    pub fits : fits_in new.char_ref new.state ≡ true
-    pub works : Sink.has_failed new.sink ≡ true → Sink.has_failed old.sink ≡ true
+    pub fits : fits_in (rows_of new) new.char_ref new.state ≡ true
+    pub stays : Stays old.sink new.sink
     pub paused : PausesAt result c new
 
   abbrev pub Keeps : Tokenizer K → Tokenizer K → ℕ → Result (ProcessResult H) ParseFault → Type 0
   Keeps old new c (Ok result) = Took old new c result
-  Keeps old new c (Err fault) = (notes : Notes ℕ) (t : List ℕ) → Fails old.sink (now old old.stream.breaks (Sink.view old.sink, notes) (c ∷ t)) fault
+  Keeps old new c (Err fault) = Fell old.sink new.sink × ((notes : Notes ℕ) (t : List ℕ) → Fails old.sink new.sink (now old old.stream.breaks (Sink.view old.sink, notes) (c ∷ t)) fault)
 
   -- what a tag owes
   abbrev pub owed_by : Tokenizer K → Owed
@@ -200,10 +240,10 @@ module _ {K H : Type 0} (Sink : Ghosts K H) where
     pub rises : Rises Sink.errors (owed_by old) old.sink new.sink
     pub stream : new.stream ≡ old.stream
     pub sound : Sink.is_sound (Sink.view new.sink)
-    pub fits : fits_in new.char_ref new.state ≡ true
-    pub works : Sink.has_failed new.sink ≡ false
+    pub fits : fits_in (rows_of new) new.char_ref new.state ≡ true
+    pub stays : Stays old.sink new.sink
     pub paused : PausesAt result 62 new
 
   abbrev pub EndsTag : Tokenizer K → Tokenizer K → Result (ProcessResult H) ParseFault → Type 0
   EndsTag old new (Ok result) = EndedTag old new result
-  EndsTag old new (Err fault) = Fails old.sink (Sink.step (Sink.view old.sink) (TagToken old.tag) (line_number old.stream.breaks)) fault
+  EndsTag old new (Err fault) = Falls old.sink new.sink (Sink.step (Sink.view old.sink) (TagToken old.tag) (line_number old.stream.breaks)) fault

@@ -68,6 +68,7 @@ impl<Sink: TokenSink> Tokenizer<Sink> {
     fn finish_attribute(&mut self) -> Result<(), ParseFault>
         ensures ok { OnOk result (self.new ≡ record self.old { tag = with_attribute self.old.tag self.old.attribute_name self.old.attribute_value; attribute_name = []; attribute_value = [] }) }
         ensures fault { IfErr result (λ fault. fault ≡ Memory) }
+        ensures sink { self.new.sink ≡ self.old.sink }
     {
         let alloc = self.stream.alloc;
         let name = mem::replace(&mut self.attribute_name, Text::empty(alloc));
@@ -85,6 +86,7 @@ impl<Sink: TokenSink> Tokenizer<Sink> {
     fn finish_without_value(&mut self) -> Result<(), ParseFault>
         ensures ok { OnOk result (self.new ≡ record self.old { tag = with_attribute self.old.tag self.old.attribute_name []; attribute_name = []; attribute_value = [] }) }
         ensures fault { IfErr result (λ fault. fault ≡ Memory) }
+        ensures sink { self.new.sink ≡ self.old.sink }
     {
         self.attribute_value = Text::empty(self.stream.alloc);
         self.finish_attribute()

@@ -4,7 +4,7 @@ ghost use Rattle.html_tokens.specs.TextState.{is_text_state};
 ghost use Rattle.html_tokens.specs.Item.{InPlaintext};
 ghost use Rattle.html_tokens.specs.Reading.{first_place};
 ghost use Rattle.html_tokens.specs.declared.states.State.TheVariants as state;
-ghost use Rattle.html_tokenizer.specs.Calls.{refusal, refusal_of, has_ended, text_place, is_nothing_pending, IsReadyIf, IsNew, ReadsAt, FeedGives, EndGives, TellsEnd, Refuses};
+ghost use Rattle.html_tokenizer.specs.Calls.{refusal, refusal_of, has_ended, text_place, is_nothing_pending, IsReadyIf, IsNew, ReadsAt, FeedGives, EndGives, KeepsSound, TellsEnd, Refuses};
 
 use crate::doctype_states::no_doctype;
 use crate::keyword::Keyword;
@@ -13,9 +13,9 @@ use crate::tag_states::nameless;
 use crate::tokenizer::{Stream, Tokenizer};
 use html_queue::BufferQueue;
 use html_references::References;
+use html_tokens::TokenizerOpts;
 use html_tokens::sink::TokenSink;
 use html_tokens::states::State;
-use html_tokens::{Token, TokenizerOpts};
 use markup::{ParseFault, Text, TokenizerResult};
 use std::alloc::Global;
 
@@ -88,9 +88,11 @@ impl<Sink: TokenSink> Tokenizer<Sink> {
     /// end tag of a script, or a `meta` element that names an encoding. Behind a pause a later call goes on; text may be
     /// put at the input's front meanwhile, as `document.write` does.
     ///
-    /// What the input does not yet decide is held: a tag, a comment, a doctype or a reference that may go on. Errors:
-    /// what the sink refuses is passed on, and `Memory`; from then on every call answers `Failed`, as it does where the
-    /// sink had failed. `Ended` once the end was told, which changes nothing.
+    /// What the input does not yet decide is held: a tag, a comment, a doctype or a reference that may go on.
+    ///
+    /// Errors: what the sink refuses is passed on; the sink then stands before the token that it refused, and the input
+    /// behind the character that led to it. `Memory` where memory is wanting. From then on every call answers `Failed`, as
+    /// it does where the sink had failed. `Ended` once the end was told, which changes nothing.
     pub fn feed(
         &mut self,
         input: &mut BufferQueue,
@@ -98,6 +100,8 @@ impl<Sink: TokenSink> Tokenizer<Sink> {
         requires ready { IsReadyIf Sink.TokenSink (refusal_of self.old) self.old }
         ensures gives { FeedGives Sink.TokenSink (refusal_of self.old) self.old self.new input.old input.new result }
         ensures ready { IsReadyIf Sink.TokenSink (refusal_of self.new) self.new }
+        ensures sound { KeepsSound Sink.TokenSink self.old.sink self.new.sink }
+        ensures loans { Sink.references self.new.sink ≡ Sink.references self.old.sink }
     {
         self.stream.refuses()?;
         match self.run(input) {
@@ -115,7 +119,7 @@ impl<Sink: TokenSink> Tokenizer<Sink> {
         ensures { TellsEnd Sink.TokenSink self.old self.new result }
     {
         self.tell_held()?;
-        self.tell(Token::EOFToken)
+        self.tell_end_of_input()
     }
 
     /// Ends the input: tells what is held, then `EOFToken`, then the sink's `end`.
@@ -126,6 +130,8 @@ impl<Sink: TokenSink> Tokenizer<Sink> {
         requires ready { IsReadyIf Sink.TokenSink (refusal_of self.old) self.old }
         ensures gives { EndGives Sink.TokenSink (refusal_of self.old) self.old self.new result }
         ensures ready { IsReadyIf Sink.TokenSink (refusal_of self.new) self.new }
+        ensures sound { KeepsSound Sink.TokenSink self.old.sink self.new.sink }
+        ensures loans { Sink.references self.new.sink ≡ Sink.references self.old.sink }
     {
         self.stream.refuses()?;
         match self.tell_end() {

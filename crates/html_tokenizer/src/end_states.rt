@@ -4,6 +4,7 @@ ghost use Rattle.std.specs.List.{list_all};
 ghost use Rattle.html_tokens.specs.declared.states.RawKind.TheVariants as raw;
 ghost use Rattle.html_tokens.specs.declared.states.State.TheVariants as state;
 ghost use Rattle.html_tokenizer.specs.Calls.{Closes};
+ghost use Rattle.html_tokenizer.specs.Rest.{rows_of};
 ghost use Rattle.html_tokenizer.specs.CharRefs.{fits_in, is_held, may_hold};
 ghost use Rattle.html_tokenizer.specs.EndText.{is_told_text, is_tag_part, is_escaped};
 ghost use Rattle.html_tokenizer.specs.Steps.{IsAt, Errs, owed_for};
@@ -255,7 +256,7 @@ impl<Sink: TokenSink> Tokenizer<Sink> {
 
     /// Hands out what is held where the input ends.
     pub(crate) fn tell_held(&mut self) -> Result<(), ParseFault>
-        requires fits { fits_in self.old.char_ref self.old.state ≡ true }
+        requires fits { fits_in (rows_of self.old) self.old.char_ref self.old.state ≡ true }
         requires sound { Sink.is_sound (Sink.view self.old.sink) }
         ensures { Closes Sink.TokenSink self.old self.new result }
     {

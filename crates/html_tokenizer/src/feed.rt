@@ -1,5 +1,5 @@
 //! The input, taken piece by piece.
-ghost use Rattle.std.specs.Prelude.{◌≡◌, IfOk, IfErr};
+ghost use Rattle.std.specs.Prelude.{◌≡◌, IfOk, IfErr, OnErr};
 ghost use Rattle.markup.specs.declared.fault.ParseFault.TheVariants.{Memory};
 ghost use Rattle.html_tokenizer.specs.Calls.{IsReady, KeepsText, Moves, NextsAt, Runs};
 ghost use Rattle.html_tokenizer.specs.Stops.{IsRunAt};
@@ -17,6 +17,7 @@ impl<Sink: TokenSink> Tokenizer<Sink> {
         ensures ok { IfOk result (NextsAt self.old self.new.stream input.old input.new) }
         ensures kept { self.new ≡ record self.old { stream = self.new.stream } }
         ensures err { IfErr result (λ fault. fault ≡ Memory) }
+        ensures left { OnErr result (input.new ≡ input.old) }
     {
         match self.stops() {
             Some(stops) => self.stream.next_piece(stops, input),

@@ -4,7 +4,7 @@ ghost use Rattle.std.specs.Char.{is_ascii_alphabetic, to_ascii_lowercase};
 ghost use Rattle.std.specs.List.{list_all};
 ghost use Rattle.std.specs.Str.{chars};
 ghost use Rattle.markup.specs.declared.fault.ParseFault.TheVariants.{Memory};
-ghost use Rattle.html_tokenizer.specs.Words.{same_any_case};
+ghost use Rattle.html_tokenizer.specs.Words.{has_next, same_any_case};
 
 use markup::{ParseFault, Text};
 use std::alloc::Global;
@@ -79,6 +79,17 @@ impl Letters {
         ensures letters { list_all is_ascii_alphabetic self.now ≡ true }
     {
         name.eq_ignore_ascii_case(self.text.as_str())
+    }
+
+    /// Whether a name has this letter, in any case, behind as many letters as stand here.
+    pub(crate) fn is_next_in(&self, name: &str, letter: char) -> bool
+        ensures { result ≡ has_next name.now self.now letter }
+    {
+        let place = self.text.as_str().len();
+        if place >= name.len() {
+            return false;
+        }
+        char::from(name.as_bytes()[place]).to_ascii_lowercase() == letter.to_ascii_lowercase()
     }
 
     /// Whether this is `script`, in any case.

@@ -1,9 +1,9 @@
 //! Numeric character references (HTML Standard, sections 13.2.5.75 to 13.2.5.80).
-ghost use Rattle.std.specs.Prelude.{◌≡◌, ◌≤◌, min, length};
+ghost use Rattle.std.specs.Prelude.{◌≡◌, ◌≤◌, ◌∷◌, [], ◌++◌, true, false, not, min, length};
 ghost use Rattle.std.specs.Option.{is_some, option_map, unwrap_or};
 ghost use Rattle.html_tokens.specs.Characters.{run};
 ghost use Rattle.html_tokens.specs.Reference;
-ghost use Rattle.html_tokenizer.specs.CharRefs.{base_of, is_faulty_digits, is_faulty_number, is_faulty_numeric, reference_of, stops};
+ghost use Rattle.html_tokenizer.specs.CharRefs.{are_digits, base_of, is_faulty_digits, is_faulty_number, is_faulty_numeric, is_number_front, reference_of, stops};
 
 use crate::characters::is_forbidden;
 
@@ -72,6 +72,46 @@ fn stops(hex: bool, byte: u8) -> bool
         !byte.is_ascii_hexdigit()
     } else {
         !byte.is_ascii_digit()
+    }
+}
+
+/// Whether a character is a digit of base 16, or else of base 10.
+fn is_digit(hex: bool, c: char) -> bool
+    ensures { result ≡ not (stops hex c) }
+{
+    if hex {
+        c.is_ascii_hexdigit()
+    } else {
+        c.is_ascii_digit()
+    }
+}
+
+/// Whether digits, with `;` or nothing behind them, go on by a character.
+fn digits_go_on(hex: bool, digits: &[u8], c: char) -> bool
+    requires { are_digits (stops hex) false digits.now ≡ true }
+    ensures { result ≡ are_digits (stops hex) false (digits.now ++ c ∷ []) }
+{
+    if digits.ends_with(b";") {
+        return false;
+    }
+    if is_digit(hex, c) {
+        return true;
+    }
+    if digits.is_empty() {
+        return false;
+    }
+    c == ';'
+}
+
+/// Whether a number goes on by a character, behind `&#`.
+pub(crate) fn goes_on(text: &[u8], c: char) -> bool
+    requires { is_number_front text.now ≡ true }
+    ensures { result ≡ is_number_front (text.now ++ c ∷ []) }
+{
+    match text {
+        [] => c == 'x' || c == 'X' || is_digit(false, c),
+        [b'x' | b'X', digits @ ..] => digits_go_on(true, digits, c),
+        _ => digits_go_on(false, text, c),
     }
 }
 

@@ -1,12 +1,12 @@
 //! Text that only its own end tag ends (HTML Standard, sections 13.2.5.2 to 13.2.5.4, 13.2.5.9 to 13.2.5.17 and 13.2.5.20 to 13.2.5.30).
-ghost use Rattle.std.specs.Prelude.{◌≡◌, ◌∷◌, true, false};
+ghost use Rattle.std.specs.Prelude.{◌≡◌, ◌∷◌, ◌++◌, ◌⊎◌, ℕ, List, true, false};
 ghost use Rattle.std.specs.Char.{is_ascii_alphabetic};
 ghost use Rattle.std.specs.List.{list_all};
 ghost use Rattle.html_tokens.specs.declared.states.State.TheVariants as state;
 ghost use Rattle.html_tokens.specs.declared.states.RawKind.TheVariants as raw;
 ghost use Rattle.html_tokens.specs.declared.states.ScriptEscapeKind.TheVariants as script;
 ghost use Rattle.html_tokens.specs.declared.token.Token.TheVariants.{CharacterTokens};
-ghost use Rattle.html_tokens.specs.RawText.{ends_at_tag, has_references};
+ghost use Rattle.html_tokens.specs.RawText.{ends_at_tag, has_references, is_fitting_end};
 ghost use Rattle.html_tokenizer.specs.Steps.{IsAt, Tells, Keeps, nothing_owed};
 ghost use Rattle.html_tokenizer.specs.Words.{ends_raw_text, may_escape};
 
@@ -202,7 +202,8 @@ impl<Sink: TokenSink> Tokenizer<Sink> {
         requires sound { Sink.is_sound (Sink.view self.old.sink) }
         ensures { Keeps Sink.TokenSink self.old self.new c result }
     {
-        if c.is_ascii_alphabetic() {
+        let no_letters = Letters::new(self.stream.alloc);
+        if self.goes_on_name(kind, &no_letters, c) {
             self.word = Letters::first(self.stream.alloc, c)?;
             self.state = State::RawEndTagName(kind);
             return Ok(ProcessResult::Continue);
@@ -222,7 +223,7 @@ impl<Sink: TokenSink> Tokenizer<Sink> {
         requires sound { Sink.is_sound (Sink.view self.old.sink) }
         ensures { Keeps Sink.TokenSink self.old self.new c result }
     {
-        if c.is_ascii_alphabetic() {
+        if self.goes_on_name(kind, &self.word, c) {
             self.word.push(c)?;
             return Ok(ProcessResult::Continue);
         }
@@ -275,6 +276,25 @@ impl<Sink: TokenSink> Tokenizer<Sink> {
         self.state = State::ScriptDataDoubleEscapeEnd;
         self.tell_end_tag()?;
         self.script_data_double_escape_end_state(c)
+    }
+
+    /// Whether a word goes on by a character as the name of the end tag that ends text of this kind.
+    fn goes_on_name(&self, kind: RawKind, word: &Letters, c: char) -> bool
+        ensures letter { result ≡ true → is_ascii_alphabetic c ≡ true }
+        ensures apart { result ≡ false → ends_raw_text self.now.last_start_tag word.now c ≡ false → (t : List ℕ) → is_fitting_end self.now.last_start_tag (47 ∷ (word.now ++ c ∷ t)) ≡ false }
+        ensures kind { result ≡ false → (is_ascii_alphabetic c ≡ false) ⊎ (ends_at_tag kind ≡ true) }
+    {
+        let _letters = word.as_str();
+        if !c.is_ascii_alphabetic() {
+            return false;
+        }
+        if !ends_at_tag(kind) {
+            return true;
+        }
+        match &self.last_start_tag {
+            Some(name) => word.is_next_in(name.as_str(), c),
+            None => false,
+        }
     }
 
     /// Whether the word that is held, with this character behind it, is the fitting end tag's name.

@@ -4,7 +4,7 @@ ghost use Rattle.html_tokens.specs.Reference.{fault_of_reference};
 ghost use Rattle.html_tokens.specs.declared.states.RawKind.TheVariants as raw;
 ghost use Rattle.html_tokens.specs.declared.states.State.TheVariants as state;
 ghost use Rattle.html_tokens.specs.declared.token.Token.TheVariants.{CharacterTokens};
-ghost use Rattle.html_tokenizer.specs.CharRefs.{IsDecided, may_hold, resolved};
+ghost use Rattle.html_tokenizer.specs.CharRefs.{IsDecided, is_held_front, may_hold, resolved};
 ghost use Rattle.html_tokenizer.specs.Rest.{rows_of};
 ghost use Rattle.html_tokenizer.specs.Steps.{IsAt, Keeps, Tells, owed_for};
 
@@ -88,10 +88,12 @@ impl<Sink: TokenSink> Tokenizer<Sink> {
     ) -> Result<ProcessResult<Sink::Handle>, ParseFault>
         requires fresh { self.old.char_ref ≡ None }
         requires fits { may_hold self.old.state ≡ true }
+        requires front { is_held_front (rows_of self.old) held ≡ true }
         requires sound { Sink.is_sound (Sink.view self.old.sink) }
         ensures { Keeps Sink.TokenSink (record self.old { char_ref = Some held }) self.new c result }
     {
-        if may_go_on(&self.stream.table, &held, c) {
+        let goes_on = may_go_on(self.stream.alloc, &self.stream.table, &held, c)?;
+        if goes_on {
             held.push(c)?;
             self.char_ref = Some(held);
             return Ok(ProcessResult::Continue);

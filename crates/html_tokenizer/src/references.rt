@@ -1,10 +1,10 @@
 //! What a reference that was held stands for (HTML Standard, sections 13.2.5.72 to 13.2.5.80).
-ghost use Rattle.std.specs.Prelude.{◌≡◌, ◌≤◌, ◌&&◌, not, nat_eq, ◌∷◌, [], ◌++◌, IfErr, IfSome, IsTrue, OnOk, length, true};
+ghost use Rattle.std.specs.Prelude.{◌≡◌, ◌≤◌, ◌&&◌, not, nat_eq, ◌∷◌, [], ◌++◌, IfErr, IfOk, IfSome, IsTrue, OnOk, length, true};
 ghost use Rattle.std.specs.Option.{is_some, option_map};
 ghost use Rattle.std.specs.List.{list_all};
 ghost use Rattle.std.specs.Str.{chars};
 ghost use Rattle.html_tokens.specs.Reference.{goes_on_at};
-ghost use Rattle.html_references.specs.References.{IsCheckedTable, has_values, is_reference_name, is_reference_value, longest};
+ghost use Rattle.html_references.specs.References.{IsCheckedTable, has_values, is_front, is_reference_name, is_reference_value, longest};
 ghost use Rattle.markup.specs.declared.fault.ParseFault.TheVariants.{Memory};
 ghost use Rattle.html_tokenizer.specs.CharRefs;
 ghost use Rattle.html_tokens.specs.Table.{values};
@@ -14,26 +14,52 @@ use crate::numbers::{self, Found};
 use html_references::References;
 use html_tokens::table::ReferenceRow;
 use markup::{ParseFault, Text};
+use std::alloc::Global;
 
-/// Whether names and digits are written with this character.
-fn is_named_with(c: char) -> bool
-    ensures { result ≡ CharRefs.is_named_with c }
+/// Whether letters, digits, `#` and `;` are written with this character.
+fn is_held(c: char) -> bool
+    ensures { result ≡ CharRefs.is_held c }
 {
-    c.is_ascii_alphanumeric() || c == ';'
+    c.is_ascii_alphanumeric() || c == ';' || c == '#'
 }
 
-/// Whether a reference may go on by this character.
-pub(crate) fn may_go_on(table: &References, held: &HeldReference, c: char) -> bool
-    ensures is { result ≡ CharRefs.may_go_on table.now held.now c }
+/// Whether some name begins with a text and then this character.
+fn name_goes_on(
+    alloc: Global,
+    table: &References,
+    held: &HeldReference,
+    c: char,
+) -> Result<bool, ParseFault>
+    ensures is { IfOk result (λ goes_on. goes_on ≡ is_front table.now (held.now ++ c ∷ [])) }
+    ensures fault { IfErr result (λ fault. fault ≡ Memory) }
+{
+    let mut longer = Text::from_str(alloc, held.as_str())?;
+    longer.push(c)?;
+    Ok(table.is_front(longer.as_str()))
+}
+
+/// Whether a reference of which this is held may go on by this character, to one that some text behind both makes.
+pub(crate) fn may_go_on(
+    alloc: Global,
+    table: &References,
+    held: &HeldReference,
+    c: char,
+) -> Result<bool, ParseFault>
+    requires { CharRefs.is_held_front table.now held.now ≡ true }
+    ensures is { IfOk result (λ goes_on. goes_on ≡ CharRefs.may_go_on table.now held.now c) }
     ensures table { IsCheckedTable table.now }
     ensures held { list_all CharRefs.is_held held.now ≡ true }
+    ensures fault { IfErr result (λ fault. fault ≡ Memory) }
 {
     let _rows = table.rows();
     let text = held.as_str();
+    if !is_held(c) {
+        return Ok(false);
+    }
     match text.as_bytes().first() {
-        None => is_named_with(c) || c == '#',
-        Some(b'#') => is_named_with(c) && !text.as_bytes().ends_with(b";"),
-        Some(_) => is_named_with(c) && table.goes_on(text),
+        None if c == '#' => Ok(true),
+        Some(b'#') => Ok(numbers::goes_on(&text.as_bytes()[1..], c)),
+        _ => name_goes_on(alloc, table, held, c),
     }
 }
 

@@ -1,6 +1,7 @@
 //! One character of the input, with its line and its own errors.
 ghost use Rattle.std.specs.Prelude.{◌≡◌, ◌∷◌, [], true};
 ghost use Rattle.html_tokenizer.specs.Calls.{Passes, counted, owed_for_text};
+ghost use Rattle.html_tokenizer.specs.Rest.{rows_of};
 ghost use Rattle.html_tokenizer.specs.CharRefs.{fits_in};
 ghost use Rattle.html_tokenizer.specs.Steps.{Errs, Keeps};
 
@@ -36,7 +37,7 @@ impl<Sink: TokenSink> Tokenizer<Sink> {
     /// Takes a character, by the reference that is held if there is one.
     fn advance(&mut self, c: char) -> Result<ProcessResult<Sink::Handle>, ParseFault>
         requires sound { Sink.is_sound (Sink.view self.old.sink) }
-        requires fits { fits_in self.old.char_ref self.old.state ≡ true }
+        requires fits { fits_in (rows_of self.old) self.old.char_ref self.old.state ≡ true }
         ensures { Keeps Sink.TokenSink self.old self.new c result }
     {
         match self.char_ref.take() {
@@ -48,7 +49,7 @@ impl<Sink: TokenSink> Tokenizer<Sink> {
     /// Takes a character, and counts its line.
     pub(crate) fn take(&mut self, c: char) -> Result<ProcessResult<Sink::Handle>, ParseFault>
         requires sound { Sink.is_sound (Sink.view self.old.sink) }
-        requires fits { fits_in self.old.char_ref self.old.state ≡ true }
+        requires fits { fits_in (rows_of self.old) self.old.char_ref self.old.state ≡ true }
         ensures { Passes Sink.TokenSink self.old self.new c result }
     {
         self.tell_forbidden(c)?;

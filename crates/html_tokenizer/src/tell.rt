@@ -1,9 +1,9 @@
 //! How the machine speaks to its sink.
 ghost use Rattle.std.specs.Prelude.{◌≡◌, ◌∷◌, [], nat_eq, is_some};
-ghost use Rattle.html_tokens.specs.declared.token.Token.TheVariants.{CharacterTokens};
+ghost use Rattle.html_tokens.specs.declared.token.Token.TheVariants.{CharacterTokens, EOFToken};
 ghost use Rattle.html_tokens.specs.Characters.{shown};
 ghost use Rattle.html_tokens.specs.Reading.{line_number};
-ghost use Rattle.html_tokenizer.specs.Steps.{IsNoTag, Tells, Errs, nothing_owed, a_fault, owed_for};
+ghost use Rattle.html_tokenizer.specs.Steps.{IsNoTag, IsOfText, Tells, TellsAmong, Errs, nothing_owed, a_fault, owed_for};
 ghost use Rattle.html_tokens.specs.Item.{grave_if};
 
 use crate::tokenizer::Tokenizer;
@@ -20,14 +20,25 @@ impl<Sink: TokenSink> Tokenizer<Sink> {
         self.stream.breaks.saturating_add(1)
     }
 
-    /// Hands out a token that is no tag.
+    /// Hands out a token of the text that is no tag.
     pub(crate) fn tell(&mut self, token: Token) -> Result<(), ParseFault>
         requires no_tag { IsNoTag token }
+        requires of_text { IsOfText token }
         requires sound { Sink.is_sound (Sink.view self.old.sink) }
         ensures { Tells Sink.TokenSink nothing_owed token self.old self.new result }
     {
         let line = self.line();
         let _reply = self.sink.process_token(token, line)?;
+        Ok(())
+    }
+
+    /// Hands out the end of the input.
+    pub(crate) fn tell_end_of_input(&mut self) -> Result<(), ParseFault>
+        requires sound { Sink.is_sound (Sink.view self.old.sink) }
+        ensures { TellsAmong Sink.TokenSink (λ token. Unit {0}) nothing_owed EOFToken self.old self.new result }
+    {
+        let line = self.line();
+        let _reply = self.sink.process_token(Token::EOFToken, line)?;
         Ok(())
     }
 
@@ -94,6 +105,7 @@ impl<Sink: TokenSink> Tokenizer<Sink> {
         token: Token,
     ) -> Result<(), ParseFault>
         requires no_tag { IsNoTag token }
+        requires of_text { IsOfText token }
         requires sound { Sink.is_sound (Sink.view self.old.sink) }
         ensures { Tells Sink.TokenSink a_fault token self.old self.new result }
     {

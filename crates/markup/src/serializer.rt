@@ -123,9 +123,9 @@ pub trait Serializer {
     fn write_processing_instruction(
         &mut self,
         target: &str,
-        data: &str,
+        contents: &str,
     ) -> Result<(), SerializeFault>
-        ensures answers { Answers step refuses (view self.old) (WriteProcessingInstruction (chars target.now) (chars data.now)) result (view self.new) }
+        ensures answers { Answers step refuses (view self.old) (WriteProcessingInstruction (chars target.now) (chars contents.now)) result (view self.new) }
         ensures same_references { references self.new ≡ references self.old };
 }
 

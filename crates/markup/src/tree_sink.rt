@@ -23,6 +23,7 @@ pub trait TreeSink {
     ghost use Rattle.markup.specs.Forest.{Forest, IsForest, IsNode, IsParent, MayPut, add_attributes, add_error, children_of, create_element, data_of, element_name, is_among, Above, node_count, parent_of, place_before, place_near, put_child, put_new, remove, reparent_children, set_quirks, with_node};
     ghost use Rattle.markup.specs.Forest.NodeData.{Comment, Doctype, ProcessingInstruction};
     ghost use Rattle.markup.specs.Forest.Place.{Last};
+    ghost use Rattle.markup.specs.TreeLaws.{with_errors};
 
     /// Names a node.
     type Handle: Copy;
@@ -39,7 +40,8 @@ pub trait TreeSink {
     /// What the end makes of the sink.
     ghost finish_gives: { Self → Self.Output → Type 0 };
 
-    /// At which elements of MathML, named `annotation-xml`, the sink says that HTML may stand in them.
+    /// At which elements of MathML, named `annotation-xml`, the sink says that HTML may stand in them. No such answer looks at the number of
+    /// errors.
     ghost integration_point: { Forest → ℕ → Bool } = { λ f n. false };
 
     /// In which documents a `template` may become a shadow root.
@@ -193,12 +195,12 @@ pub trait TreeSink {
     /// Whether HTML may stand in an element, which is then MathML's `annotation-xml` (HTML Standard, section 13.2.6). Most sinks answer `false`.
     fn is_mathml_annotation_xml_integration_point(&self, target: &Self::Handle) -> bool
         requires { IsNode (forest self.now) (node target.now) }
-        ensures { result ≡ integration_point (forest self.now) (node target.now) };
+        ensures { result ≡ integration_point (with_errors 0 (forest self.now)) (node target.now) };
 
     /// Whether a `template` may become a shadow root in the document of a node. Most sinks answer `true`.
     fn allow_declarative_shadow_roots(&self, intended_parent: &Self::Handle) -> bool
         requires { IsNode (forest self.now) (node intended_parent.now) }
-        ensures { result ≡ allows_shadow_roots (forest self.now) (node intended_parent.now) };
+        ensures { result ≡ allows_shadow_roots (with_errors 0 (forest self.now)) (node intended_parent.now) };
 
     /// Makes a `template` the shadow root of `host`, and says whether that was done. Sinks without shadow trees answer `false`.
     fn attach_declarative_shadow(
@@ -209,7 +211,7 @@ pub trait TreeSink {
     ) -> bool
         requires host { IsNode (forest self.old) (node host.now) }
         requires template { IsNode (forest self.old) (node template.now) }
-        ensures attached { result ≡ attaches_shadow (forest self.old) (node host.now) (node template.now) attributes.now }
+        ensures attached { result ≡ attaches_shadow (with_errors 0 (forest self.old)) (node host.now) (node template.now) attributes.now }
         ensures same { forest self.new ≡ forest self.old };
 
     /// Told of a script that must not run, as one in a fragment. It does nothing by default.

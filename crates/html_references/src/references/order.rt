@@ -1,7 +1,7 @@
 //! Looking names up in a table whose rows are ordered.
 ghost use Rattle.std.specs.Prelude.{◌≡◌, ◌<◌, ◌≤◌, ℕ, false, length, IsTrue, IfOk, IfErr, IfSome, IfNone, slice_get};
 ghost use Rattle.std.specs.Option.{option_and_then};
-ghost use Rattle.html_references.specs.References.{goes_on, is_named, is_reference_name, longest};
+ghost use Rattle.html_references.specs.References.{goes_on, is_front, is_named, is_reference_name, longest};
 ghost use Rattle.html_references.specs.Order.{IsBefore, IsOrder, IsOrdered, IsPlaceOf, name_at, ordered_name};
 
 use crate::references::ReferenceRow;
@@ -73,6 +73,17 @@ fn find(rows: &[ReferenceRow], order: &[usize], name: &[u8]) -> Option<usize>
     match search(rows, order, name) {
         Ok(index) => Some(order[index]),
         Err(_) => None,
+    }
+}
+
+// Whether some name begins with a text.
+pub fn is_front(rows: &[ReferenceRow], order: &[usize], text: &[u8]) -> bool
+    requires { IsOrder rows.now order.now }
+    ensures { result ≡ is_front rows.now text.now }
+{
+    match find(rows, order, text) {
+        Some(_) => true,
+        None => goes_on(rows, order, text),
     }
 }
 

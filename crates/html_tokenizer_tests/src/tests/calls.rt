@@ -40,12 +40,29 @@ const PENDING: &[(&str, bool)] = &[
     ("<a>", true),
     ("&", false),
     ("&am", false),
+    ("&z", true),
+    ("&ampx", true),
+    ("&amp;x", true),
+    ("&#", false),
+    ("&#6", false),
+    ("&#x", false),
+    ("&#65;", false),
+    ("&#zz", true),
+    ("&#xz", true),
+    ("&#;", true),
+    ("&#65a", true),
+    ("&#x41;;", true),
+    ("<a b='&z", false),
     ("&amp; ", true),
     ("<!--a", false),
     ("<!doctype", false),
     ("<?a", false),
     ("<title>a", true),
     ("<title>a</titl", false),
+    ("<title>a</", false),
+    ("<title>a</ab", true),
+    ("<title>a</tx", true),
+    ("<title>a</titles", true),
     ("<title>&", false),
     ("<script><!-- ", false),
     ("<plaintext>&</plaintext", true),
@@ -86,6 +103,38 @@ fn assert_at_start<S: TokenSink + Drop>(
 {
     let tokenizer = tokenizer_over(alloc, sink, setting)?;
     assert!(rt; tokenizer.nothing_pending() && !tokenizer.has_ended());
+    Ok(())
+}
+
+// Texts, and what is told of them before the end is: tokens, and text behind them.
+const TOLD: &[(&str, &str, &str)] = &[
+    ("a<b>c", "text \"a\"; start b", "c"),
+    ("a&am", "", "a"),
+    ("&z", "", "&z"),
+    ("&ampx", "", "&ampx"),
+    ("&#zz", "", "&#zz"),
+    ("&#65a", "", "Aa"),
+    ("&#x41;;", "", "A;"),
+    ("<title>&</ab", "start title", "&</ab"),
+    ("<title>a</titl", "start title", "a"),
+    ("<!--a", "", ""),
+];
+
+/// Sees what a text tells before the end.
+fn assert_told(rt: &impl Abort, alloc: Global, row: (&str, &str, &str)) -> Result<(), ParseFault> {
+    let (text, told, behind_them) = row;
+    let tokenizer = behind(alloc, list_of(alloc, PAGE), text)?;
+    let words = in_words(alloc, &tokenizer.sink)?;
+    assert_eq!(rt; words.as_str(), told, "{text}");
+    assert_eq!(rt; tokenizer.sink.text.as_str(), behind_them, "{text}");
+    Ok(())
+}
+
+#[test]
+fn what_is_decided_is_told_before_the_end(rt: HostRuntime) -> Result<(), Fail> {
+    for &row in TOLD {
+        assert_told(&rt, rt.alloc(), row)?;
+    }
     Ok(())
 }
 

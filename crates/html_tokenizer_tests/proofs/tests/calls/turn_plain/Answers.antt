@@ -4,7 +4,9 @@ use Rattle.html_tokens.specs.TextState.{is_text_state}
 use Rattle.html_tokens.specs.declared.states.State.{State}
 use Rattle.html_tokens.specs.declared.states.State.TheVariants as state
 use Rattle.html_tokenizer.specs.Calls.{refused_by, refusal, is_nothing_pending, IsReadyIf}
+use Rattle.html_tokens.specs.Table.{Row}
 use Rattle.html_tokenizer.specs.CharRefs.{fits_in}
+use Rattle.html_tokenizer.specs.Rest.{rows_of}
 use Rattle.html_tokenizer.specs.declared.tokenizer.Tokenizer.{Tokenizer}
 use Rattle.html_tokenizer_tests.proofs.tests.calls.turn_plain.Goals as goal
 use Rattle.html_tokens.specs.declared.sink.TokenSink.{Ghosts}
@@ -17,16 +19,16 @@ third true false false d h = absurd cc
 third false b false d h = absurd cc
 
 -- where no reference is held, any state will do
-fits-none : (held : Option (List ℕ)) (st : State) → is_none held ≡ true → fits_in held st ≡ true
-fits-none None st h = refl
-fits-none (Some cs) st h = absurd cc
+fits-none : (rows : List Row) (held : Option (List ℕ)) (st : State) → is_none held ≡ true → fits_in rows held st ≡ true
+fits-none rows None st h = refl
+fits-none rows (Some cs) st h = absurd cc
 
 module _ {K H : Type 0} (Sink : Ghosts K H) where
   ready-if : (failed ended : Bool) (k : Tokenizer K) → is_none k.char_ref ≡ true → IsReadyIf Sink (refused_by failed ended) k
       → IsReadyIf Sink (refused_by failed ended) (record k { state = state.Plaintext })
   ready-if true ended k none h = tt
   ready-if false true k none h = tt
-  ready-if false false k none h = record { sound = h.sound; fits = fits-none k.char_ref state.Plaintext none }
+  ready-if false false k none h = record { sound = h.sound; fits = fits-none (rows_of k) k.char_ref state.Plaintext none }
 
   -- A tokenizer that may be called, with nothing pending, may be called where all that follows is text.
   ready-plain : (k new : Tokenizer K) → is_nothing_pending k ≡ true → new ≡ record k { state = state.Plaintext } → IsReadyIf Sink (refusal k.stream) k
