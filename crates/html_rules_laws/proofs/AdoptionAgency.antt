@@ -2,7 +2,7 @@
 use Rattle.std.proofs.Common.{◌≡◌, ◌∙◌, ℕ, zero, suc, ◌<◌, Bool, true, false, List, [], ◌∷◌, ◌++◌, Option, Some, None, refl, sym, ap, subst, codes, arith}
 use Rattle.std.specs.Prelude.{◌&&◌, not}
 use Rattle.std.proofs.lemmas.List.{append_assoc}
-use Rattle.markup.specs.Forest.{Above, Forest, IsPlace, Last, Place, data_of, element_name, holds_children, node_count, put, remove, reparent_children}
+use Rattle.markup.specs.Forest.{Above, Forest, IsPlace, Last, Place, data_of, element_name, holds_children, node_count, parent_at, put, remove, reparent_children}
 use Rattle.markup.specs.Named.{IsTree}
 use Rattle.markup.proofs.Forests.{IsRemoved-remove}
 use Rattle.markup.proofs.PutTexts.{IsParent-document, KeepsNames, element-IsNode}
@@ -18,9 +18,9 @@ use Rattle.html_rules.specs.State.{Open, Entry, Element, State, current_is, curr
 use Rattle.html_rules.specs.declared.tag_set.TagSet.TheVariants as set
 use Rattle.html_rules_laws.specs.Adoptions.{AreAdoptionsStanding}
 use Rattle.html_rules_laws.specs.Soundness.{AreOpened, IsStanding, Standing}
-use Rattle.html_rules_laws.proofs.AdoptionPlace.{cut, place-Outer}
+use Rattle.html_rules_laws.proofs.AdoptionPlace.{IsOuter, cut, place-Outer}
 use Rattle.html_rules_laws.proofs.AdoptionOrder.{named-opened, opened-right}
-use Rattle.html_rules_laws.proofs.AdoptionStanding.{begun, begun-Walked, element-plain, outside-standing}
+use Rattle.html_rules_laws.proofs.AdoptionStanding.{IsMoved, begun, begun-Walked, element-plain, outside-moved, outside-standing}
 use Rattle.html_rules_laws.proofs.AdoptionWalk.{walk-Walked, without-listed}
 use Rattle.html_rules_laws.proofs.Standing.{IsPart, fewer-Standing, gone, kept, part-below, part-opened, part-same}
 use Rattle.html_rules_laws.proofs.StandingSteps.{Keeps, choose-Standing, generic-Standing, parse_error-Standing, pop-Standing, remove_from_stack-Standing}
@@ -53,10 +53,16 @@ adopted fe block w s h =
     (opened_after block.number s.open_elems) (opened_for f fe.tag ∷ block ∷ w.copies) (opened_before fe.number s.open_elems)
     (relist fe.number (Element (node_count f) fe.tag) w.copies w.active_formatting) h
 
--- with a furthest block
-adopt-Standing : (fe : Listed) (block : Open) (s : State) (left : ℕ) (ys : List Open) → Standing s → is_open fe.number s.open_elems ≡ true → in_scope set.DefaultScope (is_number fe.number) s.open_elems ≡ true
-    → furthest_block (opened_after fe.number s.open_elems) ≡ Some block → Standing (adopt fe block (walk left ys (begin_walk block s)) s)
-adopt-Standing fe block s left ys is there scope e =
+-- where the last node of a walk is put, with a furthest block
+pub record HasPlace (fe : Listed) (block : Open) (s : State) (left : ℕ) (ys : List Open) : Type 0 where
+  pub start : IsStanding s.forest (opened_after block.number s.open_elems ++ block ∷ opened_before fe.number s.open_elems) s.active_formatting
+  pub at : let w = walk left ys (begin_walk block s) in IsPlace (remove w.forest w.last_node) (place_for s.foster_parenting (remove w.forest w.last_node) s.open_elems (current_node (opened_before fe.number s.open_elems)))
+  pub outer : let w = walk left ys (begin_walk block s) in
+      IsOuter s.forest block (opened_after block.number s.open_elems) (parent_at (place_for s.foster_parenting (remove w.forest w.last_node) s.open_elems (current_node (opened_before fe.number s.open_elems))))
+
+pub has-place : (fe : Listed) (block : Open) (s : State) (left : ℕ) (ys : List Open) → Standing s → is_open fe.number s.open_elems ≡ true → in_scope set.DefaultScope (is_number fe.number) s.open_elems ≡ true
+    → furthest_block (opened_after fe.number s.open_elems) ≡ Some block → HasPlace fe block s left ys
+has-place fe block s left ys is there scope e =
     let f0 : Forest = s.forest in
     let xs : List Open = s.open_elems in
     let later : List Open = opened_after block.number xs in
@@ -77,22 +83,40 @@ adopt-Standing fe block s left ys is there scope e =
       holds = λ k at. let h = walked.names.holds k at in record { there = subst-count (removed.count) h.there; holds = ap holds_children (removed.same_data k) ∙ h.holds };
     } in
     let now : AreOpened r xs = named-opened f0 r xs names is.opened in
-    let place : Place = place_for s.foster_parenting r xs (current_node earlier) in
     let outside : (a n : ℕ) → n < node_count f0 → (Above f0 block.number n → ⊥) → Above r a n → Above f0 a n = λ a n less out up. walked.outside a n less out (Above-less w.forest r removed.less a n up) in
-    let outer = place-Outer f0 r s.foster_parenting fe.number block found.0 xs is.tree is.top is.opened is.apart now found.1 scope outside in
-    adopted fe block w s (outside-standing f0 block later earlier s.active_formatting left ys fe.number fe.tag place start
-    (before-Place s.foster_parenting r xs earlier tree now (part-opened r xs earlier (part-below (is_number fe.number) xs) now))
-    outer.there outer.under outer.none)
+    record {
+      start = start;
+      at = before-Place s.foster_parenting r xs earlier tree now (part-opened r xs earlier (part-below (is_number fe.number) xs) now);
+      outer = place-Outer f0 r s.foster_parenting fe.number block found.0 xs is.tree is.top is.opened is.apart now found.1 scope outside;
+    }
   where
     subst-count : {k m n : ℕ} → m ≡ n → k < n → k < m
     subst-count {k} {m} {n} e h = omega arith
+
+adopt-Standing : (fe : Listed) (block : Open) (s : State) (left : ℕ) (ys : List Open) → Standing s → is_open fe.number s.open_elems ≡ true → in_scope set.DefaultScope (is_number fe.number) s.open_elems ≡ true
+    → furthest_block (opened_after fe.number s.open_elems) ≡ Some block → Standing (adopt fe block (walk left ys (begin_walk block s)) s)
+adopt-Standing fe block s left ys is there scope e =
+    let h = has-place fe block s left ys is there scope e in
+    let w : Walk = walk left ys (begun s.forest block.number s.active_formatting) in
+    let place : Place = place_for s.foster_parenting (remove w.forest w.last_node) s.open_elems (current_node (opened_before fe.number s.open_elems)) in
+    adopted fe block w s (outside-standing s.forest block (opened_after block.number s.open_elems) (opened_before fe.number s.open_elems) s.active_formatting left ys fe.number fe.tag place h.start h.at h.outer.there h.outer.under h.outer.none)
+
+-- the block alone is moved
+pub adopt-moved : (fe : Listed) (block : Open) (s : State) (left : ℕ) (ys : List Open) → Standing s → is_open fe.number s.open_elems ≡ true → in_scope set.DefaultScope (is_number fe.number) s.open_elems ≡ true
+    → furthest_block (opened_after fe.number s.open_elems) ≡ Some block → IsMoved s.forest (adopt fe block (walk left ys (begin_walk block s)) s).forest block.number
+adopt-moved fe block s left ys is there scope e =
+    let h = has-place fe block s left ys is there scope e in
+    let w : Walk = walk left ys (begun s.forest block.number s.active_formatting) in
+    let place : Place = place_for s.foster_parenting (remove w.forest w.last_node) s.open_elems (current_node (opened_before fe.number s.open_elems)) in
+    let opened = (opened-right s.forest (opened_after block.number s.open_elems) (block ∷ opened_before fe.number s.open_elems) h.start.opened).0 in
+    outside-moved s.forest block s.active_formatting left ys fe.tag place is.tree is.listed opened h.at h.outer.there h.outer.under
 
 cut_at-Standing : (fe : Listed) → Keeps (cut_at fe)
 cut_at-Standing fe s is =
     let less = fewer-Standing s.forest s.active_formatting s.open_elems _ (part-below (is_number fe.number) s.open_elems) is in
     record { tree = less.tree; opened = less.opened; apart = less.apart; listed = without-listed s.forest fe.number s.active_formatting is.listed; top = less.top }
 
-unlist-Standing : (fe : Listed) → Keeps (unlist fe)
+pub unlist-Standing : (fe : Listed) → Keeps (unlist fe)
 unlist-Standing fe s is = record { tree = is.tree; opened = is.opened; apart = is.apart; listed = without-listed s.forest fe.number s.active_formatting is.listed; top = is.top }
 
 from-Standing : (fe : Listed) (s : State) (o : Option Open) → Standing s → is_open fe.number s.open_elems ≡ true → in_scope set.DefaultScope (is_number fe.number) s.open_elems ≡ true

@@ -77,6 +77,35 @@ stays-on_top f0 f g block q copies entries tag tree top is placed made = by (abo
       let itself : above_of g 0 ≡ Some 0 = e ∙ ap Some (above-top f0 m top old) in
       absurd (Above-child g made.tree.forest 0 0 itself Above.here)
 
+-- the older nodes keep their names, and those that a block is not above have nothing new above them
+pub record IsMoved (f0 g : Forest) (b : ℕ) : Type 0 where
+  pub names : (n : ℕ) (name : QualName) → element_name (data_of f0 n) ≡ Some name → element_name (data_of g n) ≡ Some name
+  pub outside : (a n : ℕ) → n < node_count f0 → (Above f0 b n → ⊥) → Above g a n → Above f0 a n
+
+-- so a turn leaves the tree, where the last node of the walk is put at a place that the block is not above
+pub outside-moved : (f0 : Forest) (block : Open) (entries : List Entry) (left : ℕ) (between : List Open) (tag : Tag) (place : Place) → IsTree f0 → AreListed f0 entries → IsOpened f0 block
+    → IsPlace (remove (walk left between (begun f0 block.number entries)).forest (walk left between (begun f0 block.number entries)).last_node) place
+    → parent_at place < node_count f0 → (Above f0 block.number (parent_at place) → ⊥)
+    → let w = walk left between (begun f0 block.number entries) in
+    let f = put (remove w.forest w.last_node) place w.last_node in
+    IsMoved f0 (put (reparent_children (with_copy f tag) block.number (node_count f)) (Last block.number) (node_count f)) block.number
+outside-moved f0 block entries left between tag place tree listed is at less out =
+    let b : ℕ = block.number in
+    let w : Walk = walk left between (begun f0 b entries) in
+    let there : b < node_count f0 = element-IsNode f0 b (element_name_of block.namespace block.name) is.named in
+    let walked = walk-Walked f0 b left between (begun f0 b entries) (begun-Walked f0 b entries tree listed there (element-plain (data_of f0 b) (element_name_of block.namespace block.name) is.named)) in
+    let placed = walked-Placed f0 b w place walked at less out in
+    let f : Forest = put (remove w.forest w.last_node) place w.last_node in
+    let named_f = placed.names.names b (element_name_of block.namespace block.name) is.named in
+    let made = adopted-Adopted f b tag placed.tree (IsParent-element f b (element_name_of block.namespace block.name) named_f) (element-plain (data_of f b) (element_name_of block.namespace block.name) named_f) in
+    record {
+      names = λ n name e. made.names.names n name (placed.names.names n name e);
+      outside = λ a n less' out' up.
+          let more = placed.count in
+          let less'' : n < node_count f = omega arith in
+          placed.outside a n less' out' (made.clean a n less'' (λ above. out' (placed.outside b n less' out' above)) up);
+    }
+
 -- With a block, elements that were opened after it, and those that were opened before the formatting element: where the last node of the walk is put at a
 -- place whose parent neither the block nor a later element stands above, all that is open behind the turn is in order.
 pub outside-standing : (f0 : Forest) (block : Open) (later earlier : List Open) (entries : List Entry) (left : ℕ) (between : List Open) (formatting_element : ℕ) (tag : Tag) (place : Place)

@@ -17,6 +17,7 @@ pub mod LouderAdoption
 pub mod LouderSteps
 pub mod LouderTurns
 pub mod Names
+pub mod Nesting
 pub mod ReachedRows
 pub mod Reopened
 pub mod Replies
@@ -29,6 +30,8 @@ pub mod StandingActions
 pub mod StandingSteps
 pub mod StandingTrees
 pub mod StepLaws
+pub mod Taken
 pub mod Tame
 pub mod TotalRows
+pub mod Upright
 pub mod Uses

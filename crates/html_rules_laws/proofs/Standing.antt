@@ -88,11 +88,11 @@ stays-listed f g (Marker ∷ entries) is h = stays-listed f g entries is h
 stays-listed f g (Element n tag ∷ entries) is h = (is.names.names n (element_name_of Html tag.name) h.0, stays-listed f g entries is h.1)
 
 -- only the document itself is above the document
-above-top : (f : Forest) (a : ℕ) → above_of f 0 ≡ None → Above f a 0 → a ≡ 0
+pub above-top : (f : Forest) (a : ℕ) → above_of f 0 ≡ None → Above f a 0 → a ≡ 0
 above-top f a e Above.here = refl
 above-top f a e (Above.further is up) = absurd (cc)
 
-stays-top : (f g : Forest) → IsTree f → Stays f g → above_of f 0 ≡ None → above_of g 0 ≡ None
+pub stays-top : (f g : Forest) → IsTree f → Stays f g → above_of f 0 ≡ None → above_of g 0 ≡ None
 stays-top f g tree is e = by (above_of g 0) refl where
   by : (o : Option ℕ) → above_of g 0 ≡ o → above_of g 0 ≡ None
   by None e' = e'

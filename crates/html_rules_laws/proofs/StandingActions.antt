@@ -56,7 +56,7 @@ attributes-data f n others what is there e k =
       | inr other ↦ ap what (data_of-with_data_other f n (with_attributes (data_of f n) others) k other)
     ]
 
-stays-attributes : (f : Forest) (n : ℕ) (others : List Attribute) → IsTree f → n < node_count f → Stays f (add_attributes f n others)
+pub stays-attributes : (f : Forest) (n : ℕ) (others : List Attribute) → IsTree f → n < node_count f → Stays f (add_attributes f n others)
 stays-attributes f n others tree there =
     let g : Forest = add_attributes f n others in
     let is = IsInPlace-add_attributes f n others tree.forest there in
@@ -108,6 +108,10 @@ body-IsNode f (x ∷ y ∷ ys) h = by (is_in set.Body y) where
   by true = h.1.0
   by false = tt
 
+-- the body is a node
+pub body-there : (s : State) → Standing s → IfSome (body_elem s.open_elems) (λ n. n < node_count s.forest)
+body-there s is = body-IsNode s.forest (reverse s.open_elems) (nodes-reverse s.forest s.open_elems (nodes-opened s.forest s.open_elems is.opened))
+
 add_to-Standing : (o : Option ℕ) (attributes : List Attribute) (s : State) → IfSome o (λ n. n < node_count s.forest) → Standing s → Standing (add_attributes_to o attributes s)
 add_to-Standing None attributes s h is = is
 add_to-Standing (Some n) attributes s h is = changed-Standing s.forest (add_attributes s.forest n attributes) s.open_elems s.active_formatting (stays-attributes s.forest n attributes is.tree h) is
@@ -115,9 +119,9 @@ add_to-Standing (Some n) attributes s h is = changed-Standing s.forest (add_attr
 pub body_attributes-Standing : (attributes : List Attribute) → Keeps (add_attributes_to_body attributes)
 unfolding add_attributes_to_body
 body_attributes-Standing attributes s is =
-    add_to-Standing (body_elem s.open_elems) attributes s (body-IsNode s.forest (reverse s.open_elems) (nodes-reverse s.forest s.open_elems (nodes-opened s.forest s.open_elems is.opened))) is
+    add_to-Standing (body_elem s.open_elems) attributes s (body-there s is) is
 
-stays-removed : (f : Forest) (n : ℕ) → IsTree f → Stays f (remove f n)
+pub stays-removed : (f : Forest) (n : ℕ) → IsTree f → Stays f (remove f n)
 stays-removed f n tree =
     let g : Forest = remove f n in
     let is = IsRemoved-remove f n tree.forest in
@@ -130,7 +134,7 @@ stays-removed f n tree =
       above = λ a k less up. Above-less f g is.less a k up;
     }
 
-remove_if-Standing : (o : Option ℕ) → Keeps (remove_if o)
+pub remove_if-Standing : (o : Option ℕ) → Keeps (remove_if o)
 remove_if-Standing None s is = is
 remove_if-Standing (Some n) s is = changed-Standing s.forest (remove s.forest n) s.open_elems s.active_formatting (stays-removed s.forest n is.tree) is
 
@@ -178,7 +182,7 @@ enter_foreign-Standing namespace tag own s is =
     (insert_element-Standing namespace tag.name (adjust_attributes namespace tag.attrs) tag.had_duplicate_attributes own s is)
 
 -- the namespace of the adjusted current node is one of the three, or no name of theirs
-own-by : (f : Forest) (context : Option Open) (xs : List Open) → IfSome context (λ c. IsOwn c.namespace) → AreOpened f xs → IfSome (adjusted_by context xs) (λ x. IsOwn x.namespace)
+pub own-by : (f : Forest) (context : Option Open) (xs : List Open) → IfSome context (λ c. IsOwn c.namespace) → AreOpened f xs → IfSome (adjusted_by context xs) (λ x. IsOwn x.namespace)
 own-by f context [] c h = tt
 own-by f None (x ∷ xs) c h = h.0.own
 own-by f (Some context) (x ∷ []) c h = c

@@ -102,10 +102,10 @@ unfolding append_text
 append_text-Standing text s is =
     changed-Standing s.forest _ s.open_elems s.active_formatting (stays-text s.forest _ text is.tree (current-Place s.foster_parenting s.forest s.open_elems is.tree is.opened)) is
 
-comment-ordinary : (text : List ℕ) → IsOrdinary (Comment text)
+pub comment-ordinary : (text : List ℕ) → IsOrdinary (Comment text)
 comment-ordinary text = record { contents = refl; template = refl; name = refl }
 
-doctype-ordinary : (name public_id system_id : List ℕ) → IsOrdinary (DoctypeNode name public_id system_id)
+pub doctype-ordinary : (name public_id system_id : List ℕ) → IsOrdinary (DoctypeNode name public_id system_id)
 doctype-ordinary name public_id system_id = record { contents = refl; template = refl; name = refl }
 
 pub append_comment-Standing : (text : List ℕ) → Keeps (append_comment text)
@@ -204,7 +204,7 @@ pub clear-Standing : Keeps clear_active_formatting_to_marker
 unfolding clear_active_formatting_to_marker
 clear-Standing s is = relisted-Standing (behind_marker s.active_formatting) s is (behind-listed s.forest s.active_formatting is.listed)
 
-reopen-Standing : (entries : List Entry) (s : State) → AreListed s.forest entries → Standing s → Standing (reopen entries s)
+pub reopen-Standing : (entries : List Entry) (s : State) → AreListed s.forest entries → Standing s → Standing (reopen entries s)
 reopen-Standing [] s h is = relisted-Standing [] s is tt
 reopen-Standing (Marker ∷ entries) s h is = relisted-Standing (Marker ∷ entries) s is h
 reopen-Standing (Element n tag ∷ entries) s h is =

@@ -100,7 +100,7 @@ ended-step : (s : State) (t : Token) (line : ℕ) → s.has_ended ≡ true → s
 unfolding refusal_with
 ended-step s t line e = step-is s t line true (is_idle t) (is_fit s) (is_barred s.mode t) e refl refl refl
 
-idle-step : (s : State) (t : Token) (line : ℕ) → s.has_ended ≡ false → is_idle t ≡ true → step s t line ≡ Ok (s, reply.Continue)
+pub idle-step : (s : State) (t : Token) (line : ℕ) → s.has_ended ≡ false → is_idle t ≡ true → step s t line ≡ Ok (s, reply.Continue)
 unfolding refusal_with
 idle-step s t line e i = step-is s t line false true (is_fit s) (is_barred s.mode t) e i refl refl ∙ ap (λ b. Ok (choose b (λ _. (s, reply.Continue)) (λ _. answered (taken t (hushed s))))) i
 

@@ -200,14 +200,14 @@ reconstruct-tame s l = reopen-tame s.active_formatting l s
 
 -- the adoption agency
 
-without-listed : (n : ℕ) (entries : List Entry) → are_formatting entries ≡ true → are_formatting (without_entry n entries) ≡ true
+pub without-listed : (n : ℕ) (entries : List Entry) → are_formatting entries ≡ true → are_formatting (without_entry n entries) ≡ true
 without-listed n [] h = h
 without-listed n (entry ∷ entries) h = choose-listed (stands_for n entry) entries _ (tail-listed entry entries h) (cons-listed entry entries _ h (without-listed n entries (tail-listed entry entries h)))
 
 head-listed : (new : ℕ) (tag : Tag) (entries : List Entry) → is_among tag.name (names_of set.FormattingEnd) ≡ true → are_formatting entries ≡ true → are_formatting (Element new tag ∷ entries) ≡ true
 head-listed new tag entries h k = rw (h, k) refl
 
-in_place-listed : (n new : ℕ) (tag : Tag) → is_among tag.name (names_of set.FormattingEnd) ≡ true → (entries : List Entry) → are_formatting entries ≡ true → are_formatting (with_in_place n (Element new tag) entries) ≡ true
+pub in_place-listed : (n new : ℕ) (tag : Tag) → is_among tag.name (names_of set.FormattingEnd) ≡ true → (entries : List Entry) → are_formatting entries ≡ true → are_formatting (with_in_place n (Element new tag) entries) ≡ true
 in_place-listed n new tag t [] h = h
 in_place-listed n new tag t (entry ∷ entries) h =
     choose-listed (stands_for n entry) _ _ (head-listed new tag entries t (tail-listed entry entries h)) (cons-listed entry entries _ h (in_place-listed n new tag t entries (tail-listed entry entries h)))
@@ -230,14 +230,14 @@ choose-formatting : (b : Bool) (x y : Option Listed) → IfSome x (λ listed. is
 choose-formatting true x y h k = h
 choose-formatting false x y h k = k
 
-as-formatting : (n : ℕ) (entries : List Entry) → are_formatting entries ≡ true → IfSome (listed_as n entries) (λ listed. is_among listed.tag.name (names_of set.FormattingEnd) ≡ true)
+pub as-formatting : (n : ℕ) (entries : List Entry) → are_formatting entries ≡ true → IfSome (listed_as n entries) (λ listed. is_among listed.tag.name (names_of set.FormattingEnd) ≡ true)
 as-formatting n [] h = tt
 as-formatting n (Marker ∷ entries) h = as-formatting n entries h
 as-formatting n (Element m tag ∷ entries) h =
     let parts = and_parts (is_among tag.name (names_of set.FormattingEnd)) (are_formatting entries) h in
     choose-formatting (nat_eq m n) _ _ parts.0 (as-formatting n entries parts.1)
 
-named-formatting : (name : List ℕ) (entries : List Entry) → are_formatting entries ≡ true → IfSome (last_named name entries) (λ listed. is_among listed.tag.name (names_of set.FormattingEnd) ≡ true)
+pub named-formatting : (name : List ℕ) (entries : List Entry) → are_formatting entries ≡ true → IfSome (last_named name entries) (λ listed. is_among listed.tag.name (names_of set.FormattingEnd) ≡ true)
 named-formatting name [] h = tt
 named-formatting name (Marker ∷ entries) h = tt
 named-formatting name (Element m tag ∷ entries) h =
@@ -260,6 +260,10 @@ walked-well left [] w is = is
 walked-well zero (x ∷ xs) w is = walked-well zero xs (record w { active_formatting = without_entry x.number w.active_formatting }) (record { plain = is.plain; listed = without-listed x.number w.active_formatting is.listed })
 walked-well (suc left) (x ∷ xs) w is = walked-well left xs (copy_if (listed_as x.number w.active_formatting) w) (copied-well (listed_as x.number w.active_formatting) w (as-formatting x.number w.active_formatting is.listed) is)
 
+-- the copies of a walk were made for formatting elements
+pub walked-plain : (left : ℕ) (xs : List Open) (block : Open) (s : State) → are_formatting s.active_formatting ≡ true → ArePlain (walk left xs (begin_walk block s)).copies
+walked-plain left xs block s l = (walked-well left xs (begin_walk block s) (record { plain = tt; listed = l })).plain
+
 adopt-tame : (fe : Listed) (block : Open) (w : Walk) (s : State) → is_among fe.tag.name (names_of set.FormattingEnd) ≡ true → WalksWell w → is_open fe.number s.open_elems ≡ true
     → furthest_block (opened_after fe.number s.open_elems) ≡ Some block → IsTame s (adopt fe block w s)
 adopt-tame fe block w s t is there e =
@@ -281,7 +285,7 @@ open-tame fe s t l there = by (current_is (is_number fe.number) s.open_elems) wh
   by true = from-tame fe s (furthest_block (opened_after fe.number s.open_elems)) t l there refl
   by false = after-tame s (parse_error s) _ (parse_error-tame s l) (λ l. from-tame fe (parse_error s) (furthest_block (opened_after fe.number s.open_elems)) t l there refl)
 
-turned-tame : (o : Option Listed) (name : List ℕ) (s : State) → IfSome o (λ listed. is_among listed.tag.name (names_of set.FormattingEnd) ≡ true) → are_formatting s.active_formatting ≡ true → IsTame s (adopt_listed o name s).state
+pub turned-tame : (o : Option Listed) (name : List ℕ) (s : State) → IfSome o (λ listed. is_among listed.tag.name (names_of set.FormattingEnd) ≡ true) → are_formatting s.active_formatting ≡ true → IsTame s (adopt_listed o name s).state
 turned-tame None name s t l = generic-tame name s l
 turned-tame (Some fe) name s t l = by (is_open fe.number s.open_elems) (in_scope set.DefaultScope (is_number fe.number) s.open_elems) refl where
   by : (a b : Bool) → is_open fe.number s.open_elems ≡ a → IsTame s (choose (not a) (λ _. record { state = unlist fe (parse_error s); goes_on = false }) (λ _. choose (not b) (λ _. record { state = parse_error s; goes_on = false }) (λ _. adopt_open fe s))).state

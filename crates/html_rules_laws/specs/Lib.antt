@@ -1,10 +1,14 @@
 pub mod Adoptions
+pub mod EachText
 pub mod Errors
+pub mod Held
 pub mod Lawful
+pub mod Nesting
 pub mod Placing
 pub mod Ready
 pub mod Settled
 pub mod Sink
 pub mod Sound
 pub mod Soundness
+pub mod Upright
 pub mod WholeTable

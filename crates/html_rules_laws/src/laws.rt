@@ -1,10 +1,13 @@
 //! Laws of the rules of tree construction. Each function's contract is one law.
 ghost use Rattle.html_rules_laws.specs.Adoptions.{AreAdoptionsStanding};
+ghost use Rattle.html_rules_laws.specs.EachText.{IsEachTextTaken};
 ghost use Rattle.html_rules_laws.specs.Errors.{AreErrorsCounted};
 ghost use Rattle.html_rules_laws.specs.Lawful.{AreTokensTakenLawfully};
+ghost use Rattle.html_rules_laws.specs.Nesting.{AreNestedStatesFit, AreReachedStatesFit};
 ghost use Rattle.html_rules_laws.specs.Settled.{IsEachTokenSettled};
 ghost use Rattle.html_rules_laws.specs.Sink.{AreRulesLawful};
 ghost use Rattle.html_rules_laws.specs.Soundness.{AreActionsStanding};
+ghost use Rattle.html_rules_laws.specs.Upright.{AreStatesSteady};
 
 /// The rules do not look at the number of errors, and only count it on.
 pub fn errors_are_counted()
@@ -38,4 +41,28 @@ pub fn each_token_is_settled()
 /// token and the end lead, they keep all its laws.
 pub fn rules_are_a_lawful_sink()
     ensures { AreRulesLawful }
+{}
+
+/// Every token and the end keep the tree a tree with the document on top, the open elements elements of it, and no later one an
+/// earlier one or above one, from the states before a document or a fragment on, and so does each turn of a token: all that
+/// is put may be put where it is, also where the head is opened again (HTML Standard, section 13.2.6.4.6).
+pub fn tokens_keep_elements_standing()
+    ensures { AreStatesSteady }
+{}
+
+/// A state in which the parts of pages, tables and templates nest takes tokens: it is never refused as unfit. Documents and fragments
+/// begin in such states, and each turn leads to one.
+pub fn nested_states_fit()
+    ensures { AreNestedStatesFit }
+{}
+
+/// Tokens keep the parts nested. So every state to which tokens lead, from the states before a document or a fragment on, fits its
+/// mode, and no token is refused as unfit.
+pub fn reached_states_fit()
+    ensures { AreReachedStatesFit }
+{}
+
+/// Each text has a document, and a fragment for each context: no token of its reading is refused, whatever the options.
+pub fn each_text_has_a_document()
+    ensures { IsEachTextTaken }
 {}

@@ -58,7 +58,7 @@ plain-of (StartsBut names) tag h k n = plain-name tag.name (out_of tag.name name
 plain-of (EndsBut names) tag h k n = plain-name tag.name (out_of tag.name names h (not_true _ (and_parts (is_end_tag tag.kind) _ k).1)) n
 plain-of kind tag h k n = no k
 
-formatting-of : (kind : Kind) (tag : Tag) → formatting_kind kind ≡ true → is_of kind (TagToken tag) ≡ true → is_among tag.name (names_of set.FormattingEnd) ≡ true
+pub formatting-of : (kind : Kind) (tag : Tag) → formatting_kind kind ≡ true → is_of kind (TagToken tag) ≡ true → is_among tag.name (names_of set.FormattingEnd) ≡ true
 formatting-of (Starts names) tag h k = among-all tag.name names (names_of set.FormattingEnd) h (and_parts (is_start_tag tag.kind) _ k).1
 formatting-of (Ends names) tag h k = among-all tag.name names (names_of set.FormattingEnd) h (and_parts (is_end_tag tag.kind) _ k).1
 formatting-of (StartsBut names) tag h k = no h

@@ -21,6 +21,7 @@ use Rattle.html_rules.specs.Templates.{insert_template}
 use Rattle.html_rules.specs.declared.insertion_mode.InsertionMode.{InsertionMode}
 use Rattle.html_rules.specs.declared.insertion_mode.InsertionMode.TheVariants as mode
 use Rattle.html_rules.specs.declared.tag_set.TagSet.TheVariants as set
+use Rattle.html_rules_laws.specs.Held.{Held}
 use Rattle.html_rules_laws.specs.Placing.{are_general, stand_well}
 use Rattle.html_rules_laws.specs.Ready.{are_formatting}
 use Rattle.html_rules_laws.specs.Sound.{is_later, is_own}
@@ -28,13 +29,13 @@ use Rattle.html_rules_laws.proofs.Aside.{after, push_head-Aside, template-Aside,
 use Rattle.html_rules_laws.proofs.Firm.{IsPlain}
 use Rattle.html_rules_laws.proofs.Settling.Kinds.{Kind, Starts, is_of}
 use Rattle.html_rules_laws.proofs.Soundness.Acts.{act-aside, act-tame, plain-of}
-use Rattle.html_rules_laws.proofs.Soundness.Moves.{Held, held-some, not_html-template, still-tame, template-general, template-topped}
+use Rattle.html_rules_laws.proofs.Soundness.Moves.{held-some, not_html-template, still-tame, template-general, template-topped}
 use Rattle.html_rules_laws.proofs.Soundness.Rows.{IsCalm, opens, opens-held, quiet-held, raw_text_only, raw_only-held, starts_plain, starts_template, tame-calm, void-same}
 use Rattle.html_rules_laws.proofs.Soundness.Specials.{calm-well}
 use Rattle.html_rules_laws.proofs.Bools.{both, no}
 
 -- the head again
-abbrev again : ℕ → Open
+abbrev pub again : ℕ → Open
 again n = record { number = n; namespace = Html; name = codes "head" }
 
 -- over it another element was opened, and one of the two is taken out
@@ -48,7 +49,7 @@ taken-out n x xs = by (nat_eq x.number n) where
   by true = inr refl
   by false = inl (ap (λ ys. x ∷ ys) inner)
 
-alone : (n : ℕ) (xs : List Open) → without_number n (again n ∷ xs) ≡ xs
+pub alone : (n : ℕ) (xs : List Open) → without_number n (again n ∷ xs) ≡ xs
 alone n xs = rw (eq-eqb n n refl) refl
 
 -- an own element over what is open, where its text is read
@@ -140,7 +141,7 @@ none-held kind a e h using t f script s is at = no h
 
 -- such rows leave the pointer to the head as it is
 
-raw-same : (a : Action) → raw_text_only a ≡ true → (t : Token) (s : State) → (act a t s).head_elem ≡ s.head_elem
+pub raw-same : (a : Action) → raw_text_only a ≡ true → (t : Token) (s : State) → (act a t s).head_elem ≡ s.head_elem
 unfolding set_mode keep_mode insert_element
 raw-same (Then InsertElement (Then KeepMode (SwitchTo mode.Text))) h (TagToken tag) s = refl
 raw-same (Then InsertElement (Then KeepMode (SwitchTo mode.Text))) h t s = refl
@@ -151,7 +152,7 @@ tagged-same : (t : Token) (q : State) → (for_tag insert_template t q).head_ele
 tagged-same (TagToken tag) q = (template-Aside tag q).head
 tagged-same t q = refl
 
-opens-same : (a : Action) → opens a ≡ true → (t : Token) (s : State) → (act a t s).head_elem ≡ s.head_elem
+pub opens-same : (a : Action) → opens a ≡ true → (t : Token) (s : State) → (act a t s).head_elem ≡ s.head_elem
 unfolding push_marker frameset_not_ok set_mode push_template_mode
 opens-same (Then InsertMarker (Then FramesetNotOk (Then (SwitchTo mode.InTemplate) (Then (PushTemplateMode mode.InTemplate) InsertTemplate)))) h t s = tagged-same t _
 opens-same a h t s = no h
@@ -224,7 +225,7 @@ either-head : (o : Option ℕ) (q : State) → q.head_elem ≡ o → IsCalm q �
 either-head None q k is at kind a e h using t f script = none-held kind a e h using t f script q is at
 either-head (Some n) q k is at kind a e h using t f script = some-held kind a e h using t f script n q at is.held
 
-push-head-same : (o : Option ℕ) (q : State) → (push_head o q).head_elem ≡ q.head_elem
+pub push-head-same : (o : Option ℕ) (q : State) → (push_head o q).head_elem ≡ q.head_elem
 push-head-same None q = refl
 push-head-same (Some n) q = refl
 

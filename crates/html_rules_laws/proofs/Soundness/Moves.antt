@@ -1,5 +1,5 @@
 -- Steps between sound states.
-use Rattle.std.proofs.Common.{◌≡◌, ◌∙◌, ℕ, suc, ◌+◌, ◌≤◌, Bool, true, false, List, [], ◌∷◌, length, Option, Some, None, refl, sym, ap, true≢false, arith, inl, inr}
+use Rattle.std.proofs.Common.{◌≡◌, ◌∙◌, ℕ, suc, ◌≤◌, Bool, true, false, List, [], ◌∷◌, length, Option, Some, None, refl, sym, ap, true≢false, arith, inl, inr}
 use Rattle.std.specs.Prelude.{◌||◌, not, is_some}
 use Rattle.std.proofs.lemmas.Bool.{and_parts}
 use Rattle.markup.specs.Forest.{node_count}
@@ -19,6 +19,7 @@ use Rattle.html_rules.specs.Templates.{insert_template, may_be_shadow_root}
 use Rattle.html_rules.specs.declared.insertion_mode.InsertionMode.{InsertionMode}
 use Rattle.html_rules.specs.declared.insertion_mode.InsertionMode.TheVariants as mode
 use Rattle.html_rules.specs.declared.tag_set.TagSet.TheVariants as set
+use Rattle.html_rules_laws.specs.Held.{HasRoot, Held, wanted}
 use Rattle.html_rules_laws.specs.Placing.{are_general, is_in_head, may_stand_over, stand_well}
 use Rattle.html_rules_laws.specs.Ready.{are_formatting}
 use Rattle.html_rules_laws.specs.Settled.{are_template_modes, is_template_mode}
@@ -29,23 +30,6 @@ use Rattle.html_rules_laws.proofs.SetFacts.{in-apart}
 use Rattle.html_rules_laws.proofs.Standing.{part-below}
 use Rattle.html_rules_laws.proofs.Tame.{IsTame}
 use Rattle.html_rules_laws.proofs.Bools.{both, or_true}
-
--- how many template modes there are to be
-abbrev pub wanted : State → ℕ
-wanted s = open_templates s.open_elems + one_if (context_is set.Template s.context_elem)
-
--- where a root is wanted, there is one
-abbrev pub HasRoot : State → Type 0
-HasRoot s = is_later s.mode ≡ true → has_open set.Html s.open_elems ≡ true
-
--- a state within a token
-pub record Held (s : State) : Type 0 where
-  pub listed : are_formatting s.active_formatting ≡ true
-  pub modes : are_template_modes s.template_modes ≡ true
-  pub head : has_its_head s.mode s.head_elem s.context_elem ≡ true
-  pub original : is_later_original s.orig_mode ≡ true
-  pub most : wanted s ≤ length s.template_modes
-  pub placed : wanted s ≡ length s.template_modes → HasRoot s → are_placed_in s.mode s.orig_mode s.open_elems ≡ true
 
 -- modes in which any element may come
 abbrev pub is_free : InsertionMode → Bool

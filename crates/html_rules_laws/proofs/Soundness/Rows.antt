@@ -18,6 +18,7 @@ use Rattle.html_rules.specs.Templates.{insert_template}
 use Rattle.html_rules.specs.declared.insertion_mode.InsertionMode.{InsertionMode}
 use Rattle.html_rules.specs.declared.insertion_mode.InsertionMode.TheVariants as mode
 use Rattle.html_rules.specs.declared.tag_set.TagSet.TheVariants as set
+use Rattle.html_rules_laws.specs.Held.{HasRoot, Held, wanted}
 use Rattle.html_rules_laws.specs.Placing.{stand_well}
 use Rattle.html_rules_laws.specs.Settled.{is_template_mode}
 use Rattle.html_rules_laws.specs.Sound.{is_later}
@@ -25,7 +26,7 @@ use Rattle.html_rules_laws.proofs.Aside.{template-Aside}
 use Rattle.html_rules_laws.proofs.SetFacts.{all_among, among-all}
 use Rattle.html_rules_laws.proofs.Settling.Kinds.{Kind, Starts, is_of}
 use Rattle.html_rules_laws.proofs.Soundness.Acts.{act-aside, act-tame, plain-of, plain_kind, tame_in}
-use Rattle.html_rules_laws.proofs.Soundness.Moves.{HasRoot, is_loose, Held, free-moved, free-later, is_free, is_text_mode, loose-tame, opened-held, still-tame, template-topped, template_mode-held, text-held, wanted}
+use Rattle.html_rules_laws.proofs.Soundness.Moves.{is_loose, free-moved, free-later, is_free, is_text_mode, loose-tame, opened-held, still-tame, template-topped, template_mode-held, text-held}
 use Rattle.html_rules_laws.proofs.Bools.{both, no}
 
 -- actions in modes in which any element may come
@@ -84,7 +85,7 @@ quiet DisableFosterParenting = true
 quiet KeepText = true
 quiet a = false
 
-quiet-tame : (kind : Kind) (a : Action) → quiet a ≡ true → tame_in kind a ≡ true
+pub quiet-tame : (kind : Kind) (a : Action) → quiet a ≡ true → tame_in kind a ≡ true
 quiet-tame kind (Then a b) h = let parts = and_parts (quiet a) (quiet b) h in both _ _ (quiet-tame kind a parts.0) (quiet-tame kind b parts.1)
 quiet-tame kind (When c a) h = quiet-tame kind a h
 quiet-tame kind Nothing h = refl

@@ -22,6 +22,7 @@ use Rattle.html_rules.specs.Step.{doctype_taken, ended, first_doctype_taken, if_
 use Rattle.html_rules.specs.declared.insertion_mode.InsertionMode.{InsertionMode}
 use Rattle.html_rules.specs.declared.insertion_mode.InsertionMode.TheVariants as mode
 use Rattle.html_rules.specs.declared.tag_set.TagSet.TheVariants as set
+use Rattle.html_rules_laws.specs.Held.{Held, wanted}
 use Rattle.html_rules_laws.specs.Lawful.{TextSound}
 use Rattle.html_rules_laws.specs.Placing.{is_in_head, may_stand_over, stand_well}
 use Rattle.html_rules_laws.specs.Ready.{fits_head, is_over_head, is_over_root}
@@ -31,7 +32,7 @@ use Rattle.html_rules_laws.specs.Sound.{Sound, are_placed_in, has_its_head, is_l
 use Rattle.html_rules_laws.proofs.Firm.{html_head}
 use Rattle.html_rules_laws.proofs.SetFacts.{in-apart}
 use Rattle.html_rules_laws.proofs.Settling.Settled.{each_token_is_settled}
-use Rattle.html_rules_laws.proofs.Soundness.Moves.{Held, free-later, free-placed, is_free, wanted}
+use Rattle.html_rules_laws.proofs.Soundness.Moves.{free-later, free-placed, is_free}
 use Rattle.html_rules_laws.proofs.Soundness.Steps.{erred, settle-held, text-held}
 use Rattle.html_rules_laws.proofs.Soundness.Tokens.{initial-held}
 use Rattle.html_rules_laws.proofs.StepLaws.{refusal_with, rules-lawful, step-is}
@@ -88,27 +89,27 @@ taken_by-held NullCharacterToken b s h = settle-held NullCharacterToken s h
 taken_by-held EOFToken b s h = settle-held EOFToken s h
 taken_by-held (ErrorToken message) b s h = settle-held (ErrorToken message) s h
 
-taken-held : (t : Token) (s : State) → Held s → Held (taken t s).state
+pub taken-held : (t : Token) (s : State) → Held s → Held (taken t s).state
 unfolding taken
 taken-held t s h = taken_by-held t s.ignore_lf (set_ignore_lf false s) (unlined s h)
 
 -- sound states
 
-templates-fit : (s : State) → is_fit s ≡ true → has_template_modes s.template_modes s.open_elems s.context_elem ≡ true
+pub templates-fit : (s : State) → is_fit s ≡ true → has_template_modes s.template_modes s.open_elems s.context_elem ≡ true
 unfolding is_fit
 templates-fit s h = (and_parts (fits_mode s.mode s.orig_mode s.open_elems s.head_elem s.template_modes) _ h).1
 
-mode-fits : (s : State) → is_fit s ≡ true → fits_mode s.mode s.orig_mode s.open_elems s.head_elem s.template_modes ≡ true
+pub mode-fits : (s : State) → is_fit s ≡ true → fits_mode s.mode s.orig_mode s.open_elems s.head_elem s.template_modes ≡ true
 unfolding is_fit
 mode-fits s h = (and_parts (fits_mode s.mode s.orig_mode s.open_elems s.head_elem s.template_modes) _ h).0
 
-held-of : (s : State) → Sound s → s.has_ended ≡ false → is_fit s ≡ true → Held (hushed s)
+pub held-of : (s : State) → Sound s → s.has_ended ≡ false → is_fit s ≡ true → Held (hushed s)
 held-of s is e f =
     let templates = templates-fit s f in
     let count : length s.template_modes ≡ wanted s = eqb-true (length s.template_modes) (wanted s) templates in
     record { listed = is.listed; modes = is.modes; head = is.head; original = is.original; most = omega arith; placed = λ k root. is.placed e templates root }
 
-sound-of : (s : State) → Held s → Sound (hushed s)
+pub sound-of : (s : State) → Held s → Sound (hushed s)
 sound-of s h = record {
   listed = h.listed;
   modes = h.modes;
@@ -127,13 +128,13 @@ step-sound false false false barred s t line e i f b is = rw (step-is s t line f
 step-sound false false true true s t line e i f b is = rw (step-is s t line false false true true e i f b) tt
 step-sound false false true false s t line e i f b is = rw (step-is s t line false false true false e i f b) (rw i (sound-of (taken t (hushed s)).state (taken-held t (hushed s) (held-of s is e f))))
 
-ended-sound : (s : State) → Sound s → Sound (ended s)
+pub ended-sound : (s : State) → Sound s → Sound (ended s)
 unfolding ended
 ended-sound s is = record { listed = is.listed; modes = is.modes; head = is.head; original = is.original; placed = λ e templates root. absurd (true≢false e) }
 
 -- text is sound in a sound state
 
-root-html : (xs : List Open) → has_root xs ≡ true → has_open set.Html xs ≡ true
+pub root-html : (xs : List Open) → has_root xs ≡ true → has_open set.Html xs ≡ true
 root-html [] h = no h
 root-html (x ∷ xs) h = by (is_in set.Html x) h (root-html xs) where
   by : (b : Bool) → choose b (λ _. not (is_nonempty xs)) (λ _. has_root xs) ≡ true → (has_root xs ≡ true → has_open set.Html xs ≡ true) → (b || has_open set.Html xs) ≡ true
@@ -184,7 +185,7 @@ sound-text s is going fit = record { in_head = fits-head s.mode s refl is going 
 
 -- the states before the first token
 
-document-sound : (setting : Setting) (f : Forest) → Sound (before_document setting f)
+pub document-sound : (setting : Setting) (f : Forest) → Sound (before_document setting f)
 document-sound setting f = record { listed = refl; modes = refl; head = refl; original = refl; placed = λ e templates root. refl }
 
 -- what a context asks for
@@ -205,7 +206,7 @@ context-modes : (c : Open) (b : Bool) → is_free (current_template_mode (choose
 context-modes c true = refl
 context-modes c false = refl
 
-context-template_modes : (b : Bool) → are_template_modes (choose b (λ _. mode.InTemplate ∷ []) (λ _. [])) ≡ true
+pub context-template_modes : (b : Bool) → are_template_modes (choose b (λ _. mode.InTemplate ∷ []) (λ _. [])) ≡ true
 context-template_modes true = refl
 context-template_modes false = refl
 
@@ -239,7 +240,7 @@ context-asks s c modes head =
     (λ _. asks-either c (is_in set.Frameset c) _ _ (λ e. free-asks c mode.InFrameset refl (h.1.1.1.1.1.1.1 e))
     (λ _. asks-either c (is_in set.Html c) _ _ (λ e. rw head (root-asks c e)) (λ e. free-asks c mode.InBody refl e)))))))))
 
-fragment-sound : (setting : Setting) (context : Open) (form : Option ℕ) (f : Forest) → Sound (before_fragment setting context form f)
+pub fragment-sound : (setting : Setting) (context : Open) (form : Option ℕ) (f : Forest) → Sound (before_fragment setting context form f)
 unfolding reset_insertion_mode create_root names_of
 fragment-sound setting context form f =
     let s : State = create_root [] (record (before_document setting f) { context_elem = Some context; form_elem = form; template_modes = modes_of_context context }) in

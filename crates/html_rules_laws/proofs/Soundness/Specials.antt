@@ -25,6 +25,7 @@ use Rattle.html_rules.specs.Tokens.{attributes_of}
 use Rattle.html_rules.specs.declared.insertion_mode.InsertionMode.{InsertionMode}
 use Rattle.html_rules.specs.declared.insertion_mode.InsertionMode.TheVariants as mode
 use Rattle.html_rules.specs.declared.tag_set.TagSet.TheVariants as set
+use Rattle.html_rules_laws.specs.Held.{Held}
 use Rattle.html_rules_laws.specs.Placing.{are_general, is_in_head, may_stand_over, stand_well}
 use Rattle.html_rules_laws.specs.Sound.{are_placed, are_placed_in, are_placed_under, asks_root, comes_from_table, has_its_head, is_later, is_later_original, is_over_head_element, is_own, is_table_mode}
 use Rattle.html_rules_laws.proofs.Aside.{expect_to_close-Aside}
@@ -32,7 +33,7 @@ use Rattle.html_rules_laws.proofs.Firm.{IsPlain, firm-part, over-plain, part-htm
 use Rattle.html_rules_laws.proofs.SetFacts.{all_among, among-all, in-apart}
 use Rattle.html_rules_laws.proofs.Settling.Kinds.{Kind, Starts, is_of}
 use Rattle.html_rules_laws.proofs.Soundness.Acts.{act-aside, act-tame, plain-of, tame_in}
-use Rattle.html_rules_laws.proofs.Soundness.Moves.{Held, closed-held, from-well, free-placed, free-later, held-some, implied-count, is_loose, kept_by_implied, loose-tame, reset-held}
+use Rattle.html_rules_laws.proofs.Soundness.Moves.{closed-held, from-well, free-placed, free-later, held-some, implied-count, is_loose, kept_by_implied, loose-tame, reset-held}
 use Rattle.html_rules_laws.proofs.Soundness.Rows.{IsCalm, StandsWell, closes, starts_plain, tame-calm}
 use Rattle.html_rules_laws.proofs.Standing.{part-but_root, part-from}
 use Rattle.html_rules_laws.proofs.Tame.{behind-listed, expect_to_close-tame}
@@ -40,7 +41,7 @@ use Rattle.html_rules_laws.proofs.Bools.{both, no, not_true, or_true}
 
 -- templates are closed
 
-close-elements : (p : Open → Bool) (s : State) → (expect_to_close p s).open_elems ≡ left_below p s.open_elems
+pub close-elements : (p : Open → Bool) (s : State) → (expect_to_close p s).open_elems ≡ left_below p s.open_elems
 unfolding expect_to_close pop_until parse_error
 close-elements p s = by (current_is p s.open_elems) where
   by : (b : Bool) → (choose b (λ _. pop_until p s) (λ _. pop_until p (parse_error s))).open_elems ≡ left_below p s.open_elems

@@ -23,12 +23,13 @@ use Rattle.html_rules.specs.Table.{Action, InsertForeign, Conclusion, Done, Ackn
 use Rattle.html_rules.specs.declared.insertion_mode.InsertionMode.{InsertionMode}
 use Rattle.html_rules.specs.declared.insertion_mode.InsertionMode.TheVariants as mode
 use Rattle.html_rules.specs.declared.tag_set.TagSet.TheVariants as set
+use Rattle.html_rules_laws.specs.Held.{HasRoot, Held, wanted}
 use Rattle.html_rules_laws.specs.Placing.{is_in_head, stand_well}
 use Rattle.html_rules_laws.specs.Sound.{are_placed_under, asks_root, is_later, is_over_head_element, is_own}
 use Rattle.html_rules_laws.proofs.Aside.{foreign-Aside}
 use Rattle.html_rules_laws.proofs.Settling.Kinds.{Kind, Starts, StartsBut, EndsBut, Texts, Nulls, TheEnd, Others, is_of}
 use Rattle.html_rules_laws.proofs.Soundness.Acts.{act-aside, act-tame, tame_in}
-use Rattle.html_rules_laws.proofs.Soundness.Moves.{HasRoot, Held, HoldsTame, is_loose, loose-tame, lost-tame, wanted}
+use Rattle.html_rules_laws.proofs.Soundness.Moves.{HoldsTame, is_loose, loose-tame, lost-tame}
 use Rattle.html_rules_laws.proofs.Soundness.Scan.{scan, scan-holds}
 use Rattle.html_rules_laws.proofs.Soundness.Tokens.{Holder, each_kind, foreign_row, foreign_sound, head_names, is_insert_foreign, mode_sound, modes_sound, named_apart, root_names, template_names, uses-held, uses_sound}
 use Rattle.html_rules_laws.proofs.Tame.{foreign-tame}
@@ -43,19 +44,19 @@ foreign-at s (Some x) t h = not_true _ (and_parts (not (is_html_element x)) _ h)
   not_true true h = sym h
   not_true false h = refl
 
-foreign-there : (s : State) (t : Token) → is_foreign s t ≡ true → IfSome (adjusted_current_node s) (λ x. is_html x.namespace ≡ false)
+pub foreign-there : (s : State) (t : Token) → is_foreign s t ≡ true → IfSome (adjusted_current_node s) (λ x. is_html x.namespace ≡ false)
 unfolding is_foreign
 foreign-there s EOFToken h = no h
 foreign-there s t h = foreign-at s (adjusted_current_node s) t h
 
-foreign-some : (s : State) (t : Token) → is_foreign s t ≡ true → adjusted_current_node s ≡ None → ⊥
+pub foreign-some : (s : State) (t : Token) → is_foreign s t ≡ true → adjusted_current_node s ≡ None → ⊥
 unfolding is_foreign
 foreign-some s EOFToken h e = true≢false (sym h)
 foreign-some s t h e = true≢false (sym (rw e at h))
 
 -- where the current node is HTML's by the mode
 
-html-root : (x : Open) → is_in set.Html x ≡ true → is_html x.namespace ≡ true
+pub html-root : (x : Open) → is_in set.Html x ≡ true → is_html x.namespace ≡ true
 unfolding mathml_names_of svg_names_of
 html-root x h = by x.namespace x.name h where
   by : (namespace : Namespace) (name : List ℕ) → is_among name (names_in namespace set.Html) ≡ true → is_html namespace ≡ true
@@ -115,7 +116,7 @@ text-adjusted context (Some m) (x ∷ xs) h r =
     not_true true h = sym h
     not_true false h = refl
 
-both-ways : (o : Option Open) → IfSome o (λ x. is_html x.namespace ≡ true) → IfSome o (λ x. is_html x.namespace ≡ false) → (o ≡ None → ⊥) → ⊥
+pub both-ways : (o : Option Open) → IfSome o (λ x. is_html x.namespace ≡ true) → IfSome o (λ x. is_html x.namespace ≡ false) → (o ≡ None → ⊥) → ⊥
 both-ways None h k some = some refl
 both-ways (Some x) h k some = true≢false (sym h ∙ k)
 
@@ -124,7 +125,7 @@ empty-adjusted context [] h = refl
 empty-adjusted context (x ∷ xs) h = no h
 
 -- in these modes the rules of foreign content hold for nothing
-not-foreign : (m : InsertionMode) → is_loose m ≡ false → (s : State) → s.mode ≡ m → Held s → (t : Token) → is_foreign s t ≡ true → wanted s ≡ length s.template_modes → HasRoot s → ⊥
+pub not-foreign : (m : InsertionMode) → is_loose m ≡ false → (s : State) → s.mode ≡ m → Held s → (t : Token) → is_foreign s t ≡ true → wanted s ≡ length s.template_modes → HasRoot s → ⊥
 not-foreign mode.Initial l s e h t f k root = foreign-some s t f (empty-adjusted s.context_elem s.open_elems (rw e at (h.placed k root)))
 not-foreign mode.BeforeHtml l s e h t f k root = foreign-some s t f (empty-adjusted s.context_elem s.open_elems (rw e at (h.placed k root)))
 not-foreign mode.BeforeHead l s e h t f k root =
@@ -224,7 +225,7 @@ module _ (p : Kind → Bool) (all : each_kind p ≡ true) where
   kind-of (DoctypeToken d) = (Others, ((and_parts (p TheEnd) _ (and_parts (p Nulls) _ (and_parts (p Texts) _ last-kinds.1).1).1).1, refl))
   kind-of (ErrorToken message) = (Others, ((and_parts (p TheEnd) _ (and_parts (p Nulls) _ (and_parts (p Texts) _ last-kinds.1).1).1).1, refl))
 
-turn-held : (t : Token) (s : State) → Held s → Held (turn t s).state
+pub turn-held : (t : Token) (s : State) → Held s → Held (turn t s).state
 turn-held t s is = let k = kind-of (mode_sound s.mode) (modes_sound s.mode) t in kind-held k.0 t k.1.1 s k.1.0 is
 
 -- a token

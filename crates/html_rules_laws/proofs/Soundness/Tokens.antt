@@ -13,12 +13,13 @@ use Rattle.html_rules.specs.State.{State, current_number}
 use Rattle.html_rules.specs.Table.{Row, Condition, Action, Then, ParseError, KeepMode, PushHeadElem, RemoveHeadElem, InsertForeign, Conclusion, Done, Acknowledged, Reprocess, ReprocessInOriginal, ReprocessInMode, Using, UsingThen, UsingCurrentMode, RawText, PlainText, RunScript, TellEncoding}
 use Rattle.html_rules.specs.declared.insertion_mode.InsertionMode.{InsertionMode}
 use Rattle.html_rules.specs.declared.insertion_mode.InsertionMode.TheVariants as mode
+use Rattle.html_rules_laws.specs.Held.{Held}
 use Rattle.html_rules_laws.specs.Placing.{is_in_head}
 use Rattle.html_rules_laws.specs.Sound.{is_later, is_table_mode}
 use Rattle.html_rules_laws.proofs.Settling.Kinds.{Kind, Starts, StartsBut, EndsBut, Texts, Nulls, TheEnd, Others, is_of}
 use Rattle.html_rules_laws.proofs.Soundness.Acts.{act-aside, tame_in}
 use Rattle.html_rules_laws.proofs.Soundness.HeadAgain.{bare-held, head_again-held, head_row}
-use Rattle.html_rules_laws.proofs.Soundness.Moves.{Held, free-later, free-moved, free-placed, held-some, is_free, is_text_mode}
+use Rattle.html_rules_laws.proofs.Soundness.Moves.{free-later, free-moved, free-placed, held-some, is_free, is_text_mode}
 use Rattle.html_rules_laws.proofs.Soundness.Rows.{IsCalm, StandsWell, act-calm, calm, closes, opens, opens-held, quiet, quiet-held, quiet-mode, raw-held, raw_only-held, raw_text, raw_text_only, starts_plain, starts_template, tame-calm}
 use Rattle.html_rules_laws.proofs.Soundness.Scan.{scan, scan-holds}
 use Rattle.html_rules_laws.proofs.Soundness.Specials.{before_head-held, before_head_ok, before_html-held, before_html_ok, calm-well, closes-held, in_head-held, in_head_ok, noscript-ends, noscript_ok, resets, resets-held, table_text-ends, table_text_ok, text-ends, text_ok}

@@ -1,0 +1,4 @@
+-- Why no token of a text is refused.
+pub mod EndTags
+pub mod Outside
+pub mod Texts

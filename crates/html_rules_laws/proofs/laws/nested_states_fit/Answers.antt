@@ -1,0 +1,5 @@
+use Rattle.html_rules_laws.proofs.Nesting.Begins.{nested-states}
+use Rattle.html_rules_laws.proofs.laws.nested_states_fit.Goals as goal
+
+pub returns : goal.returns
+returns c = nested-states

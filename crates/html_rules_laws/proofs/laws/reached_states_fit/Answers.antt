@@ -1,0 +1,5 @@
+use Rattle.html_rules_laws.proofs.Nesting.Tokens.{reached-states}
+use Rattle.html_rules_laws.proofs.laws.reached_states_fit.Goals as goal
+
+pub returns : goal.returns
+returns c = reached-states
