@@ -2,3 +2,10 @@ pub mod Stacks
 pub mod Wanted
 pub mod Entries
 pub mod Modes
+pub mod Inserting
+pub mod Found
+pub mod Reopening
+pub mod Adopting
+pub mod ForeignEnds
+pub mod Answering
+pub mod Dispatching

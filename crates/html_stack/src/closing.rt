@@ -2,12 +2,13 @@
 ghost use Rattle.std.specs.Prelude.{◌≡◌};
 ghost use Rattle.html_names.specs.Classes.{IsClassOf};
 ghost use Rattle.html_rules.specs.Names.{Html};
-ghost use Rattle.html_rules.specs.Stack.{check_body_end, close_p_element, close_p_element_in_button_scope, expect_to_close, process_end_tag_in_body};
+ghost use Rattle.html_rules.specs.Stack.{check_body_end, close_item, close_p_element, close_p_element_in_button_scope, expect_to_close, pop_but_root, process_end_tag_in_body};
 ghost use Rattle.html_rules.specs.State.{State, is_in, is_named};
 ghost use Rattle.html_rules_laws.specs.Soundness.{AreOpened};
 ghost use Rattle.html_stack.specs.Stacks.{joined};
-ghost use Rattle.html_stack.specs.Wanted.{IsWanted, passes};
+ghost use Rattle.html_stack.specs.Wanted.{IsOfHtml, IsWanted, passes};
 
+use crate::entries::OpenElement;
 use crate::stack::Stack;
 use crate::walks;
 use crate::wanted::Wanted;
@@ -36,6 +37,40 @@ impl<Sink: TreeSink> Stack<Sink> {
         ensures { (s : State) → joined s self.new (Sink.forest sink.new) ≡ expect_to_close (is_named name.now) (joined s self.old (Sink.forest sink.old)) }
     {
         self.close_wanted(sink, Wanted::Named(class, name));
+    }
+
+    /// The same, up to an element of a set.
+    pub fn expect_to_close_in(&mut self, sink: &mut Sink, set: TagSet)
+        ensures { (s : State) → joined s self.new (Sink.forest sink.new) ≡ expect_to_close (is_in set) (joined s self.old (Sink.forest sink.old)) }
+    {
+        self.close_wanted(sink, Wanted::In(set));
+    }
+
+    /// Pops the current node, and tells the sink; the root, `html`, stays.
+    #[tactic(auto, unfolding(html_rules::specs::Stack::pop_but_root))]
+    pub fn pop_but_root(&mut self, sink: &mut Sink) -> Option<OpenElement<Sink::Handle>>
+        requires { AreOpened (Sink.forest sink.old) self.old.open_elems }
+        ensures { (s : State) → joined s self.new (Sink.forest sink.new) ≡ pop_but_root (joined s self.old (Sink.forest sink.old)) }
+    {
+        if self.current_is(Wanted::In(TagSet::Html)) {
+            None
+        } else {
+            self.pop(sink)
+        }
+    }
+
+    /// Closes the item that a new one ends: the nearest `li`, or of `dd` and `dt`, if no special element other than `address`, `div` and `p`
+    /// stands before it (HTML Standard, section 13.2.6.4.7, start tags `li`, `dd` and `dt`).
+    #[tactic(auto, unfolding(html_rules::specs::Stack::close_item, html_rules::specs::Stack::generate_implied_end_except))]
+    pub fn close_item(&mut self, sink: &mut Sink, items: TagSet)
+        requires items { IsOfHtml items }
+        requires opened { AreOpened (Sink.forest sink.old) self.old.open_elems }
+        ensures { (s : State) → joined s self.new (Sink.forest sink.new) ≡ close_item items (joined s self.old (Sink.forest sink.old)) }
+    {
+        if let Some(item) = walks::item(self.open_elems(), items) {
+            self.close_implied(sink, TagSet::CursoryImpliedEnd, Wanted::Known(item));
+            self.close_wanted(sink, Wanted::Known(item));
+        }
     }
 
     /// "Close a p element" (HTML Standard, section 13.2.6.4.7).

@@ -3,17 +3,26 @@
 
 pub mod active_formatting_iter;
 mod closing;
+pub mod dispatching;
 pub mod entries;
+mod foreign;
+mod foreign_end;
+mod formatting;
+pub mod inserting;
 mod resetting;
 pub mod stack;
 mod walks;
 mod wanted;
 
 pub use active_formatting_iter::ActiveFormattingIter;
+pub use dispatching::TokenShape;
 pub use entries::{FormatEntry, InsertionPoint, OpenElement, PushFlag, html_elem};
 pub use html_names::{
     ElementClass, ElementName, ElementNamespace, doctype_error_and_quirks, equals_any_case,
     extract_a_character_encoding_from_a_meta_element, is_in,
 };
 pub use html_rules::{InsertionMode, TagSet};
+pub use inserting::creating::{create_element, create_element_with_flags};
+pub use inserting::new_element::NewElement;
+pub use inserting::places::insert_at;
 pub use stack::Stack;

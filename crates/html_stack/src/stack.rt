@@ -17,8 +17,8 @@ use std::marker::Model;
 /// lists as the rules do, the newest first.
 #[derive(Drop)]
 pub struct Stack<Sink: TreeSink> {
-    open_elems: Vec<OpenElement<Sink::Handle>>,
-    active_formatting: Vec<FormatEntry<Sink::Handle>>,
+    pub(crate) open_elems: Vec<OpenElement<Sink::Handle>>,
+    pub(crate) active_formatting: Vec<FormatEntry<Sink::Handle>>,
     template_modes: Vec<InsertionMode>,
 }
 
@@ -38,6 +38,7 @@ impl<Sink: TreeSink> Stack<Sink> {
     ghost use Rattle.html_rules.specs.Reset.{current_template_mode, reset_insertion_mode};
     ghost use Rattle.html_rules.specs.State.{State};
     ghost use Rattle.html_stack.specs.Modes.{IsContext};
+    ghost use Rattle.html_rules.specs.ForeignContent.{ends_foreign};
     ghost use Rattle.html_rules.specs.Formatting.{behind_marker};
     ghost use Rattle.html_rules.specs.Stack.{finds_generic, in_scope, left_below, left_by_implied, left_from, nothing, without_current};
     ghost use Rattle.html_rules_laws.specs.Soundness.{AreOpened};
@@ -56,6 +57,11 @@ impl<Sink: TreeSink> Stack<Sink> {
             active_formatting: Vec::new(alloc),
             template_modes: Vec::new(alloc),
         }
+    }
+
+    /// What the lists grow in.
+    pub(crate) fn allocator(&self) -> Global {
+        *self.open_elems.allocator()
     }
 
     /// The open elements, lent, the root first.
@@ -175,6 +181,15 @@ impl<Sink: TreeSink> Stack<Sink> {
         self.open_elems.truncate(left);
     }
 
+    /// Elements are popped until foreign content ends: until the current node is HTML's, or HTML may stand in it (HTML Standard, section
+    /// 13.2.6.5). The sink is not told.
+    pub fn pop_foreign(&mut self)
+        ensures { self.new ≡ record self.old { open_elems = left_from ends_foreign self.old.open_elems } }
+    {
+        let left = walks::count_from(self.open_elems.as_slice(), Wanted::EndsForeign);
+        self.open_elems.truncate(left);
+    }
+
     /// The elements that were opened first stay, so many. The sink is not told.
     pub fn truncate(&mut self, count: usize)
         ensures { self.new ≡ record self.old { open_elems = reverse (take count (reverse self.old.open_elems)) } }
@@ -261,6 +276,15 @@ impl<Sink: TreeSink> Stack<Sink> {
         ensures same { Sink.forest sink.new ≡ Sink.forest sink.old }
     {
         self.close_implied(sink, TagSet::CursoryImpliedEnd, Wanted::Named(class, name));
+    }
+
+    /// The same, except for elements of a set.
+    pub fn generate_implied_end_except_in(&mut self, sink: &mut Sink, set: TagSet)
+        requires { AreOpened (Sink.forest sink.old) self.old.open_elems }
+        ensures left { self.new ≡ record self.old { open_elems = left_by_implied CursoryImpliedEnd (is_in set) self.old.open_elems } }
+        ensures same { Sink.forest sink.new ≡ Sink.forest sink.old }
+    {
+        self.close_implied(sink, TagSet::CursoryImpliedEnd, Wanted::In(set));
     }
 
     /// Elements are popped until one that is wanted was popped. The sink is not told.

@@ -1,15 +1,17 @@
 //! Walks from the current node back. Elements are lent as they lie, the root first.
-ghost use Rattle.std.specs.Prelude.{◌≡◌, ◌<◌, ◌≤◌, ℕ, length, take, not, ◌||◌};
+ghost use Rattle.std.specs.Prelude.{◌≡◌, ◌<◌, ◌≤◌, [], ℕ, MatchOption, None, Some, length, slice_index_or, take, not, ◌||◌};
 ghost use Rattle.std.specs.List.{list_all};
+ghost use Rattle.markup.specs.KnownNames.{names};
 ghost use Rattle.html_rules.specs.Formatting.{behind_marker};
-ghost use Rattle.html_rules.specs.Stack.{finds_generic, in_scope, left_below, left_from};
+ghost use Rattle.html_rules.specs.Stack.{finds_generic, in_scope, item_name, left_below, left_from};
 ghost use Rattle.html_rules.specs.State.{current_is, current_number, is_in};
 ghost use Rattle.html_stack.specs.Stacks.{entries_of, entry_of, is_mark, opens_of};
-ghost use Rattle.html_stack.specs.Wanted.{IsWanted, passes};
+ghost use Rattle.html_stack.specs.Wanted.{IsOfHtml, IsWanted, passes};
 
 use crate::entries::{FormatEntry, OpenElement};
 use crate::wanted::{Wanted, is_wanted};
 use html_rules::TagSet;
+use markup::KnownName;
 
 /// Whether a wanted element is open, up to and with the first of a scope's bounds.
 pub(crate) fn is_in_scope<Handle>(
@@ -128,6 +130,25 @@ pub(crate) fn finds_generic<Handle>(elements: &[OpenElement<Handle>], wanted: Wa
         }
     }
     false
+}
+
+/// The nearest item, if no special element other than `address`, `div` and `p` stands before it.
+pub(crate) fn item<Handle>(elements: &[OpenElement<Handle>], items: TagSet) -> Option<KnownName>
+    requires { IsOfHtml items }
+    ensures { (node : Handle → ℕ) → MatchOption result (item_name items (opens_of node elements.now) ≡ None) (λ known. (known.place < length names) × (item_name items (opens_of node elements.now) ≡ Some (slice_index_or names known.place []))) }
+{
+    let mut i = elements.len();
+    while i > 0 {
+        i -= 1;
+        let element = &elements[i];
+        if element.name.is_in(items) {
+            return element.name.known_html();
+        }
+        if element.name.is_in(TagSet::SpecialTag) && !element.name.is_in(TagSet::AddressDivP) {
+            return None;
+        }
+    }
+    None
 }
 
 /// Whether all elements are in a set.

@@ -6,7 +6,7 @@ ghost use Rattle.html_stack.specs.Stacks.{open_of};
 use crate::entries::OpenElement;
 use html_names::ElementClass;
 use html_rules::TagSet;
-use markup::LocalName;
+use markup::{KnownName, LocalName};
 
 /// A test of open elements.
 #[derive(Clone, Copy)]
@@ -15,6 +15,10 @@ pub(crate) enum Wanted<'a> {
     In(TagSet),
     /// HTML elements of a name, which comes with its class.
     Named(ElementClass, &'a LocalName),
+    /// HTML elements of a known name.
+    Known(KnownName),
+    /// Those where foreign content ends: HTML elements, and where HTML may stand.
+    EndsForeign,
     /// None.
     Nothing,
 }
@@ -27,6 +31,12 @@ pub(crate) fn is_wanted<Handle>(wanted: Wanted<'_>, element: &OpenElement<Handle
     match wanted {
         Wanted::In(set) => element.name.is_in(set),
         Wanted::Named(class, name) => element.name.is_named(class, name),
+        Wanted::Known(known) => element.name.is_known(known),
+        Wanted::EndsForeign => {
+            element.name.is_html()
+                || element.name.is_in(TagSet::MathmlTextIntegrationPoint)
+                || element.name.is_in(TagSet::SvgHtmlIntegrationPoint)
+        }
         Wanted::Nothing => false,
     }
 }

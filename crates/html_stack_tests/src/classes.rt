@@ -1,8 +1,8 @@
 //! In which sets elements are.
 
-use html_names::{ElementClass, ElementNamespace, equals_any_case, is_in};
+use html_names::{ElementClass, ElementName, ElementNamespace, equals_any_case, is_in};
 use html_rules::TagSet;
-use markup::LocalName;
+use markup::{KnownNamespace, LocalName, Namespace};
 use std::test::Fail;
 
 #[test]
@@ -93,6 +93,30 @@ fn texts_are_compared_in_any_case(rt: HostRuntime) -> Result<(), Fail> {
     ];
     for (text, want) in rows {
         assert_eq!(rt; equals_any_case(text, "content-type"), *want);
+    }
+    Ok(())
+}
+
+#[test]
+fn names_are_compared_in_any_case(rt: HostRuntime) -> Result<(), Fail> {
+    let rows: &[(&str, &str, bool)] = &[
+        ("foreignObject", "FOREIGNobject", true),
+        ("foreignObject", "foreignobject", true),
+        ("foreignObject", "foreignobjects", false),
+        ("my-Tag", "MY-tAG", true),
+        ("my-tag", "my-tab", false),
+        // The sign of kelvin, and letters beyond ASCII, have no other case here.
+        ("\u{212A}", "k", false),
+        ("my-\u{C9}", "MY-\u{C9}", true),
+        ("my-\u{C9}", "my-\u{E9}", false),
+        ("", "", true),
+    ];
+    let svg = Namespace::from_known(KnownNamespace::Svg);
+    for (name, other, want) in rows {
+        let name = LocalName::from_str(rt.alloc(), name)?;
+        let other = LocalName::from_str(rt.alloc(), other)?;
+        let element = ElementName::new(rt.alloc(), &svg, &name)?;
+        assert_eq!(rt; element.is_named_any_case(&other), *want);
     }
     Ok(())
 }

@@ -10,4 +10,10 @@ mod doctypes;
 #[cfg(test)]
 mod encodings;
 #[cfg(test)]
+mod foreign;
+#[cfg(test)]
+mod formatting;
+#[cfg(test)]
+mod inserting;
+#[cfg(test)]
 mod stack;

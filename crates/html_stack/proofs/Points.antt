@@ -1,0 +1,243 @@
+-- Where nodes are put, and what stands behind it.
+use Rattle.std.proofs.Common.{◌≡◌, ◌∙◌, ℕ, ◌<◌, ◌≤◌, Bool, true, false, List, [], ◌∷◌, ◌++◌, Some, refl, sym, ap, subst, codes, arith, map, reverse, take, drop, length, get_or, suc}
+use Rattle.std.specs.Prelude.{◌||◌, ◌&&◌, cond}
+use Rattle.std.specs.Str.{bytes_eq}
+use Rattle.std.proofs.lemmas.Slice.Eq.{bytes_eq-Decides}
+use Rattle.std.proofs.lemmas.Grind.{reverse_onto}
+use Rattle.std.proofs.lemmas.List.{map-append, reverse-append, take-append-drop}
+use Rattle.markup.specs.Forest.{Forest, IsLoose, IsNode, IsParent, IsPlace, node_count, parent_at, parent_of, place_before, place_near}
+use Rattle.markup.specs.Named.{IsTree, is_named}
+use Rattle.markup.specs.Names.{html_namespace, is_html_name}
+use Rattle.markup.specs.Namespaces.{name_of}
+use Rattle.markup.specs.declared.namespaces.KnownNamespace.TheVariants as KnownNamespace
+use Rattle.markup.specs.declared.attributes.Attribute.{Attribute}
+use Rattle.markup.proofs.Forests.{IsMade-create_element, IsParent-place}
+use Rattle.markup.proofs.PutTexts.{IsParent-document, IsParent-element, element-IsNode}
+use Rattle.markup.proofs.Trees.{IsPlace-before, IsPlace-near}
+use Rattle.html_rules.specs.Names.{Namespace, Html, MathMl, Svg, Other, element_name_of, flags_of, is_html, is_mathml, mathml_namespace, namespace_of, svg_namespace, uri_of}
+use Rattle.html_rules.specs.Places.{create_root, insert_element, open_element, place_for, put_element}
+use Rattle.html_rules.specs.Sets.{is_among, mathml_names_of, names_in, names_of, svg_names_of}
+use Rattle.html_rules.specs.Stack.{number_from, root_number}
+use Rattle.html_rules.specs.State.{Entry, Open, State, current_node, current_number, is_in}
+use Rattle.html_rules.specs.declared.tag_set.TagSet.TheVariants as set
+use Rattle.html_rules_laws.specs.Soundness.{AreOpened, IsOpened, IsOwn, IsStanding}
+use Rattle.html_rules_laws.proofs.Standing.{IsPart, Stays, changed-Standing, gone, opened-Standing, part-opened, part-same}
+use Rattle.html_rules_laws.proofs.StandingTrees.{Made, made-Made, put-Made}
+use Rattle.html_stack.specs.Inserting.{IsFor, IsPoint, LeavesStanding, inserted, opened_as, place_at, with_made, with_put}
+use Rattle.html_stack.specs.Stacks.{Stacked, joined, open_of, opens_of}
+use Rattle.html_stack.specs.declared.entries.InsertionPoint.{InsertionPoint}
+use Rattle.html_stack.specs.declared.entries.InsertionPoint.TheVariants.{LastChild, BeforeSibling, TableFosterParenting}
+use Rattle.html_stack.specs.declared.entries.OpenElement.{OpenElement}
+use Rattle.html_stack.specs.declared.entries.PushFlag.TheVariants.{Push, NoPush}
+use Rattle.html_stack.specs.declared.inserting.new_element.NewElement.{NewElement}
+use Rattle.html_stack.proofs.WalksBack.{at}
+
+-- names
+
+or_false : (b : Bool) → (b || false) ≡ b
+or_false true = refl
+or_false false = refl
+
+-- a template is HTML's, and `annotation-xml` is MathML's
+pub template-flag : (namespace : Namespace) (name : List ℕ) → is_among name (names_in namespace set.Template) ≡ (is_html namespace && bytes_eq name (codes "template"))
+unfolding names_of mathml_names_of svg_names_of
+template-flag Html name = or_false (bytes_eq name (codes "template"))
+template-flag MathMl name = refl
+template-flag Svg name = refl
+template-flag (Other uri) name = refl
+
+pub annotation-flag : (namespace : Namespace) (name : List ℕ) → is_among name (names_in namespace set.AnnotationXml) ≡ (is_mathml namespace && bytes_eq name (codes "annotation-xml"))
+unfolding names_of mathml_names_of svg_names_of
+annotation-flag Html name = refl
+annotation-flag MathMl name = or_false (bytes_eq name (codes "annotation-xml"))
+annotation-flag Svg name = refl
+annotation-flag (Other uri) name = refl
+
+-- a namespace is written as it was
+by-uri : (uri : List ℕ) (a b c : Bool) → bytes_eq uri html_namespace ≡ a → bytes_eq uri mathml_namespace ≡ b → bytes_eq uri svg_namespace ≡ c → uri_of (cond a Html (cond b MathMl (cond c Svg (Other uri)))) ≡ uri
+by-uri uri true b c e f g = sym ((bytes_eq-Decides uri html_namespace).0 e)
+by-uri uri false true c e f g = sym ((bytes_eq-Decides uri mathml_namespace).0 f)
+by-uri uri false false true e f g = sym ((bytes_eq-Decides uri svg_namespace).0 g)
+by-uri uri false false false e f g = refl
+
+pub uri-back : (uri : List ℕ) → uri_of (namespace_of uri) ≡ uri
+uri-back uri = by-uri uri (bytes_eq uri html_namespace) (bytes_eq uri mathml_namespace) (bytes_eq uri svg_namespace) refl refl refl
+
+own-by : (uri : List ℕ) (a b c : Bool) → bytes_eq uri html_namespace ≡ a → IsOwn (cond a Html (cond b MathMl (cond c Svg (Other uri))))
+own-by uri true b c e = tt
+own-by uri false true c e = tt
+own-by uri false false true e = tt
+own-by uri false false false e = e
+
+pub own-of : (uri : List ℕ) → IsOwn (namespace_of uri)
+own-of uri = own-by uri (bytes_eq uri html_namespace) (bytes_eq uri mathml_namespace) (bytes_eq uri svg_namespace) refl
+
+is_html-by : (uri : List ℕ) (a b c : Bool) → is_html (cond a Html (cond b MathMl (cond c Svg (Other uri)))) ≡ a
+is_html-by uri true b c = refl
+is_html-by uri false true c = refl
+is_html-by uri false false true = refl
+is_html-by uri false false false = refl
+
+pub html-back : namespace_of (name_of KnownNamespace.Html) ≡ Html
+unfolding name_of html_namespace
+html-back = refl
+
+-- the flag of a template, by the name as it is written
+pub flag-name : (uri local : List ℕ) → (is_html (namespace_of uri) && bytes_eq local (codes "template")) ≡ (bytes_eq uri html_namespace && bytes_eq local (codes "template"))
+flag-name uri local = ap (λ b. b && bytes_eq local (codes "template")) (is_html-by uri (bytes_eq uri html_namespace) (bytes_eq uri mathml_namespace) (bytes_eq uri svg_namespace))
+
+html-name : (namespace : Namespace) (name : List ℕ) → IsOwn namespace → (is_html namespace && bytes_eq name (codes "template")) ≡ is_html_name (Some (element_name_of namespace name)) (codes "template")
+unfolding html_namespace mathml_namespace svg_namespace
+html-name Html name own = refl
+html-name MathMl name own = refl
+html-name Svg name own = refl
+html-name (Other uri) name own = rw own refl
+
+-- an open template is one in the tree
+pub template-named : (f : Forest) (x : Open) → IsOpened f x → is_in set.Template x ≡ true → is_named f x.number (codes "template") ≡ true
+template-named f x is t = ap (λ o. is_html_name o (codes "template")) is.named ∙ (sym (html-name x.namespace x.name is.own) ∙ (sym (template-flag x.namespace x.name) ∙ t))
+
+-- the open elements as they lie
+
+part-behind : (zs ys : List Open) → IsPart ys (zs ++ ys)
+part-behind [] ys = part-same ys
+part-behind (z ∷ zs) ys = gone z (zs ++ ys) ys (part-behind zs ys)
+
+pub take-part : {H : Type 0} (node : H → ℕ) (xs : List (OpenElement H)) (i : ℕ) → IsPart (opens_of node (take i xs)) (opens_of node xs)
+take-part node xs i =
+    let e : opens_of node xs ≡ opens_of node (drop i xs) ++ opens_of node (take i xs) =
+    sym (ap (λ v. reverse (map (open_of node) v)) (take-append-drop i xs))
+    ∙ (ap reverse (map-append (open_of node) (take i xs) (drop i xs)) ∙ reverse-append (map (open_of node) (take i xs)) (map (open_of node) (drop i xs))) in
+    subst (λ ws. IsPart (opens_of node (take i xs)) ws) (sym e) (part-behind (opens_of node (drop i xs)) (opens_of node (take i xs)))
+
+-- one of them, and those that were opened before it
+pub opened-at : {H : Type 0} (f : Forest) (node : H → ℕ) (xs : List (OpenElement H)) (i k : ℕ) (x : OpenElement H) → AreOpened f (opens_of node xs) → i ≡ suc k → k < length xs → x ≡ get_or xs k x → IsOpened f (open_of node x) × AreOpened f (opens_of node (take k xs))
+opened-at f node xs i k x h e l here =
+    subst (λ ws. AreOpened f ws) (at (open_of node) xs i k x e l here) (part-opened f (opens_of node xs) (opens_of node (take i xs)) (take-part node xs i) h)
+
+number-last : (n : ℕ) (xs : List Open) (y : Open) → number_from n (xs ++ y ∷ []) ≡ y.number
+number-last n [] y = refl
+number-last n (x ∷ xs) y = number-last x.number xs y
+
+-- the root is the first
+pub root-first : {H : Type 0} (node : H → ℕ) (x : OpenElement H) (xs : List (OpenElement H)) → root_number (opens_of node (x ∷ xs)) ≡ node x.handle
+root-first node x xs = ap root_number (reverse_onto (map (open_of node) xs) (open_of node x) []) ∙ number-last 0 (reverse (map (open_of node) xs)) (open_of node x)
+
+pub root-at : {H : Type 0} (node : H → ℕ) (xs : List (OpenElement H)) (x : OpenElement H) → 0 < length xs → node (get_or xs 0 x).handle ≡ root_number (opens_of node xs)
+root-at node [] x l = absurd (omega arith)
+root-at node (y ∷ ys) x l = sym (root-first node y ys)
+
+pub current-Parent : (f : Forest) (xs : List Open) → IsTree f → AreOpened f xs → IsParent f (current_number xs)
+current-Parent f [] tree h = IsParent-document f tree.forest
+current-Parent f (x ∷ xs) tree h = IsParent-element f x.number (element_name_of x.namespace x.name) h.0.named
+
+pub opened-IsNode : (f : Forest) (x : Open) → IsOpened f x → IsNode f x.number
+opened-IsNode f x is = element-IsNode f x.number (element_name_of x.namespace x.name) is.named
+
+pub opened-IsParent : (f : Forest) (x : Open) → IsOpened f x → IsParent f x.number
+opened-IsParent f x is = IsParent-element f x.number (element_name_of x.namespace x.name) is.named
+
+-- points
+
+pub point-Place : {H : Type 0} (node : H → ℕ) (f : Forest) (point : InsertionPoint H) → IsPoint node f point → IsPlace f (place_at node f point)
+point-Place node f (LastChild parent) h = h
+point-Place node f (BeforeSibling sibling) h = IsPlace-before f (node sibling) h
+point-Place node f (TableFosterParenting element previous) h = IsPlace-near f (node element) (node previous) h.1
+
+-- the older nodes have their parents
+pub place-parents : {H : Type 0} (node : H → ℕ) (f g : Forest) (point : InsertionPoint H) → ((n : ℕ) → parent_of g n ≡ parent_of f n) → place_at node g point ≡ place_at node f point
+place-parents node f g (LastChild parent) e = refl
+place-parents node f g (BeforeSibling sibling) e = ap (λ o. place_before (node sibling) o) (e (node sibling))
+place-parents node f g (TableFosterParenting element previous) e = ap (λ o. place_near (node element) (node previous) o) (e (node element))
+
+pub point-stays : {H : Type 0} (node : H → ℕ) (f g : Forest) (point : InsertionPoint H) → Stays f g → node_count f ≤ node_count g → ((n : ℕ) → parent_of g n ≡ parent_of f n) → IsPoint node f point → IsPoint node g point
+point-stays node f g (LastChild parent) is more e h = is.names.holds (node parent) h
+point-stays node f g (BeforeSibling sibling) is more e h = rw (e (node sibling)) h
+point-stays node f g (TableFosterParenting element previous) is more e h = let there = h.0 in (omega arith, is.names.holds (node previous) h.1)
+
+-- what is known of an element that is made
+pub record IsPutAtPoint {H : Type 0} (node : H → ℕ) (point : InsertionPoint H) (f : Forest) (e : NewElement) : Type 0 where
+  pub there : node_count f < node_count (with_made f e)
+  pub stays : Stays f (with_made f e)
+  pub place : IsPoint node (with_made f e) point
+  pub loose : IsLoose (with_made f e) (parent_at (place_at node (with_made f e) point)) (node_count f)
+
+pub put-at : {H : Type 0} (node : H → ℕ) (point : InsertionPoint H) (f : Forest) (e : NewElement) → IsTree f → IsPoint node f point → IsPutAtPoint node point f e
+put-at node point f e tree at =
+    let g : Forest = with_made f e in
+    let space : Namespace = namespace_of e.namespace in
+    let is = IsMade-create_element f (element_name_of space e.name) e.attrs (flags_of space e.name e.attrs e.had_duplicate_attributes) tree.forest in
+    let made = made-Made f space e.name e.attrs e.had_duplicate_attributes [] tree (own-of e.namespace) tt in
+    let more : node_count f < node_count g = is.there in
+    let parent : IsParent f (parent_at (place_at node f point)) = IsParent-place f (place_at node f point) tree.forest (point-Place node f point at) in
+    record {
+      there = is.there;
+      stays = made.stays;
+      place = point-stays node f g point made.stays (omega arith) is.parents at;
+      loose = is.loose (parent_at (place_at node g point)) (subst (λ place. parent_at place < node_count f) (sym (place-parents node f g point is.parents)) parent.there);
+    }
+
+-- and that is put there
+pub put-Point : {H : Type 0} (node : H → ℕ) (point : InsertionPoint H) (f : Forest) (e : NewElement) (xs : List Open) → IsTree f → IsPoint node f point → AreOpened f xs → Made f (with_put node point f e) xs (opened_as f e)
+put-Point node point f e xs tree at h =
+    let g : Forest = with_made f e in
+    let space : Namespace = namespace_of e.namespace in
+    let is = IsMade-create_element f (element_name_of space e.name) e.attrs (flags_of space e.name e.attrs e.had_duplicate_attributes) tree.forest in
+    let put = put-at node point f e tree at in
+    put-Made f space e.name e.attrs e.had_duplicate_attributes xs (place_at node g point) tree (own-of e.namespace) h
+    (subst (λ place. IsPlace f place) (sym (place-parents node f g point is.parents)) (point-Place node f point at))
+    (point-Place node g point put.place)
+
+pub leaves-stays : (f g : Forest) → Stays f g → LeavesStanding f g
+leaves-stays f g is xs entries h = changed-Standing f g xs entries is h
+
+pub leaves-made : {H : Type 0} (node : H → ℕ) (point : InsertionPoint H) (f : Forest) (e : NewElement) → IsTree f → IsPoint node f point → LeavesStanding f (with_put node point f e)
+leaves-made node point f e tree at = leaves-stays f (with_put node point f e) (put-Point node point f e [] tree at tt).stays
+
+pub opens-Standing : {H : Type 0} (node : H → ℕ) (point : InsertionPoint H) (f : Forest) (e : NewElement) (xs : List Open) (entries : List Entry) → IsPoint node f point → IsStanding f xs entries → IsStanding (with_put node point f e) (opened_as f e ∷ xs) entries
+opens-Standing node point f e xs entries at is =
+    let made = put-Point node point f e xs is.tree at is.opened in
+    opened-Standing (with_put node point f e) (opened_as f e) xs entries made.opened made.clear (changed-Standing f (with_put node point f e) xs entries made.stays is)
+
+made-Point : (f : Forest) (e : NewElement) (xs : List Open) → IsTree f → AreOpened f xs → Made f (with_made f e) xs (opened_as f e)
+made-Point f e xs tree h = made-Made f (namespace_of e.namespace) e.name e.attrs e.had_duplicate_attributes xs tree (own-of e.namespace) h
+
+-- an element that is made, and opened without being put anywhere
+pub leaves-new : (f : Forest) (e : NewElement) → IsTree f → LeavesStanding f (with_made f e)
+leaves-new f e tree = leaves-stays f (with_made f e) (made-Point f e [] tree tt).stays
+
+pub opens-new : (f : Forest) (e : NewElement) (xs : List Open) (entries : List Entry) → IsStanding f xs entries → IsStanding (with_made f e) (opened_as f e ∷ xs) entries
+opens-new f e xs entries is =
+    let made = made-Point f e xs is.tree is.opened in
+    opened-Standing (with_made f e) (opened_as f e) xs entries made.opened made.clear (changed-Standing f (with_made f e) xs entries made.stays is)
+
+-- steps
+
+pub open-step : (s : State) (stack stack' : Stacked) (f g : Forest) (e : NewElement) → stack' ≡ record stack { open_elems = opened_as f e ∷ stack.open_elems } → g ≡ with_made f e
+    → joined s stack' g ≡ open_element (namespace_of e.namespace) e.name e.attrs e.had_duplicate_attributes (joined s stack f)
+unfolding open_element
+open-step s stack stack' f g e opened made = rw (opened, made) refl
+
+pub root-step : {H : Type 0} (node : H → ℕ) (s : State) (stack stack' : Stacked) (f g : Forest) (document : H) (attributes : List Attribute) (e : NewElement)
+    → IsFor Html (codes "html") attributes false e → node document ≡ 0 → stack' ≡ record stack { open_elems = opened_as f e ∷ stack.open_elems } → g ≡ with_put node (LastChild document) f e
+    → joined s stack' g ≡ create_root attributes (joined s stack f)
+unfolding create_root
+root-step node s stack stack' f g document attributes e of is opened made = rw (opened, made, is, of.in_namespace, of.named, of.with_attributes) refl
+
+pub push-step : {H : Type 0} (node : H → ℕ) (s : State) (stack stack' : Stacked) (f g : Forest) (point : InsertionPoint H) (e : NewElement)
+    → place_at node (with_made f e) point ≡ place_for s.foster_parenting (with_made f e) stack.open_elems (current_node stack.open_elems)
+    → stack' ≡ record stack { open_elems = opened_as f e ∷ stack.open_elems } → g ≡ with_put node point f e → joined s stack' g ≡ inserted Push e (joined s stack f)
+unfolding insert_element
+push-step node s stack stack' f g point e place opened made = rw (opened, made, place) refl
+
+pub put-step : {H : Type 0} (node : H → ℕ) (s : State) (stack : Stacked) (f g : Forest) (point : InsertionPoint H) (e : NewElement)
+    → place_at node (with_made f e) point ≡ place_for s.foster_parenting (with_made f e) stack.open_elems (current_node stack.open_elems)
+    → g ≡ with_put node point f e → joined s stack g ≡ inserted NoPush e (joined s stack f)
+unfolding put_element
+put-step node s stack f g point e place made = rw (made, place) refl
+
+pub inserted-for : (space : Namespace) (name : List ℕ) (attributes : List Attribute) (twice : Bool) (e : NewElement) (s : State) → IsFor space name attributes twice e → inserted Push e s ≡ insert_element space name attributes twice s
+inserted-for space name attributes twice e s is = rw (is.in_namespace, is.named, is.with_attributes, is.had_duplicate_attributes) refl
+
+pub put-for : (space : Namespace) (name : List ℕ) (attributes : List Attribute) (twice : Bool) (e : NewElement) (s : State) → IsFor space name attributes twice e → inserted NoPush e s ≡ put_element space name attributes twice s
+put-for space name attributes twice e s is = rw (is.in_namespace, is.named, is.with_attributes, is.had_duplicate_attributes) refl

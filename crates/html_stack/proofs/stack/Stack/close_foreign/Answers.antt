@@ -1,0 +1,21 @@
+use Rattle.std.proofs.Common.{refl}
+use Rattle.html_rules.specs.ForeignContent.{close_foreign, foreign_end}
+use Rattle.html_stack.proofs.stack.Stack.close_foreign.Goals as goal
+
+pub returns-in-Closed : goal.returns-in-Closed
+unfolding close_foreign foreign_end
+returns-in-Closed g c s f =
+    let found = rw c.as_slice.ensures.value at (c.in-Closed.ensures g.Sink.TreeSink.node) in
+    rw (← c.self.view_is, found, c.truncate.ensures.items) refl
+
+pub returns-in-Dropped : goal.returns-in-Dropped
+unfolding close_foreign foreign_end
+returns-in-Dropped g c s f =
+    let found = rw c.as_slice.ensures.value at (c.in-Dropped.ensures g.Sink.TreeSink.node) in
+    rw (← c.self.view_is, found) refl
+
+pub returns-in-AsInMode : goal.returns-in-AsInMode
+unfolding close_foreign foreign_end
+returns-in-AsInMode g c s f =
+    let found = rw c.as_slice.ensures.value at (c.in-AsInMode.ensures g.Sink.TreeSink.node) in
+    rw (← c.self.view_is, found) refl

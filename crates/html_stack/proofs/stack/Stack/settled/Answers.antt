@@ -1,0 +1,14 @@
+use Rattle.std.proofs.Common.{subst}
+use Rattle.html_stack.specs.Reopening.{IsDivided}
+use Rattle.html_stack.specs.Stacks.{Stacked, opens_of}
+use Rattle.html_stack.proofs.Reopened.{divided}
+use Rattle.html_stack.proofs.stack.Stack.settled.Goals as goal
+
+pub returns : goal.returns
+returns g c =
+    let node = g.Sink.TreeSink.node in
+    let within = rw (c.as_slice-2.ensures.value) at c.count_settled.ensures.within in
+    let wait = rw (c.as_slice.ensures.value, c.as_slice-2.ensures.value) at c.count_settled.ensures.wait in
+    let stay = rw (c.as_slice.ensures.value, c.as_slice-2.ensures.value) at c.count_settled.ensures.stay in
+    subst (λ (v : Stacked). IsDivided v.open_elems v.active_formatting c.count_settled.result) c.self.view_is
+    (divided node (opens_of node c.self.inside.open_elems.items) c.self.inside.active_formatting.items c.count_settled.result within wait stay)

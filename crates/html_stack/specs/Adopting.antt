@@ -1,0 +1,58 @@
+-- The adoption agency over a sink.
+use Rattle.std.specs.Prelude.{◌≡◌, ◌≢◌, ◌<◌, ℕ, true, false, slice_index_or, List, map, Option, Some, None}
+use Rattle.markup.specs.Forest.{Forest, Last, data_of, is_contents, node_count, put, remove, reparent_children}
+use Rattle.markup.specs.Named.{IsTree}
+use Rattle.html_rules.specs.Adoption.{Walk, adopt, begin_walk, between, furthest_block, is_number, listed_as, opened_after, walk}
+use Rattle.html_rules.specs.Stack.{in_scope}
+use Rattle.html_rules.specs.declared.tag_set.TagSet.TheVariants as set
+use Rattle.html_tokens.specs.declared.tags.Tag.{Tag}
+use Rattle.html_rules.specs.Formatting.{Listed, put_after, with_in_place, without_entry}
+use Rattle.html_rules.specs.State.{Entry, Element, Open, State}
+use Rattle.html_rules_laws.specs.Soundness.{IsStanding}
+use Rattle.html_stack.specs.Inserting.{with_made}
+use Rattle.html_stack.specs.Stacks.{entries_of, open_of, opens_of}
+use Rattle.html_stack.specs.declared.entries.FormatEntry.{FormatEntry}
+use Rattle.html_stack.specs.declared.entries.OpenElement.{OpenElement}
+use Rattle.html_stack.specs.declared.formatting.copies.Copies.{Copies}
+use Rattle.html_stack.specs.declared.inserting.new_element.NewElement.{NewElement}
+
+-- what the walk has come to
+abbrev pub walk_of : {H : Type 0} → (H → ℕ) → Forest → List (FormatEntry H) → Copies H → Walk
+walk_of node f entries copies = record { forest = f; active_formatting = entries_of node entries; copies = map (open_of node) copies.elements.items; last_node = node copies.last }
+
+-- a node that may leave its parent and be put elsewhere
+pub record IsMovable (f : Forest) (n : ℕ) : Type 0 where
+  pub tree : IsTree f
+  pub there : n < node_count f
+  pub plain : is_contents (data_of f n) ≡ false
+
+-- a tree with a new element that takes a node as its child
+abbrev pub wrapped : Forest → NewElement → ℕ → Forest
+wrapped f e last = put (remove (with_made f e) last) (Last (node_count f)) last
+
+-- a tree with a new element that takes the children of a node, and becomes its only child
+abbrev pub adopted : Forest → NewElement → ℕ → Forest
+adopted f e block = put (reparent_children (with_made f e) block (node_count f)) (Last block) (node_count f)
+
+-- what stands with the one list stands with the other
+abbrev pub KeepsStanding : Forest → List Entry → Forest → List Entry → Type 0
+KeepsStanding f entries g others = (xs : List Open) → IsStanding f xs entries → IsStanding g xs others
+
+-- the new entry stands just after that of the first copy, or in place of the formatting element's
+abbrev pub IsRelisted : {H : Type 0} → (H → ℕ) → ℕ → ℕ → Tag → Option H → List Entry → List Entry → Type 0
+IsRelisted node n new tag None old now = now ≡ with_in_place n (Element new tag) old
+IsRelisted node n new tag (Some first) old now = node first ≢ n → now ≡ without_entry n (put_after (node first) (Element new tag) old)
+
+-- a formatting element and its furthest block, by their places
+pub record IsTurn {H : Type 0} (node : H → ℕ) (elements : List (OpenElement H)) (entries : List Entry) (from to : ℕ) (tag : Tag) (d : OpenElement H) : Type 0 where
+  pub listed : listed_as (node (slice_index_or elements from d).handle) entries ≡ Some (record { number = node (slice_index_or elements from d).handle; tag = tag })
+  pub scope : in_scope set.DefaultScope (is_number (node (slice_index_or elements from d).handle)) (opens_of node elements) ≡ true
+  pub block : furthest_block (opened_after (node (slice_index_or elements from d).handle) (opens_of node elements)) ≡ Some (open_of node (slice_index_or elements to d))
+
+-- a state with another tree, other open elements and another list
+abbrev pub with_all : State → Forest → List Open → List Entry → State
+with_all s f xs entries = record s { forest = f; open_elems = xs; active_formatting = entries }
+
+-- the turn that the rules make of it
+abbrev pub turned : State → Listed → Open → State
+turned s formatting_element block = adopt formatting_element block (walk 3 (between formatting_element block s) (begin_walk block s)) s

@@ -1,0 +1,7 @@
+use Rattle.html_rules.specs.State.{is_in}
+use Rattle.html_rules.specs.declared.tag_set.TagSet.TheVariants.{Html}
+use Rattle.html_rules_laws.proofs.Standing.{fewer-Standing, part-from}
+use Rattle.html_stack_tests.proofs.formatting.close_all.Goals as goal
+
+pub returns : goal.returns
+returns c = rw c.pop_until_current.ensures (fewer-Standing c.args._forest.now c.args.stack.now.active_formatting c.args.stack.now.open_elems _ (part-from (is_in Html) c.args.stack.now.open_elems) c.requires)

@@ -1,0 +1,334 @@
+//! Foreign content: which rules take a token, end tags, and templates that may become shadow roots.
+ghost use Rattle.std.specs.Prelude.{IfOk};
+ghost use Rattle.html_rules_laws.specs.Soundness.{IsStanding};
+
+use crate::inserting::{attribute, insert, started, tag};
+use html_forest::{Forest, ForestNode};
+use html_serialize::{SerializeOpts, serialize};
+use html_stack::{ElementClass, ElementName, OpenElement, Stack, TokenShape};
+use html_tokens::Tag;
+use markup::devices::MemWriter;
+use markup::{Attributes, KnownNamespace, LocalName, Namespace, ParseFault, Text, TreeSink};
+use std::alloc::Global;
+use std::test::Fail;
+
+// An element that is opened.
+#[derive(Clone, Copy)]
+enum Opened<'a> {
+    Html(&'a str),
+    Svg(&'a str),
+    MathMl(&'a str),
+    // One of MathML, in which HTML is encoded.
+    Encoded(&'a str),
+}
+
+// An element of foreign content.
+fn enter(
+    forest: &mut Forest,
+    stack: &mut Stack<Forest>,
+    namespace: KnownNamespace,
+    tag: Tag,
+) -> Result<(), ParseFault>
+    requires { IsStanding forest.old stack.old.open_elems stack.old.active_formatting }
+    ensures { IsStanding forest.new stack.new.open_elems stack.new.active_formatting }
+{
+    let namespace = Namespace::from_known(namespace);
+    stack.enter_foreign(forest, namespace, tag, false, None)
+}
+
+fn open(
+    alloc: Global,
+    forest: &mut Forest,
+    stack: &mut Stack<Forest>,
+    element: Opened<'_>,
+) -> Result<(), ParseFault>
+    requires { IsStanding forest.old stack.old.open_elems stack.old.active_formatting }
+    ensures { IsStanding forest.new stack.new.open_elems stack.new.active_formatting }
+{
+    match element {
+        Opened::Html(name) => insert(alloc, forest, stack, name, false),
+        Opened::Svg(name) => {
+            let tag = tag(alloc, name, Attributes::new(alloc))?;
+            enter(forest, stack, KnownNamespace::Svg, tag)
+        }
+        Opened::MathMl(name) => {
+            let tag = tag(alloc, name, Attributes::new(alloc))?;
+            enter(forest, stack, KnownNamespace::MathMl, tag)
+        }
+        Opened::Encoded(name) => {
+            let tag = tag(alloc, name, attribute(alloc, "encoding", "Text/HTML")?)?;
+            enter(forest, stack, KnownNamespace::MathMl, tag)
+        }
+    }
+}
+
+// These elements in the root.
+fn built(alloc: Global, elements: &[Opened<'_>]) -> Result<(Forest, Stack<Forest>), ParseFault>
+    ensures { IfOk result (λ made. IsStanding made.0 made.1.open_elems made.1.active_formatting) }
+{
+    let (mut forest, mut stack) = started(alloc)?;
+    for element in elements {
+        open(alloc, &mut forest, &mut stack, *element)?;
+    }
+    Ok((forest, stack))
+}
+
+// A token: text, the start tag of a name, an end tag, or the end of the input.
+#[derive(Clone, Copy)]
+enum Given {
+    Text,
+    P,
+    Svg,
+    Mglyph,
+    Malignmark,
+    End,
+    EndOfFile,
+}
+
+// Whether the rules of foreign content hold for a start tag.
+fn is_start_foreign(
+    alloc: Global,
+    forest: &Forest,
+    stack: &Stack<Forest>,
+    name: &str,
+) -> Result<bool, ParseFault>
+    requires { IsStanding forest.now stack.now.open_elems stack.now.active_formatting }
+{
+    let name = LocalName::from_str(alloc, name)?;
+    let class = ElementClass::html(&name);
+    Ok(stack.is_foreign(forest, None, TokenShape::StartTag(class, &name)))
+}
+
+// Whether the rules of foreign content hold for a token.
+fn is_foreign(
+    alloc: Global,
+    forest: &Forest,
+    stack: &Stack<Forest>,
+    given: Given,
+) -> Result<bool, ParseFault>
+    requires { IsStanding forest.now stack.now.open_elems stack.now.active_formatting }
+{
+    match given {
+        Given::Text => Ok(stack.is_foreign(forest, None, TokenShape::Text)),
+        Given::P => is_start_foreign(alloc, forest, stack, "p"),
+        Given::Svg => is_start_foreign(alloc, forest, stack, "svg"),
+        Given::Mglyph => is_start_foreign(alloc, forest, stack, "mglyph"),
+        Given::Malignmark => is_start_foreign(alloc, forest, stack, "malignmark"),
+        Given::End => Ok(stack.is_foreign(forest, None, TokenShape::Other)),
+        Given::EndOfFile => Ok(stack.is_foreign(forest, None, TokenShape::EndOfFile)),
+    }
+}
+
+#[test]
+fn foreign_content_takes_its_tokens(rt: HostRuntime) -> Result<(), Fail> {
+    let rows: &[(&[Opened<'_>], &[(Given, bool)])] = &[
+        (&[], &[(Given::Text, false), (Given::P, false)]),
+        (
+            &[Opened::Svg("svg")],
+            &[
+                (Given::Text, true),
+                (Given::P, true),
+                (Given::End, true),
+                (Given::EndOfFile, false),
+            ],
+        ),
+        (
+            &[Opened::Svg("svg"), Opened::Svg("foreignObject")],
+            &[
+                (Given::Text, false),
+                (Given::Mglyph, false),
+                (Given::End, true),
+                (Given::EndOfFile, false),
+            ],
+        ),
+        (
+            &[Opened::Svg("svg"), Opened::Svg("mi")],
+            &[(Given::Text, true), (Given::P, true)],
+        ),
+        (
+            &[Opened::MathMl("math"), Opened::MathMl("mi")],
+            &[
+                (Given::Text, false),
+                (Given::P, false),
+                (Given::Mglyph, true),
+                (Given::Malignmark, true),
+                (Given::End, true),
+            ],
+        ),
+        (
+            &[Opened::MathMl("math"), Opened::MathMl("annotation-xml")],
+            &[
+                (Given::Text, true),
+                (Given::Svg, false),
+                (Given::P, true),
+                (Given::End, true),
+            ],
+        ),
+        (
+            &[Opened::MathMl("math"), Opened::Encoded("annotation-xml")],
+            &[
+                (Given::Text, false),
+                (Given::Svg, false),
+                (Given::P, false),
+                (Given::End, true),
+                (Given::EndOfFile, false),
+            ],
+        ),
+        (
+            &[Opened::Svg("svg"), Opened::Svg("desc"), Opened::Html("p")],
+            &[(Given::Text, false), (Given::End, false)],
+        ),
+    ];
+    for (elements, tokens) in rows {
+        let (forest, stack) = built(rt.alloc(), elements)?;
+        for (given, want) in *tokens {
+            assert_eq!(rt; is_foreign(rt.alloc(), &forest, &stack, *given)?, *want);
+        }
+    }
+    Ok(())
+}
+
+// Elements of these namespaces and names are open, the root first.
+fn listed(
+    alloc: Global,
+    forest: &mut Forest,
+    elements: &[(KnownNamespace, &str)],
+) -> Result<Stack<Forest>, ParseFault> {
+    let mut stack = Stack::new(alloc);
+    for (namespace, name) in elements {
+        let namespace = Namespace::from_known(*namespace);
+        let local = LocalName::from_str(alloc, name)?;
+        stack.push(OpenElement {
+            handle: forest.create_comment(Text::from_str(alloc, name)?)?,
+            name: ElementName::new(alloc, &namespace, &local)?,
+        })?;
+    }
+    Ok(stack)
+}
+
+#[test]
+fn end_tags_close_foreign_elements(rt: HostRuntime) -> Result<(), Fail> {
+    const HTML: KnownNamespace = KnownNamespace::Html;
+    const SVG: KnownNamespace = KnownNamespace::Svg;
+    // What is open, the end tag; whether the rules of the mode take it, whether it is an error, how many elements stay.
+    let rows: &[(&[(KnownNamespace, &str)], &str, bool, bool, usize)] = &[
+        (
+            &[(HTML, "html"), (SVG, "svg"), (SVG, "foreignObject")],
+            "foreignobject",
+            false,
+            false,
+            2,
+        ),
+        (
+            &[(HTML, "html"), (SVG, "svg"), (SVG, "g"), (SVG, "g")],
+            "SVG",
+            false,
+            true,
+            1,
+        ),
+        (
+            &[(HTML, "html"), (SVG, "svg"), (SVG, "my-Tag"), (SVG, "g")],
+            "MY-tag",
+            false,
+            true,
+            2,
+        ),
+        (
+            &[(HTML, "html"), (HTML, "body"), (SVG, "svg")],
+            "p",
+            true,
+            true,
+            3,
+        ),
+        (
+            &[(HTML, "html"), (HTML, "p"), (SVG, "svg"), (SVG, "g")],
+            "p",
+            true,
+            true,
+            4,
+        ),
+        (
+            &[(HTML, "html"), (SVG, "svg"), (HTML, "p")],
+            "P",
+            false,
+            false,
+            2,
+        ),
+        (
+            &[(HTML, "html"), (SVG, "svg"), (SVG, "g")],
+            "html",
+            false,
+            true,
+            3,
+        ),
+        (&[(SVG, "svg"), (SVG, "\u{212A}")], "k", false, true, 2),
+        (&[(SVG, "svg")], "svg", false, false, 1),
+        (&[(SVG, "svg")], "g", false, false, 1),
+        (&[], "svg", false, false, 0),
+    ];
+    for (elements, name, as_in_mode, is_error, left) in rows {
+        let mut forest = Forest::new(rt.alloc())?;
+        let mut stack = listed(rt.alloc(), &mut forest, elements)?;
+        let name = LocalName::from_str(rt.alloc(), name)?;
+        assert_eq!(rt; stack.ends_in_html(&name), *as_in_mode);
+        assert_eq!(rt; stack.is_foreign_end_error(&name), *is_error);
+        stack.close_foreign(&name);
+        assert_eq!(rt; stack.open_elems().len(), *left);
+    }
+    Ok(())
+}
+
+// A template with this mode of a shadow root, and text in it.
+fn insert_template(
+    alloc: Global,
+    forest: &mut Forest,
+    stack: &mut Stack<Forest>,
+    mode: &str,
+) -> Result<(), ParseFault>
+    requires { IsStanding forest.old stack.old.open_elems stack.old.active_formatting }
+{
+    let tag = tag(alloc, "template", attribute(alloc, "shadowrootmode", mode)?)?;
+    let class = ElementClass::html(&tag.name);
+    stack.insert_template(forest, None, class, tag, false, None)?;
+    stack.append_text(forest, Text::from_str(alloc, "a")?, false)
+}
+
+#[test]
+fn templates_are_inserted(rt: HostRuntime) -> Result<(), Fail> {
+    let rows: &[(&[Opened<'_>], &str, &str)] = &[
+        (
+            &[],
+            "open",
+            "<html><template shadowrootmode=\"open\">a</template></html>",
+        ),
+        (
+            &[Opened::Html("div")],
+            "open",
+            "<html><div><template shadowrootmode=\"open\">a</template></div></html>",
+        ),
+        (
+            &[Opened::Html("div")],
+            "closed",
+            "<html><div><template shadowrootmode=\"closed\">a</template></div></html>",
+        ),
+        (
+            &[Opened::Html("div")],
+            "Open",
+            "<html><div><template shadowrootmode=\"Open\">a</template></div></html>",
+        ),
+    ];
+    for (elements, mode, want) in rows {
+        let (mut forest, mut stack) = built(rt.alloc(), elements)?;
+        insert_template(rt.alloc(), &mut forest, &mut stack, mode)?;
+        assert_eq!(rt; stack.open_elems().len(), elements.len() + 2);
+        let id = forest.get_document();
+        let mut writer = MemWriter::new(rt.alloc(), 1_000, usize::MAX, None, false)?;
+        let node = ForestNode {
+            forest: &forest,
+            id,
+        };
+        assert!(rt; serialize(rt.alloc(), &mut writer, &node, SerializeOpts::default()).is_ok());
+        assert_eq!(rt; writer.written(), want.as_bytes());
+    }
+    Ok(())
+}
