@@ -1,0 +1,11 @@
+use Rattle.std.proofs.Common.{refl, ◌∙◌, ap}
+use Rattle.html_tree_builder.specs.States.{state_of}
+use Rattle.html_tree_builder.proofs.Fields.{left_of}
+use Rattle.html_rules.specs.Places.{insert_phantom}
+use Rattle.html_tree_builder.proofs.construction.Construction.insert_new.Goals as goal
+
+pub returns-clause-ok : goal.returns-clause-ok
+returns-clause-ok g c = λ a.
+    rw (← c.self.view_is)
+    (let s = state_of a (left_of c.self.view_is) (g.Sink.TreeSink.forest c.args.sink.now) in
+    c.in_ok-insert_phantom.ensures.ok s refl ∙ ap (λ name. insert_phantom name s) c.in_ok-name.ensures.ok)

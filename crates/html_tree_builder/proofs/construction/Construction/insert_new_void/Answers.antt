@@ -1,0 +1,12 @@
+use Rattle.std.proofs.Common.{refl, ◌∙◌, ap₂, false}
+use Rattle.html_rules.specs.Names.{Html}
+use Rattle.html_rules.specs.Places.{put_element}
+use Rattle.html_tree_builder.specs.States.{state_of}
+use Rattle.html_tree_builder.proofs.Fields.{left_of}
+use Rattle.html_tree_builder.proofs.construction.Construction.insert_new_void.Goals as goal
+
+pub returns-clause-ok : goal.returns-clause-ok
+returns-clause-ok g c = λ a.
+    rw (← c.self.view_is)
+    (let s = state_of a (left_of c.self.view_is) (g.Sink.TreeSink.forest c.args.sink.now) in
+    c.in_ok-insert_and_pop_element_for.ensures.ok s refl ∙ ap₂ (λ name attrs. put_element Html name attrs false s) c.in_ok-name.ensures.ok c.new-attrs.ensures)

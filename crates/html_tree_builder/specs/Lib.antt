@@ -1,0 +1,4 @@
+pub mod Told
+pub mod States
+pub mod Acting
+pub mod Rows

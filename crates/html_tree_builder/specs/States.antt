@@ -1,0 +1,75 @@
+-- The state of tree construction, as the code has it.
+use Rattle.std.specs.Prelude.{ℕ, Bool, List, Option, Some, None, IfSome}
+use Rattle.markup.specs.Forest.{Forest, IsNode}
+use Rattle.markup.specs.declared.attributes.Attribute.{Attribute}
+use Rattle.markup.specs.declared.quirks.QuirksMode.{QuirksMode}
+use Rattle.markup.specs.declared.tree_sink.TreeSink.{Ghosts}
+use Rattle.html_rules.specs.State.{Answers, Open, Options, State}
+use Rattle.html_rules_laws.specs.Soundness.{IsStanding}
+use Rattle.html_rules.specs.declared.insertion_mode.InsertionMode.{InsertionMode}
+use Rattle.html_stack.specs.Stacks.{Stacked, open_of}
+use Rattle.html_stack.specs.declared.entries.OpenElement.{OpenElement}
+use Rattle.html_tree_builder.specs.declared.options.TreeBuilderOpts.{TreeBuilderOpts}
+
+abbrev pub number_if : {H : Type 0} → (H → ℕ) → Option H → Option ℕ
+number_if node None = None
+number_if node (Some handle) = Some (node handle)
+
+abbrev pub context_of : {H : Type 0} → (H → ℕ) → Option (OpenElement H) → Option Open
+context_of node None = None
+context_of node (Some x) = Some (open_of node x)
+
+abbrev pub options_of : TreeBuilderOpts → Options
+options_of opts = record { scripting_enabled = opts.scripting_enabled; iframe_srcdoc = opts.iframe_srcdoc; drop_doctype = opts.drop_doctype }
+
+abbrev pub answers_of : (Forest → ℕ → Bool) → (Forest → ℕ → Bool) → (Forest → ℕ → ℕ → List Attribute → Bool) → Answers
+answers_of integration_point allows_shadow_roots attaches_shadow = record { integration_point = integration_point; allows_shadow_roots = allows_shadow_roots; attaches_shadow = attaches_shadow }
+
+-- what the rules go by beside the tree and what the sink answers
+pub record Building : Type 0 where
+  pub stack : Stacked
+  pub mode : InsertionMode
+  pub orig_mode : Option InsertionMode
+  pub head_elem : Option ℕ
+  pub form_elem : Option ℕ
+  pub frameset_ok : Bool
+  pub ignore_lf : Bool
+  pub foster_parenting : Bool
+  pub pending_table_text : List ℕ
+  pub quirks_mode : QuirksMode
+  pub context_elem : Option Open
+  pub has_ended : Bool
+  pub opts : Options
+
+-- the state of the rules, with what the sink answers and its tree
+abbrev pub state_of : Answers → Building → Forest → State
+state_of answers b f = record {
+  forest = f;
+  open_elems = b.stack.open_elems;
+  active_formatting = b.stack.active_formatting;
+  template_modes = b.stack.template_modes;
+  mode = b.mode;
+  orig_mode = b.orig_mode;
+  head_elem = b.head_elem;
+  form_elem = b.form_elem;
+  frameset_ok = b.frameset_ok;
+  ignore_lf = b.ignore_lf;
+  foster_parenting = b.foster_parenting;
+  pending_table_text = b.pending_table_text;
+  quirks_mode = b.quirks_mode;
+  context_elem = b.context_elem;
+  has_ended = b.has_ended;
+  opts = b.opts;
+  answers = answers;
+}
+
+-- the open elements stand, and the pointers name nodes
+pub record Stands (f : Forest) (b : Building) : Type 0 where
+  pub standing : IsStanding f b.stack.open_elems b.stack.active_formatting
+  pub head : IfSome b.head_elem (IsNode f)
+  pub form : IfSome b.form_elem (IsNode f)
+  pub context : IfSome b.context_elem (λ c. IsNode f c.number)
+
+-- the same, with what a sink answers
+abbrev pub built : {K H O : Type 0} → Ghosts K H O → Building → Forest → State
+built sink b f = state_of (answers_of sink.integration_point sink.allows_shadow_roots sink.attaches_shadow) b f

@@ -1,0 +1,8 @@
+//! What the actions of rows do (HTML Standard, section 13.2.6).
+mod elements;
+mod foreign;
+mod implied;
+mod leaving;
+mod modes;
+mod pending;
+mod pointers;

@@ -1,0 +1,278 @@
+//! Elements, text and comments that are inserted, and elements that are closed (HTML Standard, sections 13.2.6.1 and 13.2.6.3).
+ghost use Rattle.std.specs.Prelude.{◌≡◌, [], OnOk, IfErr};
+ghost use Rattle.std.specs.Str.{chars};
+ghost use Rattle.markup.specs.declared.fault.ParseFault.TheVariants.{Memory};
+ghost use Rattle.html_rules.specs.Formatting.{create_formatting_element_for, reconstruct_active_formatting_elements};
+ghost use Rattle.html_rules.specs.State.{Answers, is_in, is_named};
+ghost use Rattle.html_rules.specs.Stack.{add_attributes_to_body, add_attributes_to_root, check_body_end, close_item, close_p_element_in_button_scope, expect_to_close, pop_but_root, process_end_tag_in_body, remove_body};
+ghost use Rattle.html_rules.specs.Places.{append_comment, append_comment_to_doc, append_comment_to_html, append_text, create_root, insert_and_pop_element_for, insert_element_for, insert_phantom};
+ghost use Rattle.html_modes.specs.Tables.{spelled};
+ghost use Rattle.html_stack.specs.Wanted.{IsOfHtml};
+ghost use Rattle.html_rules.specs.Actions.{for_tag};
+ghost use Rattle.html_rules.specs.Tokens.{attributes_of};
+ghost use Rattle.html_tree_builder.specs.States.{Stands, state_of};
+ghost use Rattle.html_tree_builder.specs.Told.{IsTold, token_of};
+
+use crate::construction::Construction;
+use crate::told::{Content, Told};
+use html_modes::Implied;
+use html_names::ElementClass;
+use html_rules::TagSet;
+use markup::{Attributes, LocalName, ParseFault, Text, TreeSink};
+
+impl<Sink: TreeSink> Construction<Sink> {
+    ghost use Rattle.html_names.specs.Classes.{IsClassOf};
+    ghost use Rattle.html_rules.specs.Names.{Html};
+
+    /// An element is inserted for a tag.
+    pub(crate) fn insert_element(&mut self, sink: &mut Sink, told: Told<'_>) -> Result<(), ParseFault>
+        requires told { IsTold told }
+        requires stands { Stands (Sink.forest sink.old) self.old }
+        ensures ok { OnOk result ((a : Answers) → state_of a self.new (Sink.forest sink.new) ≡ for_tag insert_element_for (token_of told.entry.content) (state_of a self.old (Sink.forest sink.old))) }
+        ensures fault { IfErr result (λ fault. fault ≡ Memory) }
+    {
+        let Content::Tag(tag) = told.content else {
+            return Ok(());
+        };
+        let tag = tag.copy(self.alloc)?;
+        self.stack
+            .insert_element_for(sink, told.class, tag, self.foster_parenting, self.form_elem)?;
+        Ok(())
+    }
+
+    /// An element is inserted for a tag, and popped at once.
+    pub(crate) fn insert_void(&mut self, sink: &mut Sink, told: Told<'_>) -> Result<(), ParseFault>
+        requires told { IsTold told }
+        requires stands { Stands (Sink.forest sink.old) self.old }
+        ensures ok { OnOk result ((a : Answers) → state_of a self.new (Sink.forest sink.new) ≡ for_tag insert_and_pop_element_for (token_of told.entry.content) (state_of a self.old (Sink.forest sink.old))) }
+        ensures fault { IfErr result (λ fault. fault ≡ Memory) }
+    {
+        let Content::Tag(tag) = told.content else {
+            return Ok(());
+        };
+        let tag = tag.copy(self.alloc)?;
+        self.stack
+            .insert_and_pop_element_for(sink, told.class, tag, self.foster_parenting, self.form_elem)?;
+        Ok(())
+    }
+
+    /// An element is inserted for a tag, and listed.
+    pub(crate) fn insert_formatting(&mut self, sink: &mut Sink, told: Told<'_>) -> Result<(), ParseFault>
+        requires told { IsTold told }
+        requires stands { Stands (Sink.forest sink.old) self.old }
+        ensures ok { OnOk result ((a : Answers) → state_of a self.new (Sink.forest sink.new) ≡ for_tag create_formatting_element_for (token_of told.entry.content) (state_of a self.old (Sink.forest sink.old))) }
+        ensures fault { IfErr result (λ fault. fault ≡ Memory) }
+    {
+        let Content::Tag(tag) = told.content else {
+            return Ok(());
+        };
+        let tag = tag.copy(self.alloc)?;
+        self.stack
+            .create_formatting_element_for(sink, told.class, tag, self.foster_parenting)?;
+        Ok(())
+    }
+
+    /// An element is inserted without a tag of its own.
+    pub(crate) fn insert_new(&mut self, sink: &mut Sink, name: Implied) -> Result<(), ParseFault>
+        requires stands { Stands (Sink.forest sink.old) self.old }
+        ensures ok { OnOk result ((a : Answers) → state_of a self.new (Sink.forest sink.new) ≡ insert_phantom (spelled name) (state_of a self.old (Sink.forest sink.old))) }
+        ensures fault { IfErr result (λ fault. fault ≡ Memory) }
+    {
+        let name = name.local_name(self.alloc)?;
+        self.stack
+            .insert_phantom(sink, name, self.foster_parenting, self.form_elem)?;
+        Ok(())
+    }
+
+    /// The root is made, and opened.
+    pub(crate) fn create_root(
+        &mut self,
+        sink: &mut Sink,
+        told: Told<'_>,
+    ) -> Result<(), ParseFault>
+        requires stands { Stands (Sink.forest sink.old) self.old }
+        ensures ok { OnOk result ((a : Answers) → state_of a self.new (Sink.forest sink.new) ≡ create_root (attributes_of (token_of told.entry.content)) (state_of a self.old (Sink.forest sink.old))) }
+        ensures fault { IfErr result (λ fault. fault ≡ Memory) }
+    {
+        let attrs = told.attributes(self.alloc)?;
+        self.stack.create_root(sink, attrs)?;
+        Ok(())
+    }
+
+    /// The root is made without attributes, and opened.
+    pub(crate) fn create_new_root(&mut self, sink: &mut Sink) -> Result<(), ParseFault>
+        requires stands { Stands (Sink.forest sink.old) self.old }
+        ensures ok { OnOk result ((a : Answers) → state_of a self.new (Sink.forest sink.new) ≡ create_root [] (state_of a self.old (Sink.forest sink.old))) }
+        ensures fault { IfErr result (λ fault. fault ≡ Memory) }
+    {
+        let attrs = Attributes::new(self.alloc);
+        self.stack.create_root(sink, attrs)?;
+        Ok(())
+    }
+
+    /// Text is put at the appropriate place.
+    pub(crate) fn append_text(&mut self, sink: &mut Sink, text: &str) -> Result<(), ParseFault>
+        requires stands { Stands (Sink.forest sink.old) self.old }
+        ensures ok { OnOk result ((a : Answers) → state_of a self.new (Sink.forest sink.new) ≡ append_text (chars text.now) (state_of a self.old (Sink.forest sink.old))) }
+        ensures fault { IfErr result (λ fault. fault ≡ Memory) }
+    {
+        let text = Text::from_str(self.alloc, text)?;
+        self.stack.append_text(sink, text, self.foster_parenting)?;
+        Ok(())
+    }
+
+    /// A comment is put at the appropriate place.
+    pub(crate) fn append_comment(&mut self, sink: &mut Sink, text: &str) -> Result<(), ParseFault>
+        requires stands { Stands (Sink.forest sink.old) self.old }
+        ensures ok { OnOk result ((a : Answers) → state_of a self.new (Sink.forest sink.new) ≡ append_comment (chars text.now) (state_of a self.old (Sink.forest sink.old))) }
+        ensures fault { IfErr result (λ fault. fault ≡ Memory) }
+    {
+        let text = Text::from_str(self.alloc, text)?;
+        self.stack
+            .append_comment(sink, text, self.foster_parenting)?;
+        Ok(())
+    }
+
+    /// A comment is put last into the document.
+    pub(crate) fn append_comment_to_doc(
+        &mut self,
+        sink: &mut Sink,
+        text: &str,
+    ) -> Result<(), ParseFault>
+        requires stands { Stands (Sink.forest sink.old) self.old }
+        ensures ok { OnOk result ((a : Answers) → state_of a self.new (Sink.forest sink.new) ≡ append_comment_to_doc (chars text.now) (state_of a self.old (Sink.forest sink.old))) }
+        ensures fault { IfErr result (λ fault. fault ≡ Memory) }
+    {
+        let text = Text::from_str(self.alloc, text)?;
+        self.stack.append_comment_to_doc(sink, text)?;
+        Ok(())
+    }
+
+    /// A comment is put last into the root.
+    pub(crate) fn append_comment_to_html(
+        &mut self,
+        sink: &mut Sink,
+        text: &str,
+    ) -> Result<(), ParseFault>
+        requires stands { Stands (Sink.forest sink.old) self.old }
+        ensures ok { OnOk result ((a : Answers) → state_of a self.new (Sink.forest sink.new) ≡ append_comment_to_html (chars text.now) (state_of a self.old (Sink.forest sink.old))) }
+        ensures fault { IfErr result (λ fault. fault ≡ Memory) }
+    {
+        let text = Text::from_str(self.alloc, text)?;
+        self.stack.append_comment_to_html(sink, text)?;
+        Ok(())
+    }
+
+    /// The root gets attributes that it lacks.
+    pub(crate) fn add_attributes_to_root(
+        &mut self,
+        sink: &mut Sink,
+        told: Told<'_>,
+    ) -> Result<(), ParseFault>
+        requires stands { Stands (Sink.forest sink.old) self.old }
+        ensures ok { OnOk result ((a : Answers) → state_of a self.new (Sink.forest sink.new) ≡ add_attributes_to_root (attributes_of (token_of told.entry.content)) (state_of a self.old (Sink.forest sink.old))) }
+        ensures fault { IfErr result (λ fault. fault ≡ Memory) }
+    {
+        let attrs = told.attributes(self.alloc)?;
+        self.stack.add_attributes_to_root(sink, attrs)?;
+        Ok(())
+    }
+
+    /// The body gets attributes that it lacks.
+    pub(crate) fn add_attributes_to_body(
+        &mut self,
+        sink: &mut Sink,
+        told: Told<'_>,
+    ) -> Result<(), ParseFault>
+        requires stands { Stands (Sink.forest sink.old) self.old }
+        ensures ok { OnOk result ((a : Answers) → state_of a self.new (Sink.forest sink.new) ≡ add_attributes_to_body (attributes_of (token_of told.entry.content)) (state_of a self.old (Sink.forest sink.old))) }
+        ensures fault { IfErr result (λ fault. fault ≡ Memory) }
+    {
+        let attrs = told.attributes(self.alloc)?;
+        self.stack.add_attributes_to_body(sink, attrs)?;
+        Ok(())
+    }
+
+    /// The body leaves its parent, and all but the root leave the stack.
+    pub(crate) fn remove_body(&mut self, sink: &mut Sink)
+        requires stands { Stands (Sink.forest sink.old) self.old }
+        ensures { (a : Answers) → state_of a self.new (Sink.forest sink.new) ≡ remove_body (state_of a self.old (Sink.forest sink.old)) }
+    {
+        self.stack.remove_body(sink);
+    }
+
+    /// The current node is popped, unless it is the root.
+    pub(crate) fn pop_but_root(&mut self, sink: &mut Sink)
+        requires stands { Stands (Sink.forest sink.old) self.old }
+        ensures { (a : Answers) → state_of a self.new (Sink.forest sink.new) ≡ pop_but_root (state_of a self.old (Sink.forest sink.old)) }
+    {
+        drop(self.stack.pop_but_root(sink));
+    }
+
+    /// "Reconstruct the active formatting elements".
+    pub(crate) fn reconstruct(&mut self, sink: &mut Sink) -> Result<(), ParseFault>
+        requires stands { Stands (Sink.forest sink.old) self.old }
+        ensures ok { OnOk result ((a : Answers) → state_of a self.new (Sink.forest sink.new) ≡ reconstruct_active_formatting_elements (state_of a self.old (Sink.forest sink.old))) }
+        ensures fault { IfErr result (λ fault. fault ≡ Memory) }
+    {
+        self.stack
+            .reconstruct_active_formatting_elements(sink, self.foster_parenting)?;
+        Ok(())
+    }
+
+    /// Elements of a set are popped up to, with an error if it is not the current node.
+    pub(crate) fn close_in(&mut self, sink: &mut Sink, set: TagSet)
+        requires stands { Stands (Sink.forest sink.old) self.old }
+        ensures { (a : Answers) → state_of a self.new (Sink.forest sink.new) ≡ expect_to_close (is_in set) (state_of a self.old (Sink.forest sink.old)) }
+    {
+        self.stack.expect_to_close_in(sink, set);
+    }
+
+    /// The same, for a name.
+    pub(crate) fn close_named(&mut self, sink: &mut Sink, class: ElementClass, name: &LocalName)
+        requires class { IsClassOf Html name.now class }
+        requires stands { Stands (Sink.forest sink.old) self.old }
+        ensures { (a : Answers) → state_of a self.new (Sink.forest sink.new) ≡ expect_to_close (is_named name.now) (state_of a self.old (Sink.forest sink.old)) }
+    {
+        self.stack.expect_to_close(sink, class, name);
+    }
+
+    /// "Close a p element", if one is in button scope.
+    pub(crate) fn close_p(&mut self, sink: &mut Sink)
+        requires stands { Stands (Sink.forest sink.old) self.old }
+        ensures { (a : Answers) → state_of a self.new (Sink.forest sink.new) ≡ close_p_element_in_button_scope (state_of a self.old (Sink.forest sink.old)) }
+    {
+        self.stack.close_p_element_in_button_scope(sink);
+    }
+
+    /// The item that a new one ends is closed.
+    pub(crate) fn close_item(&mut self, sink: &mut Sink, items: TagSet)
+        requires items { IsOfHtml items }
+        requires stands { Stands (Sink.forest sink.old) self.old }
+        ensures { (a : Answers) → state_of a self.new (Sink.forest sink.new) ≡ close_item items (state_of a self.old (Sink.forest sink.old)) }
+    {
+        self.stack.close_item(sink, items);
+    }
+
+    /// "Any other end tag" in a body.
+    pub(crate) fn any_other_end_tag(
+        &mut self,
+        sink: &mut Sink,
+        class: ElementClass,
+        name: &LocalName,
+    )
+        requires class { IsClassOf Html name.now class }
+        requires stands { Stands (Sink.forest sink.old) self.old }
+        ensures { (a : Answers) → state_of a self.new (Sink.forest sink.new) ≡ process_end_tag_in_body name.now (state_of a self.old (Sink.forest sink.old)) }
+    {
+        self.stack.process_end_tag_in_body(sink, class, name);
+    }
+
+    /// An error, if something is open that may not be where the body ends.
+    pub(crate) fn check_body_end(&mut self, sink: &mut Sink)
+        requires stands { Stands (Sink.forest sink.old) self.old }
+        ensures { (a : Answers) → state_of a self.new (Sink.forest sink.new) ≡ check_body_end (state_of a self.old (Sink.forest sink.old)) }
+    {
+        self.stack.check_body_end(sink);
+    }
+}

@@ -1,0 +1,86 @@
+//! Elements of foreign content, and templates (HTML Standard, sections 13.2.6.4.4 and 13.2.6.5).
+ghost use Rattle.std.specs.Prelude.{◌≡◌, IfErr, OnOk};
+ghost use Rattle.markup.specs.Forest.{Forest};
+ghost use Rattle.markup.specs.declared.fault.ParseFault.TheVariants.{Memory};
+ghost use Rattle.html_modes.specs.Tables.{namespace_of};
+ghost use Rattle.html_rules.specs.Actions.{for_tag};
+ghost use Rattle.html_rules.specs.ForeignContent.{enter_foreign, foreign_start, pop_foreign};
+ghost use Rattle.html_rules.specs.Names as names;
+ghost use Rattle.html_rules.specs.State.{Answers};
+ghost use Rattle.html_tree_builder.specs.States.{Stands, state_of};
+ghost use Rattle.html_tree_builder.specs.Told.{token_of};
+
+use crate::construction::{Construction, lent};
+use crate::told::{Content, Told};
+use html_modes::Foreign;
+use markup::{KnownNamespace, Namespace, ParseFault, TreeSink};
+
+/// The namespace.
+#[tactic(auto, unfolding(markup::specs::Namespaces::name_of, markup::specs::Names::html_namespace, html_rules::specs::Names::mathml_namespace, html_rules::specs::Names::svg_namespace))]
+fn own_namespace(namespace: Foreign) -> Namespace
+    ensures { names.namespace_of result ≡ namespace_of namespace }
+{
+    match namespace {
+        Foreign::MathMl => Namespace::from_known(KnownNamespace::MathMl),
+        Foreign::Svg => Namespace::from_known(KnownNamespace::Svg),
+    }
+}
+
+impl<Sink: TreeSink> Construction<Sink> {
+    /// A `math` or an `svg` element is inserted for a tag.
+    pub(crate) fn enter_foreign(
+        &mut self,
+        sink: &mut Sink,
+        namespace: Foreign,
+        told: Told<'_>,
+    ) -> Result<(), ParseFault>
+        requires stands { Stands (Sink.forest sink.old) self.old }
+        ensures ok { OnOk result ((a : Answers) → state_of a self.new (Sink.forest sink.new) ≡ for_tag (enter_foreign (namespace_of namespace)) (token_of told.entry.content) (state_of a self.old (Sink.forest sink.old))) }
+        ensures fault { IfErr result (λ fault. fault ≡ Memory) }
+    {
+        let Content::Tag(tag) = told.content else {
+            return Ok(());
+        };
+        let tag = tag.copy(self.alloc)?;
+        self.stack.enter_foreign(
+            sink,
+            own_namespace(namespace),
+            tag,
+            self.foster_parenting,
+            self.form_elem,
+        )?;
+        Ok(())
+    }
+
+    /// An element is inserted in the namespace of the adjusted current node.
+    pub(crate) fn insert_foreign(
+        &mut self,
+        sink: &mut Sink,
+        told: Told<'_>,
+    ) -> Result<(), ParseFault>
+        requires stands { Stands (Sink.forest sink.old) self.old }
+        ensures ok { OnOk result ((a : Answers) → state_of a self.new (Sink.forest sink.new) ≡ for_tag foreign_start (token_of told.entry.content) (state_of a self.old (Sink.forest sink.old))) }
+        ensures fault { IfErr result (λ fault. fault ≡ Memory) }
+    {
+        let Content::Tag(tag) = told.content else {
+            return Ok(());
+        };
+        let tag = tag.copy(self.alloc)?;
+        self.stack.foreign_start(
+            sink,
+            lent(&self.context_elem),
+            tag,
+            self.foster_parenting,
+            self.form_elem,
+        )?;
+        Ok(())
+    }
+
+    /// Elements are popped until foreign content ends.
+    #[tactic(auto, unfolding(html_rules::specs::ForeignContent::pop_foreign, html_rules::specs::Stack::pop_until_current))]
+    pub(crate) fn pop_foreign(&mut self)
+        ensures { (a : Answers) (f : Forest) → state_of a self.new f ≡ pop_foreign (state_of a self.old f) }
+    {
+        self.stack.pop_foreign();
+    }
+}

@@ -1,0 +1,63 @@
+//! Text of a table that waited (HTML Standard, section 13.2.6.4.10).
+ghost use Rattle.std.specs.Prelude.{◌≡◌, IfErr, OnOk};
+ghost use Rattle.std.specs.Str.{chars};
+ghost use Rattle.markup.specs.declared.fault.ParseFault.TheVariants.{Memory};
+ghost use Rattle.html_rules.specs.Actions.{append_in_body, tell_pending_text, tell_text};
+ghost use Rattle.html_tree_builder.specs.Acting.{foster_text};
+ghost use Rattle.html_rules.specs.State.{Answers};
+ghost use Rattle.html_tree_builder.specs.States.{Stands, state_of};
+
+use crate::construction::Construction;
+use crate::told::is_white;
+use markup::{ParseFault, TreeSink};
+use std::borrow::CowStr;
+
+impl<Sink: TreeSink> Construction<Sink> {
+    /// Characters, by the rules for a body.
+    fn append_in_body(&mut self, sink: &mut Sink, text: &str) -> Result<(), ParseFault>
+        requires stands { Stands (Sink.forest sink.old) self.old }
+        ensures ok { OnOk result ((a : Answers) → state_of a self.new (Sink.forest sink.new) ≡ append_in_body (chars text.now) (state_of a self.old (Sink.forest sink.old))) }
+        ensures fault { IfErr result (λ fault. fault ≡ Memory) }
+    {
+        self.reconstruct(sink)?;
+        self.frameset_not_ok_unless_white(text);
+        self.append_text(sink, text)
+    }
+
+    /// Characters that belong nowhere in a table are fostered, with an error.
+    fn foster_text(&mut self, sink: &mut Sink, text: &str) -> Result<(), ParseFault>
+        requires stands { Stands (Sink.forest sink.old) self.old }
+        ensures ok { OnOk result ((a : Answers) → state_of a self.new (Sink.forest sink.new) ≡ foster_text (chars text.now) (state_of a self.old (Sink.forest sink.old))) }
+        ensures fault { IfErr result (λ fault. fault ≡ Memory) }
+    {
+        sink.parse_error(CowStr::Borrowed("text in a table"));
+        self.set_foster_parenting(true);
+        self.append_in_body(sink, text)?;
+        self.set_foster_parenting(false);
+        Ok(())
+    }
+
+    /// Text of a table goes where it belongs: white space is appended, any other text is fostered.
+    fn tell_text(&mut self, sink: &mut Sink, text: &str) -> Result<(), ParseFault>
+        requires stands { Stands (Sink.forest sink.old) self.old }
+        ensures ok { OnOk result ((a : Answers) → state_of a self.new (Sink.forest sink.new) ≡ tell_text (chars text.now) (state_of a self.old (Sink.forest sink.old))) }
+        ensures fault { IfErr result (λ fault. fault ≡ Memory) }
+    {
+        if is_white(text) {
+            return self.append_text(sink, text);
+        }
+        self.foster_text(sink, text)
+    }
+
+    /// The pending table character tokens go where the table's text goes.
+    pub(crate) fn tell_pending_text(&mut self, sink: &mut Sink) -> Result<(), ParseFault>
+        requires stands { Stands (Sink.forest sink.old) self.old }
+        ensures ok { OnOk result ((a : Answers) → state_of a self.new (Sink.forest sink.new) ≡ tell_pending_text (state_of a self.old (Sink.forest sink.old))) }
+        ensures fault { IfErr result (λ fault. fault ≡ Memory) }
+    {
+        let text = self.pending_table_text.copy(self.alloc)?;
+        self.tell_text(sink, text.as_str())?;
+        self.pending_table_text.clear();
+        Ok(())
+    }
+}

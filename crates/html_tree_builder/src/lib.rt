@@ -1,0 +1,13 @@
+//! The tree builder: what tokens make of a tree (HTML Standard, section 13.2.6).
+#![tactic(auto)]
+
+mod actions;
+mod conclusions;
+mod conditions;
+mod construction;
+pub mod options;
+mod rows;
+mod told;
+mod walks;
+
+pub use options::TreeBuilderOpts;
