@@ -26,7 +26,7 @@ module _ {K H : Type 0} (Sink : Ghosts K H) where
       omega arith
 
   fed-less : (old new : Tokenizer K) (from to : Queue) (result : TokenizerResult H) → 0 < length from.characters → Fed Sink old new from to result → length to.characters < length from.characters
-  fed-less old new from to Done h fed = let none : length to.characters ≡ 0 = ap length fed.left in omega arith
+  fed-less old new from to Done h fed = let none : length to.characters ≡ 0 = ap length fed.left.0 in omega arith
   fed-less old new from to (Script handle) h fed = behind-close old new from to (Script handle) fed fed.left.0
   fed-less old new from to (EncodingIndicator label) h fed = behind-close old new from to (EncodingIndicator label) fed fed.left.0
 
