@@ -2,3 +2,4 @@ pub mod Told
 pub mod States
 pub mod Acting
 pub mod Rows
+pub mod Turning

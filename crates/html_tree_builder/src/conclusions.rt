@@ -1,19 +1,20 @@
 //! What comes once the actions of a row are done (HTML Standard, section 13.2.6).
-ghost use Rattle.std.specs.Prelude.{◌≡◌, ℕ, IfOk, IfErr, option_map};
+ghost use Rattle.std.specs.Prelude.{◌≡◌, ℕ, IfOk, IfErr, OnOk, option_map};
 ghost use Rattle.std.specs.Str.{chars};
 ghost use Rattle.markup.specs.Forest.{Forest};
 ghost use Rattle.markup.specs.declared.fault.ParseFault.TheVariants.{Memory};
 ghost use Rattle.html_tokens.specs.declared.token.Token.{Token};
 ghost use Rattle.html_rules.specs.Encodings.{encoding_hint, encoding_of_content, is_content_type};
-ghost use Rattle.html_rules.specs.Rules.{Turn, concluded, encoding_reply};
+ghost use Rattle.html_rules.specs.Rules.{Turn, concluded, encoding_reply, using_rules_for};
 ghost use Rattle.html_rules.specs.State.{Answers, State};
 ghost use Rattle.html_rules.specs.Tokens.{attributes_of};
 ghost use Rattle.html_rules.specs.declared.insertion_mode.InsertionMode.{InsertionMode as Mode};
 ghost use Rattle.html_names.specs.Given.{Gives};
 ghost use Rattle.html_modes.specs.Tables.{conclusion_of};
 ghost use Rattle.html_tree_builder.specs.Rows.{ending_of, next_turn};
-ghost use Rattle.html_tree_builder.specs.States.{state_of};
+ghost use Rattle.html_tree_builder.specs.States.{Stands, state_of};
 ghost use Rattle.html_tree_builder.specs.Told.{token_of};
+ghost use Rattle.html_tree_builder.specs.Turning.{MayConclude, MayGoOn, MayUse};
 
 use crate::conditions::value_of;
 use crate::construction::Construction;
@@ -118,6 +119,8 @@ impl<Sink: TreeSink> Construction<Sink> {
         told: Told<'_>,
     ) -> Result<Next<Sink::Handle>, ParseFault>
         ensures ok { IfOk result (λ next. (a : Answers) (f : Forest) (using : Mode → Token → State → Turn) → concluded using (conclusion_of ends.now) (token_of told.entry.content) (Sink.node script) (state_of a self.old f) ≡ next_turn Sink.node using next (token_of told.entry.content) (state_of a self.new f)) }
+        ensures may { IfOk result (λ next. (n : ℕ) (a : Answers) (f : Forest) → MayConclude (MayUse n) (using_rules_for n) (conclusion_of ends.now) (token_of told.entry.content) (state_of a self.old f) → MayGoOn (MayUse n) (using_rules_for n) next (token_of told.entry.content) (state_of a self.new f)) }
+        ensures stands { OnOk result ((f : Forest) → Stands f self.old → Stands f self.new) }
         ensures fault { IfErr result (λ fault. fault ≡ Memory) }
     {
         match ends {

@@ -18,7 +18,7 @@ impl<Sink: TreeSink> Construction<Sink> {
     ghost use Rattle.html_rules.specs.Names.{Html};
 
     /// The current node; the document, where none is open.
-    fn current_handle(&self, sink: &mut Sink) -> Sink::Handle
+    pub(crate) fn current_handle(&self, sink: &mut Sink) -> Sink::Handle
         ensures number { Sink.node result ≡ current_number self.now.stack.open_elems }
         ensures same { Sink.forest sink.new ≡ Sink.forest sink.old }
     {
@@ -84,9 +84,13 @@ impl<Sink: TreeSink> Construction<Sink> {
             return Ok(());
         };
         let tag = tag.copy(self.alloc)?;
-        let form = self
-            .stack
-            .insert_and_pop_element_for(sink, told.class, tag, self.foster_parenting, self.form_elem)?;
+        let form = self.stack.insert_and_pop_element_for(
+            sink,
+            told.class,
+            tag,
+            self.foster_parenting,
+            self.form_elem,
+        )?;
         self.form_elem = Some(form);
         Ok(())
     }
