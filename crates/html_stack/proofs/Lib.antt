@@ -24,3 +24,4 @@ pub mod Turned
 pub mod EndTags
 pub mod Dispatched
 pub mod ShadowRoots
+pub mod Agencies

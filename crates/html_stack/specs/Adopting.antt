@@ -1,17 +1,19 @@
 -- The adoption agency over a sink.
-use Rattle.std.specs.Prelude.{◌≡◌, ◌≢◌, ◌<◌, ℕ, true, false, slice_index_or, List, map, Option, Some, None}
-use Rattle.markup.specs.Forest.{Forest, Last, data_of, is_contents, node_count, put, remove, reparent_children}
+use Rattle.std.specs.Prelude.{◌≡◌, ◌≢◌, ◌<◌, ℕ, Bool, true, false, length, slice_index_or, List, map, Option, Some, None}
+use Rattle.markup.specs.Forest.{Forest, Last, add_error, data_of, is_contents, node_count, put, remove, reparent_children}
 use Rattle.markup.specs.Named.{IsTree}
-use Rattle.html_rules.specs.Adoption.{Walk, adopt, begin_walk, between, furthest_block, is_number, listed_as, opened_after, walk}
+use Rattle.html_rules.specs.Adoption.{Turned, Walk, adopt, adopt_listed, begin_walk, between, furthest_block, is_number, listed_as, opened_after, walk}
+use Rattle.html_rules.specs.Choice.{choose}
 use Rattle.html_rules.specs.Stack.{in_scope}
 use Rattle.html_rules.specs.declared.tag_set.TagSet.TheVariants as set
 use Rattle.html_tokens.specs.declared.tags.Tag.{Tag}
-use Rattle.html_rules.specs.Formatting.{Listed, put_after, with_in_place, without_entry}
-use Rattle.html_rules.specs.State.{Entry, Element, Open, State}
+use Rattle.html_rules.specs.Formatting.{Listed, last_named, put_after, with_in_place, without_entry}
+use Rattle.html_rules.specs.State.{Entry, Element, Open, State, current_is}
 use Rattle.html_rules_laws.specs.Soundness.{IsStanding}
 use Rattle.html_stack.specs.Inserting.{with_made}
 use Rattle.html_stack.specs.Stacks.{entries_of, open_of, opens_of}
 use Rattle.html_stack.specs.declared.entries.FormatEntry.{FormatEntry}
+use Rattle.html_stack.specs.declared.entries.FormatEntry.TheVariants as held
 use Rattle.html_stack.specs.declared.entries.OpenElement.{OpenElement}
 use Rattle.html_stack.specs.declared.formatting.copies.Copies.{Copies}
 use Rattle.html_stack.specs.declared.inserting.new_element.NewElement.{NewElement}
@@ -56,3 +58,27 @@ with_all s f xs entries = record s { forest = f; open_elems = xs; active_formatt
 -- the turn that the rules make of it
 abbrev pub turned : State → Listed → Open → State
 turned s formatting_element block = adopt formatting_element block (walk 3 (between formatting_element block s) (begin_walk block s)) s
+
+-- an entry, by its place, is the last since the last marker that was made for a tag of some name
+pub record IsFormatting {H : Type 0} (node : H → ℕ) (name : List ℕ) (entries : List (FormatEntry H)) (place : ℕ) (handle : H) (tag : Tag) : Type 0 where
+  pub within : place < length entries
+  pub entry : slice_index_or entries place held.Marker ≡ held.Element handle tag
+  pub found : last_named name (entries_of node entries) ≡ Some (record { number = node handle; tag = tag })
+
+-- an entry, by its place, is the newest of its element
+pub record IsListedAt {H : Type 0} (node : H → ℕ) (entries : List (FormatEntry H)) (place : ℕ) (handle : H) (tag : Tag) : Type 0 where
+  pub within : place < length entries
+  pub entry : slice_index_or entries place held.Marker ≡ held.Element handle tag
+  pub newest : listed_as (node handle) (entries_of node entries) ≡ Some (record { number = node handle; tag = tag })
+
+-- a tree, with an error more if an element is not the current node
+abbrev pub told : ℕ → List Open → Forest → Forest
+told n xs f = choose (current_is (is_number n) xs) (λ _. f) (λ _. add_error f)
+
+-- what a turn comes to
+abbrev pub came_to : Bool → State → Turned
+came_to goes_on s = record { state = s; goes_on = goes_on }
+
+-- what a turn makes of a tree, open elements and a list, with the entry of an element
+abbrev pub IsTurnOf : Bool → ℕ → Bool → Forest → List Open → List Entry → Forest → List Open → List Entry → Type 0
+IsTurnOf foster n goes_on f xs entries g ys others = (name : List ℕ) (s : State) → s.foster_parenting ≡ foster → came_to goes_on (with_all s g ys others) ≡ adopt_listed (listed_as n entries) name (with_all s f xs entries)

@@ -7,4 +7,4 @@ pub mod new_element;
 pub mod places;
 mod roots;
 mod templates;
-mod walks;
+pub(crate) mod walks;

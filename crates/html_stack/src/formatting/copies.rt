@@ -1,6 +1,6 @@
 //! The walk of the adoption agency: elements between the formatting element and the furthest block are replaced by copies (HTML Standard,
 //! section 13.2.6.4.7).
-ghost use Rattle.std.specs.Prelude.{◌≡◌, [], ℕ, List, IfErr, IfOk, OnErr, OnOk};
+ghost use Rattle.std.specs.Prelude.{◌≡◌, ◌≤◌, [], ℕ, List, IfErr, IfOk, OnErr, OnOk};
 ghost use Rattle.markup.specs.Forest.{IsParent, node_count};
 ghost use Rattle.markup.specs.Named.{IsTree};
 ghost use Rattle.markup.specs.declared.fault.ParseFault.TheVariants.{Memory};
@@ -38,6 +38,7 @@ fn wrap<Sink: TreeSink>(
     ensures named { IfOk result (λ made. Sink.node made ≡ node_count (Sink.forest sink.old)) }
     ensures ok { OnOk result (Sink.forest sink.new ≡ wrapped (Sink.forest sink.old) element (Sink.node last.now)) }
     ensures kept { OnErr result (LeavesStanding (Sink.forest sink.old) (Sink.forest sink.new)) }
+    ensures grows { node_count (Sink.forest sink.old) ≤ node_count (Sink.forest sink.new) }
     ensures fault { IfErr result (λ fault. fault ≡ Memory) }
 {
     let made = element.create(sink)?;
@@ -57,6 +58,7 @@ fn copy_node<Sink: TreeSink>(
     requires { IsMovable (Sink.forest sink.old) (Sink.node copies.old.last) }
     ensures ok { OnOk result (walk_of Sink.node (Sink.forest sink.new) entries.new.items copies.new ≡ copy_if (listed_as (Sink.node node.now) (entries_of Sink.node entries.old.items)) (walk_of Sink.node (Sink.forest sink.old) entries.old.items copies.old)) }
     ensures kept { OnErr result (KeepsStanding (Sink.forest sink.old) (entries_of Sink.node entries.old.items) (Sink.forest sink.new) (entries_of Sink.node entries.new.items)) }
+    ensures grows { node_count (Sink.forest sink.old) ≤ node_count (Sink.forest sink.new) }
     ensures fault { IfErr result (λ fault. fault ≡ Memory) }
 {
     let Some(place) = positions::in_list(sink, entries.as_slice(), node) else {
@@ -89,6 +91,7 @@ pub(crate) fn copy_between<Sink: TreeSink>(
     requires block { IsOpened (Sink.forest sink.old) (open_of Sink.node block.now) }
     ensures ok { IfOk result (λ copies. walk_of Sink.node (Sink.forest sink.new) entries.new.items copies ≡ walk 3 (opens_of Sink.node elements.now) (record { forest = Sink.forest sink.old; active_formatting = entries_of Sink.node entries.old.items; copies = []; last_node = Sink.node block.now.handle })) }
     ensures kept { OnErr result (KeepsStanding (Sink.forest sink.old) (entries_of Sink.node entries.old.items) (Sink.forest sink.new) (entries_of Sink.node entries.new.items)) }
+    ensures grows { node_count (Sink.forest sink.old) ≤ node_count (Sink.forest sink.new) }
     ensures fault { IfErr result (λ fault. fault ≡ Memory) }
 {
     let mut copies = Copies {
@@ -122,6 +125,7 @@ pub(crate) fn adopt_children<Sink: TreeSink>(
     ensures named { IfOk result (λ made. Sink.node made ≡ node_count (Sink.forest sink.old)) }
     ensures ok { OnOk result (Sink.forest sink.new ≡ adopted (Sink.forest sink.old) element (Sink.node block.now)) }
     ensures kept { OnErr result (LeavesStanding (Sink.forest sink.old) (Sink.forest sink.new)) }
+    ensures grows { node_count (Sink.forest sink.old) ≤ node_count (Sink.forest sink.new) }
     ensures fault { IfErr result (λ fault. fault ≡ Memory) }
 {
     let made = element.create(sink)?;

@@ -1,6 +1,6 @@
 //! Where the adoption agency puts the last node of its walk (HTML Standard, section 13.2.6.4.7).
 ghost use Rattle.std.specs.Prelude.{◌≡◌, ◌≤◌, length, take, IfErr, OnErr, OnOk};
-ghost use Rattle.markup.specs.Forest.{Forest, IsLoose, IsNode, parent_at, put, remove};
+ghost use Rattle.markup.specs.Forest.{Forest, IsLoose, IsNode, node_count, parent_at, put, remove};
 ghost use Rattle.markup.specs.Named.{IsTree};
 ghost use Rattle.markup.specs.declared.fault.ParseFault.TheVariants.{Memory};
 ghost use Rattle.html_rules.specs.Places.{place_for};
@@ -44,6 +44,7 @@ pub(crate) fn put_last<Sink: TreeSink>(
     requires loose { IsLoose (remove (Sink.forest sink.old) (Sink.node last)) (parent_at (place_at Sink.node (remove (Sink.forest sink.old) (Sink.node last)) point)) (Sink.node last) }
     ensures ok { OnOk result (Sink.forest sink.new ≡ put (remove (Sink.forest sink.old) (Sink.node last)) (place_at Sink.node (remove (Sink.forest sink.old) (Sink.node last)) point) (Sink.node last)) }
     ensures err { OnErr result (Sink.forest sink.new ≡ remove (Sink.forest sink.old) (Sink.node last)) }
+    ensures grows { node_count (Sink.forest sink.old) ≤ node_count (Sink.forest sink.new) }
     ensures fault { IfErr result (λ fault. fault ≡ Memory) }
 {
     sink.remove_from_parent(&last);

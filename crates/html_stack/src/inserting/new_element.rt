@@ -1,5 +1,5 @@
 //! An element that is to be made.
-ghost use Rattle.std.specs.Prelude.{◌≡◌, false, IfErr, IfOk, OnErr, OnOk};
+ghost use Rattle.std.specs.Prelude.{◌≡◌, ◌≤◌, false, IfErr, IfOk, OnErr, OnOk};
 ghost use Rattle.markup.specs.Forest.{node_count};
 ghost use Rattle.markup.specs.declared.fault.ParseFault.TheVariants.{Memory};
 ghost use Rattle.html_names.specs.Classes.{IsClassOf};
@@ -73,6 +73,7 @@ impl NewElement {
         ensures named { IfOk result (λ made. Sink.node made ≡ node_count (Sink.forest sink.old)) }
         ensures ok { OnOk result (Sink.forest sink.new ≡ with_made (Sink.forest sink.old) self) }
         ensures err { OnErr result (Sink.forest sink.new ≡ Sink.forest sink.old) }
+        ensures grows { node_count (Sink.forest sink.old) ≤ node_count (Sink.forest sink.new) }
         ensures fault { IfErr result (λ fault. fault ≡ Memory) }
     {
         let NewElement {
