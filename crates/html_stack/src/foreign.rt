@@ -20,7 +20,7 @@ use markup::{Namespace, ParseFault, TreeSink};
 use std::alloc::Global;
 
 /// The adjusted current node: in a fragment in which the root alone is open, the context.
-pub(crate) fn adjusted<'a, Handle>(
+pub fn adjusted<'a, Handle>(
     elements: &'a [OpenElement<Handle>],
     context: Option<&'a OpenElement<Handle>>,
 ) -> Option<&'a OpenElement<Handle>>

@@ -17,6 +17,7 @@ mod wanted;
 pub use active_formatting_iter::ActiveFormattingIter;
 pub use dispatching::TokenShape;
 pub use entries::{FormatEntry, InsertionPoint, OpenElement, PushFlag, html_elem};
+pub use foreign::adjusted;
 pub use html_names::{
     ElementClass, ElementName, ElementNamespace, doctype_error_and_quirks, equals_any_case,
     extract_a_character_encoding_from_a_meta_element, is_in,

@@ -233,6 +233,17 @@ impl<Sink: TreeSink> Stack<Sink> {
         Some(element)
     }
 
+    /// Pops all elements, the current node first, and tells the sink of each.
+    pub fn pop_all(&mut self, sink: &mut Sink)
+        requires { AreOpened (Sink.forest sink.old) self.old.open_elems }
+        ensures left { self.new ≡ record self.old { open_elems = [] } }
+        ensures same { Sink.forest sink.new ≡ Sink.forest sink.old }
+    {
+        while !self.open_elems.is_empty() {
+            drop(self.pop(sink));
+        }
+    }
+
     /// Whether the end tag of the current node is implied, and it is not excepted.
     fn current_is_implied(&self, implied: TagSet, except: Wanted<'_>) -> bool
         requires { IsWanted except }

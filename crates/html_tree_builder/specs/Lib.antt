@@ -3,3 +3,5 @@ pub mod States
 pub mod Acting
 pub mod Rows
 pub mod Turning
+pub mod Running
+pub mod Texts

@@ -7,6 +7,8 @@ mod conditions;
 mod construction;
 pub mod options;
 mod rows;
+mod runs;
+mod texts;
 mod told;
 mod walks;
 

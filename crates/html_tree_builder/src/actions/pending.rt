@@ -14,7 +14,7 @@ use std::borrow::CowStr;
 
 impl<Sink: TreeSink> Construction<Sink> {
     /// Characters, by the rules for a body.
-    fn append_in_body(&mut self, sink: &mut Sink, text: &str) -> Result<(), ParseFault>
+    pub(crate) fn append_in_body(&mut self, sink: &mut Sink, text: &str) -> Result<(), ParseFault>
         requires stands { Stands (Sink.forest sink.old) self.old }
         ensures ok { OnOk result ((a : Answers) → state_of a self.new (Sink.forest sink.new) ≡ append_in_body (chars text.now) (state_of a self.old (Sink.forest sink.old))) }
         ensures fault { IfErr result (λ fault. fault ≡ Memory) }

@@ -1,0 +1,5 @@
+pub mod Grown
+pub mod Larger
+pub mod UsableTokens
+pub mod TokensTaken
+pub mod BuilderSteps

@@ -1,0 +1,41 @@
+-- Runs of text that are taken at once.
+use Rattle.std.specs.Prelude.{Bool, ◌||◌, Option, Some, None}
+use Rattle.html_rules.specs.Choice.{choose}
+use Rattle.html_rules.specs.ForeignContent.{is_html_element}
+use Rattle.html_rules.specs.State.{Open, State, adjusted_current_node, is_in}
+use Rattle.html_rules.specs.Table.{Action, AppendText, FramesetNotOkUnlessWhite, KeepText, Reconstruct, ◌▸◌}
+use Rattle.html_rules.specs.declared.insertion_mode.InsertionMode as modes
+use Rattle.html_rules.specs.declared.insertion_mode.InsertionMode.TheVariants as mode
+use Rattle.html_rules.specs.declared.tag_set.TagSet.TheVariants as set
+use Rattle.html_tree_builder.specs.declared.runs.Run.{Run}
+use Rattle.html_tree_builder.specs.declared.runs.Run.TheVariants.{InBody, Raw, Waiting, Foreign}
+
+-- what is done with the characters of a run
+abbrev pub run_action : Run → Action
+run_action InBody = Reconstruct ▸ FramesetNotOkUnlessWhite ▸ AppendText
+run_action Raw = AppendText
+run_action Waiting = KeepText
+run_action Foreign = FramesetNotOkUnlessWhite ▸ AppendText
+
+-- whether text in an element is taken by the rules of the mode, whatever the sink answers
+abbrev pub takes_text : Open → Bool
+takes_text x = is_html_element x || is_in set.MathmlTextIntegrationPoint x || is_in set.SvgHtmlIntegrationPoint x
+
+-- in which modes text is taken as in a body, as the text of an element, or kept
+abbrev pub run_in : modes.InsertionMode → Option Run
+run_in mode.InBody = Some InBody
+run_in mode.InCaption = Some InBody
+run_in mode.InCell = Some InBody
+run_in mode.InTemplate = Some InBody
+run_in mode.Text = Some Raw
+run_in mode.InTableText = Some Waiting
+run_in m = None
+
+-- by the adjusted current node; in MathML's `annotation-xml` the sink would be asked at each character
+abbrev pub run_at : Option Open → modes.InsertionMode → Option Run
+run_at None m = None
+run_at (Some x) m = choose (takes_text x) (λ _. run_in m) (λ _. choose (is_in set.AnnotationXml x) (λ _. None) (λ _. Some Foreign))
+
+-- the run that a text is, if it is one, up to its end
+abbrev pub run_of : State → Option Run
+run_of s = choose s.foster_parenting (λ _. None) (λ _. run_at (adjusted_current_node s) s.mode)
