@@ -1,6 +1,8 @@
 //! What the actions of rows do (HTML Standard, section 13.2.6).
+mod act;
 mod elements;
 mod foreign;
+mod formatting;
 mod implied;
 mod leaving;
 mod modes;

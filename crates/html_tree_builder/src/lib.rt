@@ -5,6 +5,7 @@ mod actions;
 mod conclusions;
 mod conditions;
 mod construction;
+mod errors;
 pub mod options;
 mod rows;
 mod runs;

@@ -4,16 +4,20 @@ ghost use Rattle.markup.specs.Forest.{Forest};
 ghost use Rattle.markup.specs.declared.fault.ParseFault.TheVariants.{Memory};
 ghost use Rattle.html_modes.specs.Tables.{namespace_of};
 ghost use Rattle.html_rules.specs.Actions.{for_tag};
-ghost use Rattle.html_rules.specs.ForeignContent.{enter_foreign, foreign_start, pop_foreign};
+ghost use Rattle.html_rules.specs.ForeignContent.{close_foreign, enter_foreign, foreign_start, is_foreign, pop_foreign};
 ghost use Rattle.html_rules.specs.Names as names;
 ghost use Rattle.html_rules.specs.State.{Answers};
-ghost use Rattle.html_tree_builder.specs.States.{Stands, state_of};
-ghost use Rattle.html_tree_builder.specs.Told.{token_of};
+ghost use Rattle.html_rules.specs.Templates.{insert_template};
+ghost use Rattle.html_stack.specs.Dispatching.{HasShape, IsShaped};
+ghost use Rattle.html_tree_builder.specs.States.{Stands, built, state_of};
+ghost use Rattle.html_tree_builder.specs.Told.{IsTold, token_of};
 
 use crate::construction::{Construction, lent};
 use crate::told::{Content, Told};
 use html_modes::Foreign;
-use markup::{KnownNamespace, Namespace, ParseFault, TreeSink};
+use html_stack::TokenShape;
+use html_tokens::TagKind;
+use markup::{KnownNamespace, LocalName, Namespace, ParseFault, TreeSink};
 
 /// The namespace.
 #[tactic(auto, unfolding(markup::specs::Namespaces::name_of, markup::specs::Names::html_namespace, html_rules::specs::Names::mathml_namespace, html_rules::specs::Names::svg_namespace))]
@@ -26,7 +30,70 @@ fn own_namespace(namespace: Foreign) -> Namespace
     }
 }
 
+impl<'a> Told<'a> {
+    /// What decides which rules take it.
+    fn shape(self) -> TokenShape<'a>
+        requires { IsTold self }
+        ensures shaped { IsShaped result }
+        ensures shape { HasShape (token_of self.entry.content) result }
+    {
+        match self.content {
+            Content::Tag(tag) => match tag.kind {
+                TagKind::StartTag => TokenShape::StartTag(self.class, self.name),
+                TagKind::EndTag => TokenShape::Other,
+            },
+            Content::Characters(_) => TokenShape::Text,
+            Content::Null => TokenShape::Text,
+            Content::Comment(_) => TokenShape::Other,
+            Content::EndOfFile => TokenShape::EndOfFile,
+        }
+    }
+}
+
 impl<Sink: TreeSink> Construction<Sink> {
+    /// Whether the rules of foreign content hold for a token.
+    pub(crate) fn is_foreign(&self, sink: &Sink, told: Told<'_>) -> bool
+        requires told { IsTold told }
+        requires stands { Stands (Sink.forest sink.now) self.now }
+        ensures { result ≡ is_foreign (built Sink.TreeSink self.now (Sink.forest sink.now)) (token_of told.entry.content) }
+    {
+        self.stack
+            .is_foreign(sink, lent(&self.context_elem), told.shape())
+    }
+
+    /// A template is inserted for a tag, or becomes a shadow root.
+    pub(crate) fn insert_template(
+        &mut self,
+        sink: &mut Sink,
+        told: Told<'_>,
+    ) -> Result<(), ParseFault>
+        requires told { IsTold told }
+        requires stands { Stands (Sink.forest sink.old) self.old }
+        ensures ok { OnOk result (built Sink.TreeSink self.new (Sink.forest sink.new) ≡ for_tag insert_template (token_of told.entry.content) (built Sink.TreeSink self.old (Sink.forest sink.old))) }
+        ensures fault { IfErr result (λ fault. fault ≡ Memory) }
+    {
+        let Content::Tag(tag) = told.content else {
+            return Ok(());
+        };
+        let tag = tag.copy(self.alloc)?;
+        self.stack.insert_template(
+            sink,
+            lent(&self.context_elem),
+            told.class,
+            tag,
+            self.foster_parenting,
+            self.form_elem,
+        )?;
+        Ok(())
+    }
+
+    /// The elements leave that an end tag closes, if it closes any.
+    pub(crate) fn close_foreign(&mut self, name: &LocalName)
+        ensures { (a : Answers) (f : Forest) → state_of a self.new f ≡ close_foreign name.now (state_of a self.old f) }
+    {
+        self.stack.close_foreign(name);
+    }
+
     /// A `math` or an `svg` element is inserted for a tag.
     pub(crate) fn enter_foreign(
         &mut self,

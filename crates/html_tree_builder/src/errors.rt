@@ -1,0 +1,75 @@
+//! What the sink is told of an error. The HTML Standard names no errors of tree construction; these say what was not expected.
+use crate::told::{Content, Told};
+use html_rules::InsertionMode;
+use html_tokens::TagKind;
+use markup::ParseFault;
+use std::alloc::Global;
+use std::borrow::CowStr;
+
+/// A token that was not expected.
+fn unexpected(told: Told<'_>) -> &'static str {
+    match told.content {
+        Content::Tag(tag) => match tag.kind {
+            TagKind::StartTag => "unexpected start tag",
+            TagKind::EndTag => "unexpected end tag",
+        },
+        Content::Characters(_) => "unexpected character",
+        Content::Null => "unexpected-null-character",
+        Content::Comment(_) => "unexpected comment",
+        Content::EndOfFile => "unexpected end of input",
+    }
+}
+
+/// The mode, as the Standard calls it.
+fn name_of(mode: InsertionMode) -> &'static str {
+    match mode {
+        InsertionMode::Initial => "initial",
+        InsertionMode::BeforeHtml => "before html",
+        InsertionMode::BeforeHead => "before head",
+        InsertionMode::InHead => "in head",
+        InsertionMode::InHeadNoscript => "in head noscript",
+        InsertionMode::AfterHead => "after head",
+        InsertionMode::InBody => "in body",
+        InsertionMode::Text => "text",
+        InsertionMode::InTable => "in table",
+        InsertionMode::InTableText => "in table text",
+        InsertionMode::InCaption => "in caption",
+        InsertionMode::InColumnGroup => "in column group",
+        InsertionMode::InTableBody => "in table body",
+        InsertionMode::InRow => "in row",
+        InsertionMode::InCell => "in cell",
+        InsertionMode::InTemplate => "in template",
+        InsertionMode::AfterBody => "after body",
+        InsertionMode::InFrameset => "in frameset",
+        InsertionMode::AfterFrameset => "after frameset",
+        InsertionMode::AfterAfterBody => "after after body",
+        InsertionMode::AfterAfterFrameset => "after after frameset",
+    }
+}
+
+/// The same, with the tag's name and the mode.
+fn exactly(alloc: Global, told: Told<'_>, mode: InsertionMode) -> Result<String, ParseFault> {
+    let mut message = String::new(alloc);
+    message.push_str(unexpected(told))?;
+    message.push_str(" ")?;
+    message.push_str(told.name.as_str())?;
+    message.push_str(" in the mode \"")?;
+    message.push_str(name_of(mode))?;
+    message.push_str("\"")?;
+    Ok(message)
+}
+
+/// What the sink is told of a token that was not expected; if `exact`, with the tag's name and the mode, where there is memory for that.
+pub(crate) fn of_token(
+    alloc: Global,
+    told: Told<'_>,
+    mode: InsertionMode,
+    exact: bool,
+) -> CowStr<'static> {
+    if exact {
+        if let Ok(message) = exactly(alloc, told, mode) {
+            return CowStr::Owned(message);
+        }
+    }
+    CowStr::Borrowed(unexpected(told))
+}
