@@ -6,3 +6,6 @@ pub mod Acted
 pub mod TextRuns
 pub mod RunsFound
 pub mod FirstCharacters
+pub mod MayTurns
+pub mod Settles
+pub mod Turned

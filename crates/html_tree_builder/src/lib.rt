@@ -10,7 +10,9 @@ pub mod options;
 mod rows;
 mod runs;
 mod texts;
+mod settling;
 mod told;
+mod turns;
 mod walks;
 
 pub use options::TreeBuilderOpts;

@@ -1,0 +1,125 @@
+-- The turns that settle a token, one after the other.
+use Rattle.std.proofs.Common.{◌≡◌, ◌∙◌, ℕ, zero, suc, ◌<◌, Bool, true, false, List, [], ◌∷◌, refl, sym, ap, subst, arith}
+use Rattle.html_tokens.specs.Sink.{Reply}
+use Rattle.html_tokens.specs.declared.replies.TokenSinkResult.TheVariants.{Continue}
+use Rattle.html_tokens.specs.declared.token.Token.{Token}
+use Rattle.html_rules.specs.Rules.{Ending, Finished, Again, Replied, Settled, check_acknowledged, four_for_each, one_more_turn, settle, settled_by, turn, turn_of, within}
+use Rattle.html_rules.specs.State.{Open, State}
+use Rattle.html_rules_laws.specs.Upright.{MayCome}
+use Rattle.html_rules_laws.proofs.Bools.{no}
+use Rattle.html_rules_laws.proofs.Upright.Turns.{turn-again}
+
+-- no turn is left
+abbrev pub run_out : State → Settled
+run_out s = record { state = s; reply = Continue; turns = 0; is_settled = false }
+
+-- what a token comes to in so many turns
+abbrev pub leads : ℕ → Token → State → Settled
+leads n t s = within n run_out t s
+
+-- so many turns and more
+abbrev more : ℕ → ℕ → ℕ
+more zero n = n
+more (suc k) n = suc (more k n)
+
+abbrev four_turns : List Open → ℕ
+four_turns [] = 0
+four_turns (x ∷ xs) = more 4 (four_turns xs)
+
+-- sixteen turns, and four for each of these elements
+abbrev pub all_turns : List Open → ℕ
+all_turns xs = more 16 (four_turns xs)
+
+-- turns behind turns are turns
+
+settled-same : (f g : State → Settled) → ((s : State) → f s ≡ g s) → (e : Ending) (t : Token) (s : State) → settled_by f e t s ≡ settled_by g e t s
+settled-same f g h (Finished acknowledged) t s = refl
+settled-same f g h Again t s = ap one_more_turn (h s)
+settled-same f g h (Replied reply) t s = refl
+
+within-more : (k n : ℕ) (t : Token) (beyond : State → Settled) → ((s : State) → beyond s ≡ leads n t s) → (s : State) → within k beyond t s ≡ leads (more k n) t s
+unfolding within
+within-more zero n t beyond h s = h s
+within-more (suc k) n t beyond h s = settled-same (within k beyond t) (leads (more k n) t) (within-more k n t beyond h) (turn t s).ends t (turn t s).state
+
+four-leads : (xs : List Open) (t : Token) (s : State) → four_for_each xs t s ≡ leads (four_turns xs) t s
+unfolding four_for_each within
+four-leads [] t s = refl
+four-leads (x ∷ xs) t s = within-more 4 (four_turns xs) t (four_for_each xs t) (four-leads xs t) s
+
+settle-leads : (t : Token) (s : State) → settle t s ≡ leads (all_turns s.open_elems) t s
+unfolding settle
+settle-leads t s = within-more 16 (four_turns s.open_elems) t (four_for_each s.open_elems t) (four-leads s.open_elems t) s
+
+-- a turn more changes nothing where a token is settled
+
+longer : (n : ℕ) (t : Token) (s : State) → (leads n t s).is_settled ≡ true → leads (suc n) t s ≡ leads n t s
+unfolding within
+longer zero t s h = no h
+longer (suc n) t s h = by (turn t s).ends h (longer n t (turn t s).state) where
+  by : (e : Ending) → (settled_by (leads n t) e t (turn t s).state).is_settled ≡ true → ((leads n t (turn t s).state).is_settled ≡ true → leads (suc n) t (turn t s).state ≡ leads n t (turn t s).state)
+      → settled_by (leads (suc n) t) e t (turn t s).state ≡ settled_by (leads n t) e t (turn t s).state
+  by (Finished acknowledged) h rest = refl
+  by Again h rest = ap one_more_turn (rest h)
+  by (Replied reply) h rest = refl
+
+-- a state on the way: in so many turns a token comes from it to this end
+pub record IsOnWay (n : ℕ) (t : Token) (end : Settled) (s : State) : Type 0 where
+  pub settled : (leads n t s).is_settled ≡ true
+  pub state : (leads n t s).state ≡ end.state
+  pub reply : (leads n t s).reply ≡ end.reply
+
+pub begins : (t : Token) (s : State) → (settle t s).is_settled ≡ true → IsOnWay (all_turns s.open_elems) t (settle t s) s
+begins t s h =
+    let e = sym (settle-leads t s) in
+    record { settled = ap (λ x. x.is_settled) e ∙ h; state = ap (λ x. x.state) e; reply = ap (λ x. x.reply) e }
+
+-- the first of the turns that are left
+first-turn : (n : ℕ) (t : Token) (s r : State) (e : Ending) → turn_of r e ≡ turn t s → leads (suc n) t s ≡ settled_by (leads n t) e t r
+unfolding within
+first-turn n t s r e made = ap (λ made. settled_by (leads n t) made.ends t made.state) (sym made)
+
+-- the token is taken again, with a turn less
+
+again-settled : (n : ℕ) (t : Token) (s r : State) → turn_of r Again ≡ turn t s → (leads (suc n) t s).is_settled ≡ true → leads (suc n) t r ≡ leads n t r
+again-settled n t s r made h = longer n t r (ap (λ x. x.is_settled) (sym (first-turn n t s r Again made)) ∙ h)
+
+pub goes-on : (n : ℕ) (t : Token) (end : Settled) (s r : State) → IsOnWay n t end s → turn_of r Again ≡ turn t s → IsOnWay n t end r
+unfolding within
+goes-on zero t end s r on made = no on.settled
+goes-on (suc n) t end s r on made =
+    let same = again-settled n t s r made on.settled in
+    let first = sym (first-turn n t s r Again made) in
+    record {
+      settled = ap (λ x. x.is_settled) same ∙ ap (λ x. x.is_settled) first ∙ on.settled;
+      state = ap (λ x. x.state) same ∙ ap (λ x. x.state) first ∙ on.state;
+      reply = ap (λ x. x.reply) same ∙ ap (λ x. x.reply) first ∙ on.reply;
+    }
+
+pub fewer : (n : ℕ) (t : Token) (end : Settled) (s r : State) → IsOnWay n t end s → turn_of r Again ≡ turn t s → (leads n t r).turns < (leads n t s).turns
+unfolding within
+fewer zero t end s r on made = no on.settled
+fewer (suc n) t end s r on made =
+    let same : (leads (suc n) t r).turns ≡ (leads n t r).turns = ap (λ x. x.turns) (again-settled n t s r made on.settled) in
+    let first : (leads (suc n) t s).turns ≡ suc (leads n t r).turns = ap (λ x. x.turns) (first-turn n t s r Again made) in
+    omega (arith, same, first)
+
+-- and may be taken again
+pub comes-again : (t : Token) (s r : State) → MayCome t s → turn_of r Again ≡ turn t s → MayCome t r
+comes-again t s r may made = subst (MayCome t) (sym (ap (λ x. x.state) made)) (turn-again t s may (sym (ap (λ x. x.ends) made)))
+
+-- the token is done with, and its self-closing flag was looked at
+pub finishes : (n : ℕ) (t : Token) (end : Settled) (s r q : State) (acknowledged : Bool) → IsOnWay n t end s → turn_of r (Finished acknowledged) ≡ turn t s → q ≡ check_acknowledged acknowledged t r → (q ≡ end.state) × (Continue ≡ end.reply)
+unfolding within
+finishes zero t end s r q acknowledged on made checked = no on.settled
+finishes (suc n) t end s r q acknowledged on made checked =
+    let first = sym (first-turn n t s r (Finished acknowledged) made) in
+    (checked ∙ (ap (λ x. x.state) first ∙ on.state), ap (λ x. x.reply) first ∙ on.reply)
+
+-- the token is done with, and this is answered
+pub replies : (n : ℕ) (t : Token) (end : Settled) (s r : State) (reply : Reply) → IsOnWay n t end s → turn_of r (Replied reply) ≡ turn t s → (r ≡ end.state) × (reply ≡ end.reply)
+unfolding within
+replies zero t end s r reply on made = no on.settled
+replies (suc n) t end s r reply on made =
+    let first = sym (first-turn n t s r (Replied reply) made) in
+    (ap (λ x. x.state) first ∙ on.state, ap (λ x. x.reply) first ∙ on.reply)

@@ -1,0 +1,42 @@
+-- What a turn comes to, step by step.
+use Rattle.std.proofs.Common.{◌≡◌, ◌∙◌, ℕ, ◌-◌, suc, true, false, refl, sym, ap, subst, arith}
+use Rattle.html_tokens.specs.declared.token.Token.{Token}
+use Rattle.html_rules.specs.ForeignContent.{is_foreign}
+use Rattle.html_rules.specs.Modes.Foreign.{in_foreign_content}
+use Rattle.html_rules.specs.Rules.{Finished, first_fit, most_modes, rows, turn, turn_by_row, turn_of, using_rules_for}
+use Rattle.html_rules.specs.State.{State}
+use Rattle.html_rules.specs.Table.{Row}
+use Rattle.html_rules.specs.declared.insertion_mode.InsertionMode.{InsertionMode}
+use Rattle.html_tree_builder.specs.Turning.{MayTakeRow, MayTurn, MayUse}
+
+-- no mode's rules are left
+pub used-none : (n : ℕ) (m : InsertionMode) (t : Token) (s : State) → n ≡ 0 → turn_of s (Finished false) ≡ using_rules_for n m t s
+unfolding using_rules_for
+used-none n m t s e = rw e refl
+
+one-less : (n : ℕ) → (n ≡ 0 → ⊥) → suc (n - 1) ≡ n
+one-less n h = omega arith
+
+-- the row of a mode
+pub used-row : (n : ℕ) (m : InsertionMode) (t : Token) (s : State) (r : Row) → (n ≡ 0 → ⊥) → r ≡ first_fit (rows m) t s → turn_by_row (using_rules_for (n - 1)) r t s ≡ using_rules_for n m t s
+unfolding using_rules_for
+used-row n m t s r some is = ap (λ r. turn_by_row (using_rules_for (n - 1)) r t s) is ∙ ap (λ n. using_rules_for n m t s) (one-less n some)
+
+pub may-use-row : (n : ℕ) (m : InsertionMode) (t : Token) (s : State) (r : Row) → (n ≡ 0 → ⊥) → r ≡ first_fit (rows m) t s → MayUse n m t s → MayTakeRow (MayUse (n - 1)) (using_rules_for (n - 1)) r t s
+unfolding MayUse
+may-use-row n m t s r some is may =
+    let row : MayUse (suc (n - 1)) m t s = subst (λ n. MayUse n m t s) (sym (one-less n some)) may in
+    subst (λ r. MayTakeRow (MayUse (n - 1)) (using_rules_for (n - 1)) r t s) (sym is) row
+
+-- the row of foreign content
+pub turned-foreign : (t : Token) (s : State) (r : Row) → true ≡ is_foreign s t → r ≡ first_fit in_foreign_content t s → turn_by_row (using_rules_for most_modes) r t s ≡ turn t s
+unfolding turn
+turned-foreign t s r f is = rw (is, ← f) refl
+
+pub may-foreign : (t : Token) (s : State) (r : Row) → true ≡ is_foreign s t → r ≡ first_fit in_foreign_content t s → MayTurn t s → MayTakeRow (MayUse most_modes) (using_rules_for most_modes) r t s
+may-foreign t s r f is may = subst (λ r. MayTakeRow (MayUse most_modes) (using_rules_for most_modes) r t s) (sym is) (may.foreign (sym f))
+
+-- the rules of the mode
+pub turned-mode : (t : Token) (s : State) → false ≡ is_foreign s t → using_rules_for most_modes s.mode t s ≡ turn t s
+unfolding turn
+turned-mode t s f = rw (← f) refl

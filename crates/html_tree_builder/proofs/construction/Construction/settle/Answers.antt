@@ -1,0 +1,83 @@
+use Rattle.std.proofs.Common.{◌≡◌}
+use Rattle.html_tokens.specs.Sink.{numbered}
+use Rattle.html_rules.specs.Rules.{Again, Finished, Replied, settle, turn, turn_of}
+use Rattle.html_tree_builder.specs.States.{answers_of, built}
+use Rattle.html_tree_builder.specs.Told.{token_of}
+use Rattle.html_tree_builder.proofs.MayTurns.{may-turn}
+use Rattle.html_tree_builder.proofs.Settles.{all_turns, begins, comes-again, fewer, finishes, goes-on, replies}
+use Rattle.html_tree_builder.proofs.construction.Construction.settle.Goals as goal
+
+pub loop-acknowledged-init : goal.loop-acknowledged-init
+loop-acknowledged-init g c =
+    let t = token_of c.args.told.content in
+    record {
+      stands = c.requires.stands;
+      may = c.requires.may;
+      on = begins t (built g.Sink.TreeSink c.args.self.now (g.Sink.TreeSink.forest c.args.sink.now)) c.requires.settled;
+    }
+
+pub turn-requires-clause-stands : goal.turn-requires-clause-stands
+turn-requires-clause-stands g c = c.loop-acknowledged.invariant.stands
+
+pub turn-requires-clause-may : goal.turn-requires-clause-may
+turn-requires-clause-may g c = may-turn (token_of c.args.told.content) (built g.Sink.TreeSink c.loop-acknowledged.self (g.Sink.TreeSink.forest c.loop-acknowledged.sink)) c.loop-acknowledged.invariant.may
+
+pub loop-acknowledged-smaller : goal.loop-acknowledged-smaller
+loop-acknowledged-smaller g c =
+    let sink = g.Sink.TreeSink in
+    let t = token_of c.args.told.content in
+    let s = built sink c.loop-acknowledged.self (sink.forest c.loop-acknowledged.sink) in
+    let r = built sink c.turn.new.self (sink.forest c.turn.new.sink) in
+    let made : turn_of r Again ≡ turn t s = rw c.in-Again.is at c.in_ok-turn.ensures.ok in
+    fewer (all_turns c.args.self.now.stack.open_elems) t (settle t (built sink c.args.self.now (sink.forest c.args.sink.now))) s r c.loop-acknowledged.invariant.on made
+
+pub loop-acknowledged-preserved : goal.loop-acknowledged-preserved
+loop-acknowledged-preserved g c =
+    let sink = g.Sink.TreeSink in
+    let t = token_of c.args.told.content in
+    let s = built sink c.loop-acknowledged.self (sink.forest c.loop-acknowledged.sink) in
+    let r = built sink c.turn.new.self (sink.forest c.turn.new.sink) in
+    let made : turn_of r Again ≡ turn t s = rw c.in-Again.is at c.in_ok-turn.ensures.ok in
+    record {
+      stands = c.in_ok-turn.ensures.stands;
+      may = comes-again t s r c.loop-acknowledged.invariant.may made;
+      on = goes-on (all_turns c.args.self.now.stack.open_elems) t (settle t (built sink c.args.self.now (sink.forest c.args.sink.now))) s r c.loop-acknowledged.invariant.on made;
+    }
+
+pub returns-in-Finished-clause-state : goal.returns-in-Finished-clause-state
+returns-in-Finished-clause-state g c =
+    let sink = g.Sink.TreeSink in
+    let t = token_of c.args.told.content in
+    let s = built sink c.loop-acknowledged.self (sink.forest c.loop-acknowledged.sink) in
+    let r = built sink c.turn.new.self (sink.forest c.turn.new.sink) in
+    let made : turn_of r (Finished c.in-Finished.acknowledged) ≡ turn t s = rw c.in-Finished.is at c.in_ok-turn.ensures.ok in
+    let checked = c.check_acknowledged.ensures.state (answers_of sink.integration_point sink.allows_shadow_roots sink.attaches_shadow) in
+    (finishes (all_turns c.args.self.now.stack.open_elems) t (settle t (built sink c.args.self.now (sink.forest c.args.sink.now))) s r (built sink c.turn.new.self (sink.forest c.check_acknowledged.new.sink)) c.in-Finished.acknowledged c.loop-acknowledged.invariant.on made checked).0
+
+pub returns-in-Finished-clause-reply : goal.returns-in-Finished-clause-reply
+returns-in-Finished-clause-reply g c =
+    let sink = g.Sink.TreeSink in
+    let t = token_of c.args.told.content in
+    let s = built sink c.loop-acknowledged.self (sink.forest c.loop-acknowledged.sink) in
+    let r = built sink c.turn.new.self (sink.forest c.turn.new.sink) in
+    let made : turn_of r (Finished c.in-Finished.acknowledged) ≡ turn t s = rw c.in-Finished.is at c.in_ok-turn.ensures.ok in
+    let checked = c.check_acknowledged.ensures.state (answers_of sink.integration_point sink.allows_shadow_roots sink.attaches_shadow) in
+    (finishes (all_turns c.args.self.now.stack.open_elems) t (settle t (built sink c.args.self.now (sink.forest c.args.sink.now))) s r (built sink c.turn.new.self (sink.forest c.check_acknowledged.new.sink)) c.in-Finished.acknowledged c.loop-acknowledged.invariant.on made checked).1
+
+pub returns-in-Replied-clause-state : goal.returns-in-Replied-clause-state
+returns-in-Replied-clause-state g c =
+    let sink = g.Sink.TreeSink in
+    let t = token_of c.args.told.content in
+    let s = built sink c.loop-acknowledged.self (sink.forest c.loop-acknowledged.sink) in
+    let r = built sink c.turn.new.self (sink.forest c.turn.new.sink) in
+    let made : turn_of r (Replied (numbered sink.node c.in-Replied.reply)) ≡ turn t s = rw c.in-Replied.is at c.in_ok-turn.ensures.ok in
+    (replies (all_turns c.args.self.now.stack.open_elems) t (settle t (built sink c.args.self.now (sink.forest c.args.sink.now))) s r (numbered sink.node c.in-Replied.reply) c.loop-acknowledged.invariant.on made).0
+
+pub returns-in-Replied-clause-reply : goal.returns-in-Replied-clause-reply
+returns-in-Replied-clause-reply g c =
+    let sink = g.Sink.TreeSink in
+    let t = token_of c.args.told.content in
+    let s = built sink c.loop-acknowledged.self (sink.forest c.loop-acknowledged.sink) in
+    let r = built sink c.turn.new.self (sink.forest c.turn.new.sink) in
+    let made : turn_of r (Replied (numbered sink.node c.in-Replied.reply)) ≡ turn t s = rw c.in-Replied.is at c.in_ok-turn.ensures.ok in
+    (replies (all_turns c.args.self.now.stack.open_elems) t (settle t (built sink c.args.self.now (sink.forest c.args.sink.now))) s r (numbered sink.node c.in-Replied.reply) c.loop-acknowledged.invariant.on made).1

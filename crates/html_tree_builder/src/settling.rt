@@ -1,0 +1,68 @@
+//! A token is taken in turns, until it is done with (HTML Standard, section 13.2.6).
+ghost use Rattle.std.specs.Prelude.{◌≡◌, true, IfErr, IfOk, OnOk};
+ghost use Rattle.markup.specs.declared.fault.ParseFault.TheVariants.{Memory};
+ghost use Rattle.html_tokens.specs.Sink.{numbered};
+ghost use Rattle.html_rules.specs.Rules.{check_acknowledged, is_self_closing, settle};
+ghost use Rattle.html_rules.specs.State.{Answers};
+ghost use Rattle.html_rules_laws.specs.Upright.{MayCome};
+ghost use Rattle.html_tree_builder.specs.States.{Stands, built, state_of};
+ghost use Rattle.html_tree_builder.specs.Told.{IsTold, token_of};
+
+use crate::conclusions::Ending;
+use crate::construction::Construction;
+use crate::told::{Content, Told};
+use html_tokens::{TagKind, TokenSinkResult};
+use markup::{ParseFault, TreeSink};
+use std::borrow::CowStr;
+
+impl Told<'_> {
+    /// Whether it is a start tag that closes itself.
+    fn is_self_closing(self) -> bool
+        ensures { result ≡ is_self_closing (token_of self.entry.content) }
+    {
+        match self.content {
+            Content::Tag(tag) => tag.kind == TagKind::StartTag && tag.self_closing,
+            _ => false,
+        }
+    }
+}
+
+impl<Sink: TreeSink> Construction<Sink> {
+    /// A self-closing flag that was not acknowledged is an error.
+    #[tactic(auto, unfolding(html_rules::specs::Stack::parse_error))]
+    fn check_acknowledged(&self, sink: &mut Sink, acknowledged: bool, told: Told<'_>)
+        ensures state { (a : Answers) → state_of a self.now (Sink.forest sink.new) ≡ check_acknowledged acknowledged (token_of told.entry.content) (state_of a self.now (Sink.forest sink.old)) }
+        ensures stands { Stands (Sink.forest sink.old) self.now → Stands (Sink.forest sink.new) self.now }
+    {
+        if !acknowledged && told.is_self_closing() {
+            sink.parse_error(CowStr::Borrowed("a start tag that may not close itself"));
+        }
+    }
+
+    /// What a token comes to, turn by turn. It takes no more turns than sixteen, and four for each open element.
+    pub(crate) fn settle(
+        &mut self,
+        sink: &mut Sink,
+        told: Told<'_>,
+    ) -> Result<TokenSinkResult<Sink::Handle>, ParseFault>
+        requires told { IsTold told }
+        requires stands { Stands (Sink.forest sink.old) self.old }
+        requires may { MayCome (token_of told.content) (built Sink.TreeSink self.old (Sink.forest sink.old)) }
+        requires settled { (settle (token_of told.content) (built Sink.TreeSink self.old (Sink.forest sink.old))).is_settled ≡ true }
+        ensures state { OnOk result (built Sink.TreeSink self.new (Sink.forest sink.new) ≡ (settle (token_of told.entry.content) (built Sink.TreeSink self.old (Sink.forest sink.old))).state) }
+        ensures reply { IfOk result (λ reply. numbered Sink.node reply ≡ (settle (token_of told.entry.content) (built Sink.TreeSink self.old (Sink.forest sink.old))).reply) }
+        ensures stands { OnOk result (Stands (Sink.forest sink.new) self.new) }
+        ensures fault { IfErr result (λ fault. fault ≡ Memory) }
+    {
+        loop {
+            match self.turn(sink, told)? {
+                Ending::Again => {}
+                Ending::Finished(acknowledged) => {
+                    self.check_acknowledged(sink, acknowledged, told);
+                    return Ok(TokenSinkResult::Continue);
+                }
+                Ending::Replied(reply) => return Ok(reply),
+            }
+        }
+    }
+}
