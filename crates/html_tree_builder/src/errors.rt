@@ -1,4 +1,4 @@
-//! What the sink is told of an error. The HTML Standard names no errors of tree construction; these say what was not expected.
+//! What the sink is told of errors: by the HTML Standard's codes where it has one (section 13.2.2), else by what was not expected.
 use crate::told::{Content, Told};
 use html_rules::InsertionMode;
 use html_tokens::TagKind;
@@ -72,4 +72,14 @@ pub(crate) fn of_token(
         }
     }
     CowStr::Borrowed(unexpected(told))
+}
+
+/// A start tag that closes itself, of an element that may not.
+pub(crate) fn not_acknowledged() -> CowStr<'static> {
+    CowStr::Borrowed("non-void-html-element-start-tag-with-trailing-solidus")
+}
+
+/// Text that belongs nowhere in a table.
+pub(crate) fn text_in_table() -> CowStr<'static> {
+    CowStr::Borrowed("unexpected text in a table")
 }

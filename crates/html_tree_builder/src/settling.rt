@@ -10,10 +10,10 @@ ghost use Rattle.html_tree_builder.specs.Told.{IsTold, token_of};
 
 use crate::conclusions::Ending;
 use crate::construction::Construction;
+use crate::errors;
 use crate::told::{Content, Told};
 use html_tokens::{TagKind, TokenSinkResult};
 use markup::{ParseFault, TreeSink};
-use std::borrow::CowStr;
 
 impl Told<'_> {
     /// Whether it is a start tag that closes itself.
@@ -35,7 +35,7 @@ impl<Sink: TreeSink> Construction<Sink> {
         ensures stands { Stands (Sink.forest sink.old) self.now → Stands (Sink.forest sink.new) self.now }
     {
         if !acknowledged && told.is_self_closing() {
-            sink.parse_error(CowStr::Borrowed("a start tag that may not close itself"));
+            sink.parse_error(errors::not_acknowledged());
         }
     }
 

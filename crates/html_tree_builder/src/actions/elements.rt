@@ -25,7 +25,11 @@ impl<Sink: TreeSink> Construction<Sink> {
     ghost use Rattle.html_rules.specs.Names.{Html};
 
     /// An element is inserted for a tag.
-    pub(crate) fn insert_element(&mut self, sink: &mut Sink, told: Told<'_>) -> Result<(), ParseFault>
+    pub(crate) fn insert_element(
+        &mut self,
+        sink: &mut Sink,
+        told: Told<'_>,
+    ) -> Result<(), ParseFault>
         requires told { IsTold told }
         requires stands { Stands (Sink.forest sink.old) self.old }
         ensures ok { OnOk result ((a : Answers) → state_of a self.new (Sink.forest sink.new) ≡ for_tag insert_element_for (token_of told.entry.content) (state_of a self.old (Sink.forest sink.old))) }
@@ -35,8 +39,13 @@ impl<Sink: TreeSink> Construction<Sink> {
             return Ok(());
         };
         let tag = tag.copy(self.alloc)?;
-        self.stack
-            .insert_element_for(sink, told.class, tag, self.foster_parenting, self.form_elem)?;
+        self.stack.insert_element_for(
+            sink,
+            told.class,
+            tag,
+            self.foster_parenting,
+            self.form_elem,
+        )?;
         Ok(())
     }
 
@@ -51,13 +60,22 @@ impl<Sink: TreeSink> Construction<Sink> {
             return Ok(());
         };
         let tag = tag.copy(self.alloc)?;
-        self.stack
-            .insert_and_pop_element_for(sink, told.class, tag, self.foster_parenting, self.form_elem)?;
+        self.stack.insert_and_pop_element_for(
+            sink,
+            told.class,
+            tag,
+            self.foster_parenting,
+            self.form_elem,
+        )?;
         Ok(())
     }
 
     /// An element is inserted for a tag, and listed.
-    pub(crate) fn insert_formatting(&mut self, sink: &mut Sink, told: Told<'_>) -> Result<(), ParseFault>
+    pub(crate) fn insert_formatting(
+        &mut self,
+        sink: &mut Sink,
+        told: Told<'_>,
+    ) -> Result<(), ParseFault>
         requires told { IsTold told }
         requires stands { Stands (Sink.forest sink.old) self.old }
         ensures ok { OnOk result ((a : Answers) → state_of a self.new (Sink.forest sink.new) ≡ for_tag create_formatting_element_for (token_of told.entry.content) (state_of a self.old (Sink.forest sink.old))) }
@@ -85,11 +103,7 @@ impl<Sink: TreeSink> Construction<Sink> {
     }
 
     /// The root is made, and opened.
-    pub(crate) fn create_root(
-        &mut self,
-        sink: &mut Sink,
-        told: Told<'_>,
-    ) -> Result<(), ParseFault>
+    pub(crate) fn create_root(&mut self, sink: &mut Sink, told: Told<'_>) -> Result<(), ParseFault>
         requires stands { Stands (Sink.forest sink.old) self.old }
         ensures ok { OnOk result ((a : Answers) → state_of a self.new (Sink.forest sink.new) ≡ create_root (attributes_of (token_of told.entry.content)) (state_of a self.old (Sink.forest sink.old))) }
         ensures fault { IfErr result (λ fault. fault ≡ Memory) }

@@ -8,9 +8,9 @@ ghost use Rattle.html_rules.specs.State.{Answers};
 ghost use Rattle.html_tree_builder.specs.States.{Stands, state_of};
 
 use crate::construction::Construction;
+use crate::errors;
 use crate::told::is_white;
 use markup::{ParseFault, TreeSink};
-use std::borrow::CowStr;
 
 impl<Sink: TreeSink> Construction<Sink> {
     /// Characters, by the rules for a body.
@@ -30,7 +30,7 @@ impl<Sink: TreeSink> Construction<Sink> {
         ensures ok { OnOk result ((a : Answers) → state_of a self.new (Sink.forest sink.new) ≡ foster_text (chars text.now) (state_of a self.old (Sink.forest sink.old))) }
         ensures fault { IfErr result (λ fault. fault ≡ Memory) }
     {
-        sink.parse_error(CowStr::Borrowed("text in a table"));
+        sink.parse_error(errors::text_in_table());
         self.set_foster_parenting(true);
         self.append_in_body(sink, text)?;
         self.set_foster_parenting(false);
