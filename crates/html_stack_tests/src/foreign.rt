@@ -1,9 +1,11 @@
 //! Foreign content: which rules take a token, end tags, and templates that may become shadow roots.
-ghost use Rattle.std.specs.Prelude.{IfOk};
+ghost use Rattle.std.specs.Prelude.{IfOk, IfSome};
+ghost use Rattle.markup.specs.Forest.{IsNode};
 ghost use Rattle.html_rules_laws.specs.Soundness.{IsStanding};
+ghost use Rattle.html_stack.specs.Inserting.{context_of};
 
 use crate::inserting::{attribute, insert, started, tag};
-use html_forest::{Forest, ForestNode};
+use html_forest::{Forest, ForestNode, NodeId};
 use html_serialize::{SerializeOpts, serialize};
 use html_stack::{ElementClass, ElementName, OpenElement, Stack, TokenShape};
 use html_tokens::Tag;
@@ -90,33 +92,55 @@ fn is_start_foreign(
     alloc: Global,
     forest: &Forest,
     stack: &Stack<Forest>,
+    context: Option<&OpenElement<NodeId>>,
     name: &str,
 ) -> Result<bool, ParseFault>
-    requires { IsStanding forest.now stack.now.open_elems stack.now.active_formatting }
+    requires standing { IsStanding forest.now stack.now.open_elems stack.now.active_formatting }
+    requires context { IfSome (context_of (λ id. id) context) (λ x. IsNode forest.now x.number) }
 {
     let name = LocalName::from_str(alloc, name)?;
     let class = ElementClass::html(&name);
-    Ok(stack.is_foreign(forest, None, TokenShape::StartTag(class, &name)))
+    Ok(stack.is_foreign(forest, context, TokenShape::StartTag(class, &name)))
 }
 
-// Whether the rules of foreign content hold for a token.
+// Whether the rules of foreign content hold for a token; the context is that of a fragment.
 fn is_foreign(
     alloc: Global,
     forest: &Forest,
     stack: &Stack<Forest>,
+    context: Option<&OpenElement<NodeId>>,
     given: Given,
 ) -> Result<bool, ParseFault>
-    requires { IsStanding forest.now stack.now.open_elems stack.now.active_formatting }
+    requires standing { IsStanding forest.now stack.now.open_elems stack.now.active_formatting }
+    requires context { IfSome (context_of (λ id. id) context) (λ x. IsNode forest.now x.number) }
 {
     match given {
-        Given::Text => Ok(stack.is_foreign(forest, None, TokenShape::Text)),
-        Given::P => is_start_foreign(alloc, forest, stack, "p"),
-        Given::Svg => is_start_foreign(alloc, forest, stack, "svg"),
-        Given::Mglyph => is_start_foreign(alloc, forest, stack, "mglyph"),
-        Given::Malignmark => is_start_foreign(alloc, forest, stack, "malignmark"),
-        Given::End => Ok(stack.is_foreign(forest, None, TokenShape::Other)),
-        Given::EndOfFile => Ok(stack.is_foreign(forest, None, TokenShape::EndOfFile)),
+        Given::Text => Ok(stack.is_foreign(forest, context, TokenShape::Text)),
+        Given::P => is_start_foreign(alloc, forest, stack, context, "p"),
+        Given::Svg => is_start_foreign(alloc, forest, stack, context, "svg"),
+        Given::Mglyph => is_start_foreign(alloc, forest, stack, context, "mglyph"),
+        Given::Malignmark => is_start_foreign(alloc, forest, stack, context, "malignmark"),
+        Given::End => Ok(stack.is_foreign(forest, context, TokenShape::Other)),
+        Given::EndOfFile => Ok(stack.is_foreign(forest, context, TokenShape::EndOfFile)),
     }
+}
+
+// The same, with these elements in the root and a context of this namespace and name.
+fn is_foreign_in(
+    alloc: Global,
+    elements: &[Opened<'_>],
+    namespace: KnownNamespace,
+    name: &str,
+    given: Given,
+) -> Result<bool, ParseFault> {
+    let (mut forest, stack) = built(alloc, elements)?;
+    let namespace = Namespace::from_known(namespace);
+    let local = LocalName::from_str(alloc, name)?;
+    let context = OpenElement {
+        handle: forest.get_document(),
+        name: ElementName::new(alloc, &namespace, &local)?,
+    };
+    is_foreign(alloc, &forest, &stack, Some(&context), given)
 }
 
 #[test]
@@ -182,8 +206,41 @@ fn foreign_content_takes_its_tokens(rt: HostRuntime) -> Result<(), Fail> {
     for (elements, tokens) in rows {
         let (forest, stack) = built(rt.alloc(), elements)?;
         for (given, want) in *tokens {
-            assert_eq!(rt; is_foreign(rt.alloc(), &forest, &stack, *given)?, *want);
+            assert_eq!(rt;
+                is_foreign(rt.alloc(), &forest, &stack, None, *given)?,
+                *want
+            );
         }
+    }
+    Ok(())
+}
+
+#[test]
+fn fragments_begin_in_their_context(rt: HostRuntime) -> Result<(), Fail> {
+    const HTML: KnownNamespace = KnownNamespace::Html;
+    const SVG: KnownNamespace = KnownNamespace::Svg;
+    const MATH: KnownNamespace = KnownNamespace::MathMl;
+    // What is open in the root, the context, a token, and whether the rules of foreign content hold for it.
+    let rows: &[(&[Opened<'_>], KnownNamespace, &str, Given, bool)] = &[
+        (&[], SVG, "svg", Given::P, true),
+        (&[], SVG, "svg", Given::Text, true),
+        (&[], SVG, "svg", Given::End, true),
+        (&[], SVG, "svg", Given::EndOfFile, false),
+        (&[], SVG, "desc", Given::P, false),
+        (&[], SVG, "desc", Given::End, true),
+        (&[], MATH, "mi", Given::Text, false),
+        (&[], MATH, "mi", Given::Mglyph, true),
+        (&[], MATH, "math", Given::Text, true),
+        (&[], HTML, "div", Given::P, false),
+        (&[], HTML, "svg", Given::End, false),
+        (&[Opened::Html("p")], SVG, "svg", Given::P, false),
+        (&[Opened::Svg("svg")], HTML, "div", Given::P, true),
+    ];
+    for (elements, namespace, name, given, want) in rows {
+        assert_eq!(rt;
+            is_foreign_in(rt.alloc(), elements, *namespace, name, *given)?,
+            *want
+        );
     }
     Ok(())
 }

@@ -3,9 +3,9 @@ ghost use Rattle.std.specs.Prelude.{IfOk};
 ghost use Rattle.html_rules_laws.specs.Soundness.{IsStanding};
 
 use html_forest::Forest;
-use html_stack::{ElementClass, Stack, TagSet};
+use html_stack::{ElementClass, FormatEntry, Stack, TagSet};
 use html_tokens::{Tag, TagKind};
-use markup::{Attributes, LocalName, ParseFault};
+use markup::{Attributes, LocalName, ParseFault, TreeSink};
 use std::alloc::Global;
 use std::test::Fail;
 
@@ -79,6 +79,19 @@ fn the_earliest_of_three_equal_entries_makes_room(rt: HostRuntime) -> Result<(),
         assert_eq!(rt; stack.active_formatting().len(), *want);
         assert_eq!(rt; forest.error_count(), 0);
     }
+    Ok(())
+}
+
+#[test]
+fn the_second_of_four_equal_entries_is_then_the_earliest(rt: HostRuntime) -> Result<(), Fail> {
+    let (forest, stack) = listed(rt.alloc(), &["b", "b", "b", "b"])?;
+    let is_second = match (stack.open_elems().get(2), stack.active_formatting().first()) {
+        (Some(element), Some(FormatEntry::Element(node, _))) => {
+            forest.same_node(&element.handle, node)
+        }
+        _ => false,
+    };
+    assert!(rt; is_second);
     Ok(())
 }
 

@@ -157,7 +157,7 @@ fn insert_foreign(
 }
 
 // Back to an element of a set.
-fn back_to(_forest: &Forest, stack: &mut Stack<Forest>, set: TagSet)
+pub(crate) fn back_to(_forest: &Forest, stack: &mut Stack<Forest>, set: TagSet)
     requires { IsStanding _forest.now stack.old.open_elems stack.old.active_formatting }
     ensures { IsStanding _forest.now stack.new.open_elems stack.new.active_formatting }
 {

@@ -4,6 +4,8 @@
 #![tactic(auto)]
 
 #[cfg(test)]
+mod adoption;
+#[cfg(test)]
 mod classes;
 #[cfg(test)]
 mod doctypes;
