@@ -4,7 +4,7 @@ use Rattle.std.proofs.lemmas.Bool.Decides.{nat_tests}
 use Rattle.markup.specs.Forest.{one_more}
 use Rattle.markup.specs.declared.fault.ParseFault.{ParseFault}
 use Rattle.markup.specs.declared.fault.ParseFault.TheVariants.{Memory}
-use Rattle.html_tokens.specs.Sink.{AfterEnd, Counts, CountsOwn, Gives, InText, numbered}
+use Rattle.html_tokens.specs.Sink.{AfterEnd, Counts, CountsOwn, Gives, InText, OnRefused, fails, tells_failed}
 use Rattle.html_tokens.specs.declared.replies.TokenSinkResult.{TokenSinkResult}
 use Rattle.html_tokens.specs.declared.replies.TokenSinkResult.TheVariants as reply
 use Rattle.html_tokens.specs.declared.token.Token.{Token}
@@ -18,7 +18,7 @@ use Rattle.html_rules.specs.declared.insertion_mode.InsertionMode.{InsertionMode
 use Rattle.html_rules.specs.declared.insertion_mode.InsertionMode.TheVariants.{Text}
 use Rattle.html_rules_laws.proofs.Rises.{rises, taken-hushed}
 use Rattle.html_rules_laws.proofs.StepLaws.{idle-step, refusal_with, step-is}
-use Rattle.html_builder_laws.specs.Coming.{came_of}
+use Rattle.html_builder_laws.specs.Coming.{IsTaken, came_of}
 use Rattle.html_builder_laws.specs.Usable.{Usable}
 use Rattle.html_builder_laws.proofs.UsableTokens.{usable-fit, usable-step}
 
@@ -65,10 +65,6 @@ came-step (TagToken tag) s line h going b = busy-step (TagToken tag) s line h go
 came-step (CommentToken text) s line h going b = busy-step (CommentToken text) s line h going refl b
 came-step NullCharacterToken s line h going b = busy-step NullCharacterToken s line h going refl b
 came-step EOFToken s line h going b = busy-step EOFToken s line h going refl b
-
--- what a call leaves that took a token
-abbrev pub IsTaken : {H : Type 0} → (H → ℕ) → Token → State → State → Result (TokenSinkResult H) ParseFault → Type 0
-IsTaken node t s new r = IfOk r (λ reply. (new ≡ (came_of t s).state) × (numbered node reply ≡ (came_of t s).reply))
 
 pub gives-taken : {H : Type 0} (node : H → ℕ) (t : Token) (s new : State) (line : ℕ) (r : Result (TokenSinkResult H) ParseFault) → Usable (hushed s) → s.has_ended ≡ false → is_barred s.mode t ≡ false
     → IsTaken node t s new r → IfErr r (λ fault. fault ≡ Memory) → Gives node (step (hushed s) t line) r (hushed new)
@@ -129,10 +125,21 @@ err-counts (CharacterTokens text) R q fault a b = tt
 err-counts NullCharacterToken R q fault a b = tt
 err-counts EOFToken R q fault a b = tt
 
--- a call that does not take the token says nothing of the number
-pub counts-refused : (t : Token) (R : Type 0) (q : Bool) (fault : ParseFault) (a b : ℕ) → Counts {R = R} q t (Err fault) a b
-counts-refused t R q fault a b = err-counts t R q fault a b
-
 pub counts-taken : {H : Type 0} (node : H → ℕ) (t : Token) (s new : State) (r : Result (TokenSinkResult H) ParseFault) → IsTaken node t s new r → Counts (is_quiet (hushed s) t) t r s.forest.errors new.forest.errors
 counts-taken node t s new (Ok answer) e = rw e.0 (came-counts t answer s)
 counts-taken {H} node t s new (Err fault) e = err-counts t (TokenSinkResult H) (is_quiet (hushed s) t) fault s.forest.errors new.forest.errors
+
+-- such an answer is no refusal, and tells of no earlier failure
+pub taken-unrefused : {H : Type 0} (r : Result (TokenSinkResult H) ParseFault) (P : Type 0) → IfErr r (λ fault. fault ≡ Memory) → OnRefused r P
+taken-unrefused (Ok answer) P f = tt
+taken-unrefused (Err fault) P f = rw f tt
+
+pub taken-unfailed : {H : Type 0} (r : Result (TokenSinkResult H) ParseFault) → IfErr r (λ fault. fault ≡ Memory) → tells_failed r ≡ false
+taken-unfailed (Ok answer) f = refl
+taken-unfailed (Err fault) f = rw f refl
+
+-- it leaves a usable state, unless it leaves a builder that has failed
+pub sound-taken : {H : Type 0} (node : H → ℕ) (t : Token) (s new : State) (r : Result (TokenSinkResult H) ParseFault) (failed : Bool) → Usable (hushed s) → s.has_ended ≡ false → is_barred s.mode t ≡ false
+    → IsTaken node t s new r → IfErr r (λ fault. fault ≡ Memory) → failed ≡ fails r → failed ≡ false → Usable (hushed new)
+sound-taken node t s new (Ok answer) failed h going b e f is works = usable-taken node t s new answer h going b e
+sound-taken node t s new (Err fault) failed h going b e f is works = absurd (true≢false (sym (is ∙ rw f refl) ∙ works))

@@ -96,8 +96,8 @@ pub usable-ended : (s : State) → Usable s → Usable (ended s)
 unfolding ended
 usable-ended s h = record { steady = states-steady.ended s h.steady; nested = λ going. absurd (true≢false going); context = h.context }
 
-pub usable-laws : SinkLaws Usable step ended is_quiet
-usable-laws = record {
+pub usable_laws : SinkLaws Usable step ended is_quiet
+usable_laws = record {
   keeps = usable-step;
   ends = usable-ended;
   pieces = λ s h. rules-are-lawful.sink.pieces s h.steady.sound;
@@ -123,7 +123,7 @@ fragment-usable setting context form f tree top own at named = record {
 
 pub states-usable : AreStatesUsable
 states-usable = record {
-  sink = usable-laws;
+  sink = usable_laws;
   document = λ setting f tree top. usable-hushed (before_document setting f) (document-usable setting f tree top);
   fragment = λ setting context form f tree top own at named. usable-hushed (before_fragment setting context form f) (fragment-usable setting context form f tree top own at named);
 }

@@ -3,7 +3,7 @@ use Rattle.std.proofs.Common.{◌≡◌, false, sym, subst}
 use Rattle.markup.specs.Forest.{Forest}
 use Rattle.html_tokens.specs.declared.token.Token.{Token}
 use Rattle.html_rules.specs.Actions.{act}
-use Rattle.html_rules.specs.State.{Answers, State}
+use Rattle.html_rules.specs.State.{Answers}
 use Rattle.html_rules.specs.Table.{Action}
 use Rattle.html_tree_builder.specs.Acting.{Grounded, MayAct}
 use Rattle.html_tree_builder.specs.States.{Building, Stands, state_of}

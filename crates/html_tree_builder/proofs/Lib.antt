@@ -9,3 +9,7 @@ pub mod FirstCharacters
 pub mod MayTurns
 pub mod Settles
 pub mod Turned
+pub mod TextsTaken
+pub mod DoctypesTaken
+pub mod FragmentsBegun
+pub mod BuildersBegun

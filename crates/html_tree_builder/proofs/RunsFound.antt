@@ -1,5 +1,5 @@
 -- The run that a construction finds.
-use Rattle.std.proofs.Common.{◌≡◌, Bool, true, false, Option, Some}
+use Rattle.std.proofs.Common.{◌≡◌, false, Option, Some}
 use Rattle.markup.specs.Forest.{Forest}
 use Rattle.html_rules.specs.State.{Answers, Open, adjusted_by}
 use Rattle.html_rules.specs.declared.insertion_mode.InsertionMode.{InsertionMode}

@@ -1,11 +1,8 @@
 -- A run of text is taken at once as it is taken character by character.
-use Rattle.std.proofs.Common.{◌≡◌, ◌∙◌, ℕ, zero, suc, Bool, true, false, true≢false, List, [], ◌∷◌, ◌++◌, append_assoc, Option, Some, None, refl, sym, ap, subst, inl, inr, ◌⊎◌}
-use Rattle.std.specs.Prelude.{◌&&◌, ◌||◌, not, nat_eq, is_some}
+use Rattle.std.proofs.Common.{◌≡◌, ◌∙◌, ℕ, Bool, true, false, List, [], ◌∷◌, ◌++◌, append_assoc, Option, Some, None, refl, sym, ap, subst, inl, inr, ◌⊎◌}
+use Rattle.std.specs.Prelude.{◌&&◌, ◌||◌, not, is_some}
 use Rattle.std.proofs.lemmas.Bool.{eq-eqb}
-use Rattle.std.specs.List.{list_all, list_any}
 use Rattle.markup.specs.Forest.{Forest, IsPlace, Place, node_count, put_text}
-use Rattle.markup.specs.Named.{IsTree}
-use Rattle.markup.specs.TreeLaws.{with_errors}
 use Rattle.markup.proofs.TextPieces.{put_text-append}
 use Rattle.html_tokens.specs.declared.tags.Tag.{Tag}
 use Rattle.html_tokens.specs.declared.token.Token.{Token}
@@ -13,21 +10,20 @@ use Rattle.html_tokens.specs.declared.token.Token.TheVariants.{CharacterTokens}
 use Rattle.html_rules.specs.Actions.{act, append_in_body, frameset_not_ok_unless_white, keep_text}
 use Rattle.html_rules.specs.Choice.{choose}
 use Rattle.html_rules.specs.Encodings.{is_space}
-use Rattle.html_rules.specs.ForeignContent.{is_foreign, is_foreign_at, is_html_element, is_html_there}
+use Rattle.html_rules.specs.ForeignContent.{is_foreign, is_foreign_at, is_html_element}
 use Rattle.html_rules.specs.Formatting.{list_current, reconstruct_active_formatting_elements, reopen}
-use Rattle.html_rules.specs.Modes.Foreign.{in_foreign_content}
 use Rattle.html_rules.specs.Names.{Html}
 use Rattle.html_rules.specs.Places.{append_text, insert_element, insert_element_for, place_for}
-use Rattle.html_rules.specs.Rules.{Finished, Settled, Turn, first_fit, four_for_each, most_modes, rows, settle, settled_by, turn, turn_by_row, turn_of, using_rules_for, within}
+use Rattle.html_rules.specs.Rules.{Finished, Settled, four_for_each, most_modes, rows, settle, settled_by, turn, turn_of, using_rules_for, within}
 use Rattle.html_rules.specs.Stack.{is_open}
-use Rattle.html_rules.specs.State.{Open, Entry, Element, Marker, State, adjusted_by, adjusted_current_node, current_node, current_number, is_in}
+use Rattle.html_rules.specs.State.{Open, Entry, Element, Marker, State, adjusted_by, adjusted_current_node, current_node, is_in}
 use Rattle.html_rules.specs.Step.{behind, text_taken}
 use Rattle.html_rules.specs.Table.{Reconstruct}
 use Rattle.html_rules.specs.Tokens.{is_white}
 use Rattle.html_rules.specs.declared.insertion_mode.InsertionMode as modes
 use Rattle.html_rules.specs.declared.insertion_mode.InsertionMode.TheVariants as mode
 use Rattle.html_rules.specs.declared.tag_set.TagSet.TheVariants as set
-use Rattle.html_rules_laws.specs.Soundness.{AreOpened, Standing, is_plain_action}
+use Rattle.html_rules_laws.specs.Soundness.{Standing, is_plain_action}
 use Rattle.html_rules_laws.proofs.ActionsStanding.{actions-Standing}
 use Rattle.html_rules_laws.proofs.StandingTrees.{current-Place}
 use Rattle.html_rules_laws.proofs.Bools.{no}

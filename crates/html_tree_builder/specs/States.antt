@@ -1,12 +1,19 @@
 -- The state of tree construction, as the code has it.
-use Rattle.std.specs.Prelude.{ℕ, Bool, List, Option, Some, None, IfSome}
-use Rattle.markup.specs.Forest.{Forest, IsNode}
+use Rattle.std.specs.Prelude.{ℕ, Bool, List, [], Option, Some, None, IfSome}
+use Rattle.markup.specs.Forest.{Forest, IsNode, data_of, element_name}
 use Rattle.markup.specs.declared.attributes.Attribute.{Attribute}
+use Rattle.markup.specs.declared.names.QualName.{QualName}
 use Rattle.markup.specs.declared.quirks.QuirksMode.{QuirksMode}
 use Rattle.markup.specs.declared.tree_sink.TreeSink.{Ghosts}
-use Rattle.html_rules.specs.State.{Answers, Open, Options, State}
+use Rattle.html_rules.specs.Actions.{push_template_mode}
+use Rattle.html_rules.specs.Choice.{choose}
+use Rattle.html_rules.specs.Documents.{Setting}
+use Rattle.html_rules.specs.Names.{Other, namespace_of}
+use Rattle.html_rules.specs.State.{Answers, Open, Options, State, is_in}
 use Rattle.html_rules_laws.specs.Soundness.{IsStanding}
 use Rattle.html_rules.specs.declared.insertion_mode.InsertionMode.{InsertionMode}
+use Rattle.html_rules.specs.declared.insertion_mode.InsertionMode.TheVariants.{InTemplate}
+use Rattle.html_rules.specs.declared.tag_set.TagSet.TheVariants.{Template}
 use Rattle.html_stack.specs.Stacks.{Stacked, open_of}
 use Rattle.html_stack.specs.declared.entries.OpenElement.{OpenElement}
 use Rattle.html_tree_builder.specs.declared.options.TreeBuilderOpts.{TreeBuilderOpts}
@@ -21,6 +28,10 @@ context_of node (Some x) = Some (open_of node x)
 
 abbrev pub options_of : TreeBuilderOpts → Options
 options_of opts = record { scripting_enabled = opts.scripting_enabled; iframe_srcdoc = opts.iframe_srcdoc; drop_doctype = opts.drop_doctype }
+
+-- how the rules are set up, where the sink answers so
+abbrev pub setting_of : Answers → TreeBuilderOpts → Setting
+setting_of answers opts = record { opts = options_of opts; quirks_mode = opts.quirks_mode; answers = answers }
 
 abbrev pub answers_of : (Forest → ℕ → Bool) → (Forest → ℕ → Bool) → (Forest → ℕ → ℕ → List Attribute → Bool) → Answers
 answers_of integration_point allows_shadow_roots attaches_shadow = record { integration_point = integration_point; allows_shadow_roots = allows_shadow_roots; attaches_shadow = attaches_shadow }
@@ -62,6 +73,18 @@ state_of answers b f = record {
   opts = b.opts;
   answers = answers;
 }
+
+-- an element of a tree, as what a fragment is parsed in
+abbrev pub named_open : ℕ → Option QualName → Open
+named_open n None = record { number = n; namespace = Other []; name = [] }
+named_open n (Some name) = record { number = n; namespace = namespace_of name.ns; name = name.local }
+
+abbrev pub context_in : Forest → ℕ → Open
+context_in f n = named_open n (element_name (data_of f n))
+
+-- a template that is a context has its template insertion mode
+abbrev pub with_mode_of : Open → State → State
+with_mode_of context s = choose (is_in Template context) (λ _. push_template_mode InTemplate s) (λ _. s)
 
 -- the open elements stand, and the pointers name nodes
 pub record Stands (f : Forest) (b : Building) : Type 0 where

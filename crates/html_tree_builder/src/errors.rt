@@ -83,3 +83,8 @@ pub(crate) fn not_acknowledged() -> CowStr<'static> {
 pub(crate) fn text_in_table() -> CowStr<'static> {
     CowStr::Borrowed("unexpected text in a table")
 }
+
+/// A doctype that is none of HTML's, or stands where none belongs.
+pub(crate) fn unexpected_doctype() -> CowStr<'static> {
+    CowStr::Borrowed("unexpected doctype")
+}

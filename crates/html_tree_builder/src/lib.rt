@@ -2,6 +2,8 @@
 #![tactic(auto)]
 
 mod actions;
+mod beginnings;
+pub mod builder;
 mod conclusions;
 mod conditions;
 mod construction;
@@ -10,9 +12,12 @@ pub mod options;
 mod rows;
 mod runs;
 mod settling;
+mod sink;
+mod taking;
 mod texts;
 mod told;
 mod turns;
 mod walks;
 
+pub use builder::TreeBuilder;
 pub use options::TreeBuilderOpts;

@@ -1,4 +1,4 @@
-use Rattle.std.proofs.Common.{◌≡◌, ◌<◌, get_or, arith, refl}
+use Rattle.std.proofs.Common.{◌≡◌, ◌<◌, get_or, arith}
 use Rattle.html_names.proofs.FirstBytes.{BeginsWith-ascii, is-empty, is-nonempty}
 use Rattle.html_tree_builder.proofs.FirstCharacters.{line_feed-dropped, line_feed-none, line_feed-other}
 use Rattle.html_tree_builder.proofs.texts.behind_line_feed.Goals as goal

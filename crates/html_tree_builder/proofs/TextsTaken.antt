@@ -1,0 +1,72 @@
+-- A text that is taken from its front on.
+use Rattle.std.proofs.Common.{◌≡◌, ◌∙◌, ℕ, ◌<◌, Bool, false, List, [], ◌∷◌, length, Some, refl, sym, ap, subst}
+use Rattle.std.specs.Str.{IsUtf8, chars}
+use Rattle.markup.specs.Forest.{Forest}
+use Rattle.html_tokens.specs.declared.token.Token.TheVariants.{CharacterTokens}
+use Rattle.html_rules.specs.Actions.{act, set_ignore_lf}
+use Rattle.html_rules.specs.Rules.{Settled, settle}
+use Rattle.html_rules.specs.State.{Answers, State}
+use Rattle.html_rules.specs.Step.{behind, behind_line_feed, taken, text_taken, untouched}
+use Rattle.html_tokens.specs.declared.replies.TokenSinkResult.TheVariants.{Continue}
+use Rattle.html_rules_laws.proofs.Replies.{taken-well}
+use Rattle.html_names.proofs.FirstBytes.{no-text}
+use Rattle.html_builder_laws.specs.Coming.{came_of}
+use Rattle.html_builder_laws.specs.Usable.{Usable}
+use Rattle.html_builder_laws.proofs.TokensTaken.{form-node, head-node, unlined-going, unlined-usable}
+use Rattle.html_tree_builder.specs.Running.{run_action, run_of}
+use Rattle.html_tree_builder.specs.States.{Building, Stands, state_of}
+use Rattle.html_tree_builder.specs.Texts.{IsSplit}
+use Rattle.html_tree_builder.specs.declared.runs.Run.{Run}
+use Rattle.html_tree_builder.proofs.FirstCharacters.{some-character}
+use Rattle.html_tree_builder.proofs.TextRuns.{text-run}
+
+-- a usable state stands
+pub usable-stands : (a : Answers) (b : Building) (f : Forest) → Usable (state_of a b f) → b.has_ended ≡ false → Stands f b
+usable-stands a b f h going = record { standing = h.steady.upright.standing; head = head-node (state_of a b f) h; form = form-node (state_of a b f) h going; context = h.context }
+
+-- the state goes by the state before alone
+text-state : (text : List ℕ) (x y : Settled) → x.state ≡ y.state → (text_taken text x).state ≡ (text_taken text y).state
+text-state [] x y e = e
+text-state (c ∷ cs) x y e =
+    text-state cs (behind x (settle (CharacterTokens (c ∷ [])) x.state)) (behind y (settle (CharacterTokens (c ∷ [])) y.state)) (ap (λ s. (settle (CharacterTokens (c ∷ [])) s).state) e)
+
+-- behind its first character the text goes on
+pub next-character : (whole one rest : List ℕ) (s r : State) → IsSplit whole one rest → r ≡ (settle (CharacterTokens (chars one)) s).state → (text_taken (chars rest) (untouched r)).state ≡ (text_taken (chars whole) (untouched s)).state
+next-character whole one rest s r is e =
+    let same : r ≡ (settle (CharacterTokens (is.first ∷ [])) s).state = rw is.character at e in
+    rw is.characters (text-state (chars rest) (untouched r) (behind (untouched s) (settle (CharacterTokens (is.first ∷ [])) s)) same)
+
+-- a run is taken at once
+pub run-taken : (whole one rest : List ℕ) (run : Run) (s r : State) → IsSplit whole one rest → Some run ≡ run_of s → Usable s → r ≡ act (run_action run) (CharacterTokens (chars whole)) s → r ≡ (text_taken (chars whole) (untouched s)).state
+run-taken whole one rest run s r is found h e =
+    let taken : r ≡ act (run_action run) (CharacterTokens (is.first ∷ chars rest)) s = rw is.characters at e in
+    rw is.characters (taken ∙ sym (text-run run is.first (chars rest) (untouched s) (sym found) h.steady.upright.standing))
+
+-- the end of the text
+pub none-left : (text : List ℕ) (s : State) → chars text ≡ [] → s ≡ (text_taken (chars text) (untouched s)).state
+none-left text s e = rw e refl
+
+-- a line feed that comes is not dropped any more
+
+pub unlined-state : (s r : State) → r ≡ set_ignore_lf false s → Usable s → Usable r
+unlined-state s r e h = subst Usable (sym e) (unlined-usable s h)
+
+pub unlined-ended : (s r : State) → r ≡ set_ignore_lf false s → s.has_ended ≡ false → r.has_ended ≡ false
+unlined-ended s r e going = ap (λ x. x.has_ended) e ∙ unlined-going s going
+
+-- characters
+
+pub no-characters : (text : List ℕ) (s : State) → length text ≡ 0 → s ≡ (came_of (CharacterTokens (chars text)) s).state
+no-characters text s e = rw (no-text text e) refl
+
+pub characters-taken : (text rest : List ℕ) (lf : Bool) (s u r : State) → IsUtf8 text → 0 < length text → lf ≡ s.ignore_lf → u ≡ set_ignore_lf false s → chars rest ≡ behind_line_feed lf (chars text) → r ≡ (text_taken (chars rest) (untouched u)).state
+    → r ≡ (came_of (CharacterTokens (chars text)) s).state
+unfolding taken
+characters-taken text rest lf s u r utf8 some same unlined behind is =
+    let first = some-character text utf8 some in
+    let left : chars rest ≡ behind_line_feed s.ignore_lf (first.0 ∷ first.1) = behind ∙ ap (λ b. behind_line_feed b (chars text)) same ∙ ap (behind_line_feed s.ignore_lf) first.2 in
+    rw first.2 (is ∙ ap (λ cs. (text_taken cs (untouched u)).state) left ∙ ap (λ x. (text_taken (behind_line_feed s.ignore_lf (first.0 ∷ first.1)) (untouched x)).state) unlined)
+
+pub characters-continue : (text : List ℕ) (s : State) → Continue ≡ (came_of (CharacterTokens text) s).reply
+characters-continue [] s = refl
+characters-continue (c ∷ cs) s = sym (taken-well (CharacterTokens (c ∷ cs)) s)

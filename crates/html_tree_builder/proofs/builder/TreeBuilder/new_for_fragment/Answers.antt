@@ -1,0 +1,32 @@
+use Rattle.std.proofs.Common.{◌∙◌, ap}
+use Rattle.html_rules.specs.Documents.{before_fragment}
+use Rattle.html_tree_builder.specs.States.{answers_of, built, context_in, number_if, setting_of}
+use Rattle.html_tree_builder.proofs.BuildersBegun.{form-node, fragment-usable}
+use Rattle.html_tree_builder.proofs.builder.TreeBuilder.new_for_fragment.Goals as goal
+
+pub for_fragment-requires-clause-form : goal.for_fragment-requires-clause-form
+for_fragment-requires-clause-form g c =
+    form-node (g.Sink.TreeSink.forest c.args.sink) (g.Sink.TreeSink.forest c.get_document.new.self) (number_if g.Sink.TreeSink.node c.args.form) c.get_document.ensures.same c.requires.form
+
+pub returns-clause-begun : goal.returns-clause-begun
+returns-clause-begun g c =
+    let a = answers_of g.Sink.TreeSink.integration_point g.Sink.TreeSink.allows_shadow_roots g.Sink.TreeSink.attaches_shadow in
+    let setting = setting_of a c.args.opts in
+    let n = g.Sink.TreeSink.node c.args.context in
+    let form = number_if g.Sink.TreeSink.node c.args.form in
+    let f = g.Sink.TreeSink.forest c.get_document.new.self in
+    c.in_ok-construction.ensures.ok a
+    ∙ ap (λ context. before_fragment setting context form f) c.in_ok-context.ensures.ok
+    ∙ ap (λ x. before_fragment setting (context_in x n) form x) c.get_document.ensures.same
+
+pub returns-clause-usable : goal.returns-clause-usable
+returns-clause-usable g c =
+    let a = answers_of g.Sink.TreeSink.integration_point g.Sink.TreeSink.allows_shadow_roots g.Sink.TreeSink.attaches_shadow in
+    let setting = setting_of a c.args.opts in
+    let n = g.Sink.TreeSink.node c.args.context in
+    let form = number_if g.Sink.TreeSink.node c.args.form in
+    let f = g.Sink.TreeSink.forest c.get_document.new.self in
+    let r = g.Sink.TreeSink.forest c.for_fragment.new.sink in
+    fragment-usable setting n form (g.Sink.TreeSink.forest c.args.sink) f (built g.Sink.TreeSink c.in_ok-construction.construction r) c.get_document.ensures.same c.get_document.ensures.is_forest c.get_document.ensures.contents
+    c.requires.top c.requires.context c.requires.form
+    (c.in_ok-construction.ensures.ok a ∙ ap (λ context. before_fragment setting context form f) c.in_ok-context.ensures.ok)

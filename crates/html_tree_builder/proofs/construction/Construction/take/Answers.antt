@@ -1,0 +1,17 @@
+use Rattle.html_tree_builder.specs.States.{answers_of, built}
+use Rattle.html_tree_builder.proofs.TextsTaken.{characters-continue, unlined-ended, unlined-state, usable-stands}
+use Rattle.html_tree_builder.proofs.construction.Construction.take.Goals as goal
+
+pub take_doctype-requires : goal.take_doctype-requires
+take_doctype-requires g c =
+    let a = answers_of g.Sink.TreeSink.integration_point g.Sink.TreeSink.allows_shadow_roots g.Sink.TreeSink.attaches_shadow in
+    let f = g.Sink.TreeSink.forest c.args.sink.now in
+    let s = built g.Sink.TreeSink c.args.self.now f in
+    let u = built g.Sink.TreeSink c.set_ignore_lf.new.self f in
+    let same = c.set_ignore_lf.ensures a f in
+    record { stands = usable-stands a c.set_ignore_lf.new.self f (unlined-state s u same c.requires.usable) (unlined-ended s u same c.requires.going) }
+
+pub returns-in_ok-take_characters-in-CharacterTokens-clause-reply :
+    goal.returns-in_ok-take_characters-in-CharacterTokens-clause-reply
+returns-in_ok-take_characters-in-CharacterTokens-clause-reply g c =
+    rw c.in-CharacterTokens.is (characters-continue c.in-CharacterTokens.text (built g.Sink.TreeSink c.args.self.now (g.Sink.TreeSink.forest c.args.sink.now)))

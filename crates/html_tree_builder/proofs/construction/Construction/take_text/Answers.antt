@@ -1,0 +1,30 @@
+use Rattle.std.proofs.Common.{◌∙◌, ap, subst, sym}
+use Rattle.std.specs.Str.{chars}
+use Rattle.html_tokens.specs.declared.token.Token.TheVariants.{CharacterTokens}
+use Rattle.html_builder_laws.proofs.TokensTaken.{settled-going, settled-usable}
+use Rattle.html_builder_laws.specs.Usable.{Usable}
+use Rattle.html_tree_builder.specs.States.{answers_of, built}
+use Rattle.html_tree_builder.proofs.TextsTaken.{next-character, run-taken}
+use Rattle.html_tree_builder.proofs.construction.Construction.take_text.Goals as goal
+
+pub returns-in-Some-run-clause-ok : goal.returns-in-Some-run-clause-ok
+returns-in-Some-run-clause-ok g c =
+    let a = answers_of g.Sink.TreeSink.integration_point g.Sink.TreeSink.allows_shadow_roots g.Sink.TreeSink.attaches_shadow in
+    let f = g.Sink.TreeSink.forest c.loop-character.sink in
+    let s = built g.Sink.TreeSink c.loop-character.self f in
+    let r = built g.Sink.TreeSink c.take_run.new.self (g.Sink.TreeSink.forest c.take_run.new.sink) in
+    run-taken c.loop-character.rest.now c.in-Some.character.now c.in-Some.behind.now c.in-Some-run.run' s r c.in-Some.ensures (c.in-Some-run.ensures a f) c.loop-character.invariant.usable (c.in_ok-take_run.ensures.ok a)
+    ∙ c.loop-character.invariant.same
+
+pub loop-character-preserved : goal.loop-character-preserved
+loop-character-preserved g c =
+    let s = built g.Sink.TreeSink c.loop-character.self (g.Sink.TreeSink.forest c.loop-character.sink) in
+    let r = built g.Sink.TreeSink c.take_character.new.self (g.Sink.TreeSink.forest c.take_character.new.sink) in
+    let t = CharacterTokens (chars c.in-Some.character.now) in
+    let same = c.in_ok-take_character.ensures.ok in
+    record {
+      text = c.in-Some.ensures.text;
+      usable = subst Usable (sym same) (settled-usable t s c.loop-character.invariant.usable c.loop-character.invariant.going);
+      going = ap (λ x. x.has_ended) same ∙ settled-going t s c.loop-character.invariant.going;
+      same = next-character c.loop-character.rest.now c.in-Some.character.now c.in-Some.behind.now s r c.in-Some.ensures same ∙ c.loop-character.invariant.same;
+    }

@@ -1,0 +1,175 @@
+//! The tree builder takes tokens (HTML Standard, section 13.2.6).
+ghost use Rattle.std.specs.Prelude.{◌≡◌, [], false, true, IfErr};
+ghost use Rattle.markup.specs.declared.fault.ParseFault.TheVariants.{Memory};
+ghost use Rattle.html_tokens.specs.Sink.{fails};
+ghost use Rattle.html_builder_laws.specs.Coming.{IsTaken};
+ghost use Rattle.html_builder_laws.specs.Usable.{Usable};
+ghost use Rattle.html_rules.specs.State.{hushed};
+ghost use Rattle.html_rules.specs.Step.{is_barred, is_barred_in_text};
+ghost use Rattle.html_rules_laws.specs.Soundness.{AreOpened};
+ghost use Rattle.html_tree_builder.specs.States.{built};
+
+use crate::builder::TreeBuilder;
+use crate::construction::Construction;
+use html_rules::InsertionMode;
+use html_tokens::{TagKind, Token, TokenSink, TokenSinkResult};
+use markup::{ParseFault, TreeSink};
+
+/// Whether a token can't come while the text of an element is read.
+fn is_barred_in_text(token: &Token) -> bool
+    ensures { result ≡ is_barred_in_text token.now }
+{
+    match token {
+        Token::TagToken(tag) => tag.kind == TagKind::StartTag,
+        Token::CommentToken(_) => true,
+        Token::NullCharacterToken => true,
+        _ => false,
+    }
+}
+
+/// Whether a token can't come in a mode.
+fn is_barred(mode: InsertionMode, token: &Token) -> bool
+    ensures { result ≡ is_barred mode token.now }
+{
+    match mode {
+        InsertionMode::Text => is_barred_in_text(token),
+        _ => false,
+    }
+}
+
+impl<Sink: TreeSink> Construction<Sink> {
+    /// Whether the end was told.
+    fn has_ended(&self) -> bool
+        ensures { result ≡ self.now.has_ended }
+    {
+        self.has_ended
+    }
+
+    /// Whether a token can't come.
+    fn bars(&self, token: &Token) -> bool
+        ensures { result ≡ is_barred self.now.mode token.now }
+    {
+        is_barred(self.mode, token)
+    }
+
+    /// All elements leave the stack, and the sink is told of each.
+    fn end(&mut self, sink: &mut Sink)
+        requires { AreOpened (Sink.forest sink.old) self.old.stack.open_elems }
+        ensures left { self.new ≡ record self.old { stack = record self.old.stack { open_elems = [] }; has_ended = true } }
+        ensures same { Sink.forest sink.new ≡ Sink.forest sink.old }
+    {
+        self.stack.pop_all(sink);
+        self.has_ended = true;
+    }
+
+    /// The same where the sink is told nothing any more.
+    fn end_untold(&mut self)
+        ensures { self.new ≡ record self.old { stack = record self.old.stack { open_elems = [] }; has_ended = true } }
+    {
+        self.stack.truncate(0);
+        self.has_ended = true;
+    }
+}
+
+impl<Sink: TreeSink> TreeBuilder<Sink> {
+    /// Tells the sink a line that differs from the last one that it was told.
+    fn tell_line(&mut self, line: u64)
+        ensures same { built Sink.TreeSink self.new.construction (Sink.forest self.new.sink) ≡ built Sink.TreeSink self.old.construction (Sink.forest self.old.sink) }
+        ensures works { self.new.has_failed ≡ self.old.has_failed }
+    {
+        if line != self.current_line {
+            self.current_line = line;
+            self.sink.set_current_line(line);
+        }
+    }
+
+    /// Takes a token that nothing stands against. Where memory is wanting the builder has failed.
+    fn take_or_fail(
+        &mut self,
+        token: Token,
+        line: u64,
+    ) -> Result<TokenSinkResult<Sink::Handle>, ParseFault>
+        requires usable { Usable (hushed (built Sink.TreeSink self.old.construction (Sink.forest self.old.sink))) }
+        requires going { self.old.construction.has_ended ≡ false }
+        requires works { self.old.has_failed ≡ false }
+        ensures taken { IsTaken Sink.node token (built Sink.TreeSink self.old.construction (Sink.forest self.old.sink)) (built Sink.TreeSink self.new.construction (Sink.forest self.new.sink)) result }
+        ensures failed { self.new.has_failed ≡ fails result }
+        ensures fault { IfErr result (λ fault. fault ≡ Memory) }
+    {
+        self.tell_line(line);
+        match self.construction.take(&mut self.sink, token) {
+            Ok(reply) => Ok(reply),
+            Err(fault) => {
+                self.has_failed = true;
+                Err(fault)
+            }
+        }
+    }
+}
+
+impl<Sink: TreeSink> TokenSink for TreeBuilder<Sink> {
+    ghost use Rattle.html_rules.specs.ForeignContent.{asks_cdata};
+    ghost use Rattle.html_rules.specs.State.{State, hushed};
+    ghost use Rattle.html_rules.specs.Step.{ended, is_quiet, step};
+    ghost use Rattle.html_builder_laws.proofs.UsableTokens.{usable_laws};
+    ghost use Rattle.html_builder_laws.specs.Usable.{Usable};
+    ghost use Rattle.html_tree_builder.specs.States.{built};
+
+    type Handle = Sink::Handle;
+
+    ghost State = { State };
+
+    ghost view = { λ b. hushed (built Sink.TreeSink b.construction (Sink.forest b.sink)) };
+
+    ghost is_sound = { Usable };
+
+    ghost step = { step };
+
+    ghost ended = { ended };
+
+    ghost asks_cdata = { asks_cdata };
+
+    ghost errors = { λ b. (Sink.forest b.sink).errors };
+
+    ghost errors_ended = { λ _ n. n };
+
+    ghost is_quiet = { is_quiet };
+
+    ghost has_failed = { λ b. b.has_failed };
+
+    ghost number = { Sink.node };
+
+    ghost laws = { usable_laws };
+
+    fn process_token(
+        &mut self,
+        token: Token,
+        line_number: u64,
+    ) -> Result<TokenSinkResult<Sink::Handle>, ParseFault> {
+        if self.has_failed {
+            return Err(ParseFault::Failed);
+        }
+        if self.construction.has_ended() {
+            return Err(ParseFault::Ended);
+        }
+        if self.construction.bars(&token) {
+            return Err(ParseFault::TokenInText);
+        }
+        self.take_or_fail(token, line_number)
+    }
+
+    fn end(&mut self) {
+        if self.has_failed {
+            self.construction.end_untold();
+        } else {
+            self.construction.end(&mut self.sink);
+        }
+    }
+
+    fn adjusted_current_node_present_but_not_in_html_namespace(&self) -> bool {
+        match self.construction.adjusted_current_node() {
+            Some(element) => !element.name.is_html(),
+            None => false,
+        }
+    }
+}

@@ -1,0 +1,240 @@
+//! A token that is told is taken as a whole (HTML Standard, section 13.2.6).
+ghost use Rattle.std.specs.Prelude.{◌≡◌, [], false, IfErr, IfOk, OnOk};
+ghost use Rattle.std.specs.Str.{chars};
+ghost use Rattle.markup.specs.declared.fault.ParseFault.TheVariants.{Memory};
+ghost use Rattle.html_builder_laws.specs.Coming.{came_of};
+ghost use Rattle.html_builder_laws.specs.Usable.{Usable};
+ghost use Rattle.html_rules.specs.Actions.{set_ignore_lf};
+ghost use Rattle.html_rules.specs.Choice.{choose};
+ghost use Rattle.html_tokens.specs.Sink.{numbered};
+ghost use Rattle.html_tokens.specs.declared.token.Token.TheVariants.{CharacterTokens, TagToken};
+ghost use Rattle.html_rules.specs.Rules.{settle};
+ghost use Rattle.html_rules.specs.State.{Answers};
+ghost use Rattle.html_rules.specs.Stack.{parse_error};
+ghost use Rattle.html_rules.specs.Step.{doctype_taken, first_doctype_taken, if_kept, text_taken, untouched};
+ghost use Rattle.html_rules.specs.Tokens.{name_of};
+ghost use Rattle.html_tree_builder.specs.States.{Stands, built, state_of};
+ghost use Rattle.html_tree_builder.specs.Told.{IsTold, token_of};
+
+use crate::construction::Construction;
+use crate::errors;
+use crate::texts::{behind_line_feed, split_first};
+use crate::told::{Content, Told};
+use html_names::{ElementClass, doctype_error_and_quirks};
+use html_rules::InsertionMode;
+use html_tokens::{Doctype, Tag, Token, TokenSinkResult};
+use markup::{LocalName, ParseFault, TreeSink};
+
+impl<'a> Told<'a> {
+    /// A tag.
+    fn of_tag(tag: &'a Tag) -> Told<'a>
+        ensures told { IsTold result }
+        ensures content { token_of result.content ≡ TagToken tag.now }
+    {
+        Told {
+            content: Content::Tag(tag),
+            name: &tag.name,
+            class: ElementClass::html(&tag.name),
+        }
+    }
+
+    /// What has this name, or no name.
+    fn of(content: Content<'a>, name: &'a LocalName) -> Told<'a>
+        requires { name.now ≡ name_of (token_of content) }
+        ensures told { IsTold result }
+        ensures content { token_of result.content ≡ token_of content.entry }
+    {
+        Told {
+            content,
+            name,
+            class: ElementClass::html(name),
+        }
+    }
+}
+
+impl<Sink: TreeSink> Construction<Sink> {
+    /// What a token comes to.
+    fn settle_told(
+        &mut self,
+        sink: &mut Sink,
+        told: Told<'_>,
+    ) -> Result<TokenSinkResult<Sink::Handle>, ParseFault>
+        requires told { IsTold told }
+        requires usable { Usable (built Sink.TreeSink self.old (Sink.forest sink.old)) }
+        requires going { self.old.has_ended ≡ false }
+        ensures state { OnOk result (built Sink.TreeSink self.new (Sink.forest sink.new) ≡ (settle (token_of told.entry.content) (built Sink.TreeSink self.old (Sink.forest sink.old))).state) }
+        ensures reply { IfOk result (λ reply. numbered Sink.node reply ≡ (settle (token_of told.entry.content) (built Sink.TreeSink self.old (Sink.forest sink.old))).reply) }
+        ensures fault { IfErr result (λ fault. fault ≡ Memory) }
+    {
+        self.settle(sink, told)
+    }
+
+    /// Takes one character.
+    fn take_character(&mut self, sink: &mut Sink, character: &str) -> Result<(), ParseFault>
+        requires usable { Usable (built Sink.TreeSink self.old (Sink.forest sink.old)) }
+        requires going { self.old.has_ended ≡ false }
+        ensures ok { OnOk result (built Sink.TreeSink self.new (Sink.forest sink.new) ≡ (settle (CharacterTokens (chars character.now)) (built Sink.TreeSink self.old (Sink.forest sink.old))).state) }
+        ensures fault { IfErr result (λ fault. fault ≡ Memory) }
+    {
+        let name = LocalName::empty(self.alloc);
+        let told = Told::of(Content::Characters(character), &name);
+        drop(self.settle_told(sink, told)?);
+        Ok(())
+    }
+
+    /// Takes a text: a run at once, and up to where one begins character by character.
+    fn take_text(&mut self, sink: &mut Sink, text: &str) -> Result<(), ParseFault>
+        requires usable { Usable (built Sink.TreeSink self.old (Sink.forest sink.old)) }
+        requires going { self.old.has_ended ≡ false }
+        ensures ok { OnOk result (built Sink.TreeSink self.new (Sink.forest sink.new) ≡ (text_taken (chars text.now) (untouched (built Sink.TreeSink self.old (Sink.forest sink.old)))).state) }
+        ensures fault { IfErr result (λ fault. fault ≡ Memory) }
+    {
+        let mut rest = text;
+        while let Some((character, behind)) = split_first(rest) {
+            if let Some(run) = self.run() {
+                self.take_run(sink, run, rest)?;
+                return Ok(());
+            }
+            self.take_character(sink, character)?;
+            rest = behind;
+        }
+        Ok(())
+    }
+
+    /// Takes characters, which may be none. A line feed at their front is dropped where that is asked for.
+    fn take_characters(&mut self, sink: &mut Sink, text: &str) -> Result<(), ParseFault>
+        requires usable { Usable (built Sink.TreeSink self.old (Sink.forest sink.old)) }
+        requires going { self.old.has_ended ≡ false }
+        ensures ok { OnOk result (built Sink.TreeSink self.new (Sink.forest sink.new) ≡ (came_of (CharacterTokens (chars text.now)) (built Sink.TreeSink self.old (Sink.forest sink.old))).state) }
+        ensures fault { IfErr result (λ fault. fault ≡ Memory) }
+    {
+        if text.is_empty() {
+            return Ok(());
+        }
+        let rest = behind_line_feed(self.ignore_lf, text);
+        self.set_ignore_lf(false);
+        self.take_text(sink, rest)?;
+        Ok(())
+    }
+
+    /// An error of a doctype is told.
+    #[tactic(auto, unfolding(html_rules::specs::Stack::parse_error))]
+    fn tell_doctype(&self, sink: &mut Sink, is_error: bool)
+        ensures state { (a : Answers) → state_of a self.now (Sink.forest sink.new) ≡ choose is_error (λ _. parse_error (state_of a self.now (Sink.forest sink.old))) (λ _. state_of a self.now (Sink.forest sink.old)) }
+        ensures stands { Stands (Sink.forest sink.old) self.now → Stands (Sink.forest sink.new) self.now }
+    {
+        if is_error {
+            sink.parse_error(errors::unexpected_doctype());
+        }
+    }
+
+    /// A doctype is put into the document, unless none is to be there.
+    fn append_doctype(&mut self, sink: &mut Sink, doctype: Doctype) -> Result<(), ParseFault>
+        requires stands { Stands (Sink.forest sink.old) self.old }
+        ensures ok { OnOk result ((a : Answers) → state_of a self.new (Sink.forest sink.new) ≡ if_kept self.old.opts.drop_doctype doctype (state_of a self.old (Sink.forest sink.old))) }
+        ensures fault { IfErr result (λ fault. fault ≡ Memory) }
+    {
+        if self.opts.drop_doctype {
+            return Ok(());
+        }
+        self.stack.append_doctype_to_document(sink, doctype)?;
+        Ok(())
+    }
+
+    /// Takes a doctype where one belongs.
+    fn take_first_doctype(&mut self, sink: &mut Sink, doctype: Doctype) -> Result<(), ParseFault>
+        requires stands { Stands (Sink.forest sink.old) self.old }
+        ensures ok { OnOk result ((a : Answers) → state_of a self.new (Sink.forest sink.new) ≡ first_doctype_taken doctype (state_of a self.old (Sink.forest sink.old))) }
+        ensures fault { IfErr result (λ fault. fault ≡ Memory) }
+    {
+        let (is_error, quirks) = doctype_error_and_quirks(&doctype, self.opts.iframe_srcdoc);
+        self.tell_doctype(sink, is_error);
+        self.append_doctype(sink, doctype)?;
+        self.set_quirks_mode(sink, quirks);
+        self.set_mode(InsertionMode::BeforeHtml);
+        Ok(())
+    }
+
+    /// Takes a doctype.
+    fn take_doctype(&mut self, sink: &mut Sink, doctype: Doctype) -> Result<(), ParseFault>
+        requires stands { Stands (Sink.forest sink.old) self.old }
+        ensures ok { OnOk result ((a : Answers) → state_of a self.new (Sink.forest sink.new) ≡ doctype_taken self.old.mode doctype (state_of a self.old (Sink.forest sink.old))) }
+        ensures fault { IfErr result (λ fault. fault ≡ Memory) }
+    {
+        match self.mode {
+            InsertionMode::Initial => self.take_first_doctype(sink, doctype),
+            _ => {
+                self.tell_doctype(sink, true);
+                Ok(())
+            }
+        }
+    }
+
+    /// Takes what is neither text nor a doctype.
+    fn take_told(
+        &mut self,
+        sink: &mut Sink,
+        told: Told<'_>,
+    ) -> Result<TokenSinkResult<Sink::Handle>, ParseFault>
+        requires told { IsTold told }
+        requires usable { Usable (built Sink.TreeSink self.old (Sink.forest sink.old)) }
+        requires going { self.old.has_ended ≡ false }
+        ensures state { OnOk result (built Sink.TreeSink self.new (Sink.forest sink.new) ≡ (settle (token_of told.entry.content) (set_ignore_lf false (built Sink.TreeSink self.old (Sink.forest sink.old)))).state) }
+        ensures reply { IfOk result (λ reply. numbered Sink.node reply ≡ (settle (token_of told.entry.content) (set_ignore_lf false (built Sink.TreeSink self.old (Sink.forest sink.old)))).reply) }
+        ensures fault { IfErr result (λ fault. fault ≡ Memory) }
+    {
+        self.set_ignore_lf(false);
+        self.settle_told(sink, told)
+    }
+
+    /// Takes a token. An error is told on, and an empty text changes nothing.
+    #[tactic(auto, unfolding(html_rules::specs::Step::taken, html_rules::specs::Stack::parse_error))]
+    pub(crate) fn take(
+        &mut self,
+        sink: &mut Sink,
+        token: Token,
+    ) -> Result<TokenSinkResult<Sink::Handle>, ParseFault>
+        requires usable { Usable (built Sink.TreeSink self.old (Sink.forest sink.old)) }
+        requires going { self.old.has_ended ≡ false }
+        ensures state { OnOk result (built Sink.TreeSink self.new (Sink.forest sink.new) ≡ (came_of token (built Sink.TreeSink self.old (Sink.forest sink.old))).state) }
+        ensures reply { IfOk result (λ reply. numbered Sink.node reply ≡ (came_of token (built Sink.TreeSink self.old (Sink.forest sink.old))).reply) }
+        ensures fault { IfErr result (λ fault. fault ≡ Memory) }
+    {
+        match token {
+            Token::ParseError(message) => {
+                sink.parse_error(message);
+                Ok(TokenSinkResult::Continue)
+            }
+            Token::CharacterTokens(text) => {
+                self.take_characters(sink, text.as_str())?;
+                Ok(TokenSinkResult::Continue)
+            }
+            Token::DoctypeToken(doctype) => {
+                self.set_ignore_lf(false);
+                self.take_doctype(sink, doctype)?;
+                Ok(TokenSinkResult::Continue)
+            }
+            Token::TagToken(tag) => self.take_told(sink, Told::of_tag(&tag)),
+            Token::CommentToken(text) => self.take_nameless(sink, Content::Comment(&text)),
+            Token::NullCharacterToken => self.take_nameless(sink, Content::Null),
+            Token::EOFToken => self.take_nameless(sink, Content::EndOfFile),
+        }
+    }
+
+    /// Takes what is neither text nor a doctype nor a tag.
+    fn take_nameless(
+        &mut self,
+        sink: &mut Sink,
+        content: Content<'_>,
+    ) -> Result<TokenSinkResult<Sink::Handle>, ParseFault>
+        requires nameless { [] ≡ name_of (token_of content) }
+        requires usable { Usable (built Sink.TreeSink self.old (Sink.forest sink.old)) }
+        requires going { self.old.has_ended ≡ false }
+        ensures state { OnOk result (built Sink.TreeSink self.new (Sink.forest sink.new) ≡ (settle (token_of content.entry) (set_ignore_lf false (built Sink.TreeSink self.old (Sink.forest sink.old)))).state) }
+        ensures reply { IfOk result (λ reply. numbered Sink.node reply ≡ (settle (token_of content.entry) (set_ignore_lf false (built Sink.TreeSink self.old (Sink.forest sink.old)))).reply) }
+        ensures fault { IfErr result (λ fault. fault ≡ Memory) }
+    {
+        let name = LocalName::empty(self.alloc);
+        self.take_told(sink, Told::of(content, &name))
+    }
+}
