@@ -15,10 +15,6 @@ use Rattle.bench_tokenizer.specs.Counts.{counted_by, counting}
 use Rattle.bench_tokenizer.specs.Readings.{HasRead, Reads, Begins, IsCounted, page_reading, page_owes, noted, owed_behind, to_come}
 use Rattle.bench_tokenizer.specs.declared.counts.Counts.{Counts}
 
--- the characters of a text that is cut are those of both parts
-pub chars-cut : (bs : List ℕ) (n : ℕ) → IsUtf8 (take n bs) → chars bs ≡ chars (take n bs) ++ chars (drop n bs)
-chars-cut bs n front = ap chars (sym (take-append-drop n bs)) ∙ chars-append (take n bs) (drop n bs) front
-
 -- a text without a byte is empty
 pub no-bytes : (rest : List ℕ) (b : Bool) → b ≡ (length rest == 0) → b ≡ true → rest ≡ []
 no-bytes rest b e t = nil_from_length rest (eqb-true (length rest) 0 (sym e ∙ t))

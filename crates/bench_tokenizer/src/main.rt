@@ -4,10 +4,10 @@
 #![tactic(auto)]
 
 mod counts;
-mod page;
 mod read;
 
 use anyhow::{Context, Result, bail};
+use bench_pages::page_of;
 use std::alloc::Global;
 use std::env;
 use std::rt::{Clock, Env};
@@ -17,7 +17,7 @@ const DEFAULT_BYTES: usize = 50_000_000;
 
 fn main(rt: HostRuntime) -> Result<()> {
     let bytes = wanted_bytes(&rt)?;
-    let Ok(page) = page::page_of(rt.alloc(), bytes) else {
+    let Ok(page) = page_of(rt.alloc(), bytes) else {
         bail!("no memory");
     };
     measure(&rt, rt.alloc(), page.as_str(), false)?;

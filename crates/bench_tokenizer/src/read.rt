@@ -1,28 +1,14 @@
 //! Reading a page in pieces.
-ghost use Rattle.std.specs.Prelude.{◌≡◌, ◌++◌, ◌<◌, [], length, IfOk, OnOk};
+ghost use Rattle.std.specs.Prelude.{◌≡◌, [], IfOk, OnOk};
 ghost use Rattle.std.specs.Str.{chars};
 ghost use Rattle.std.specs.String.{string_bytes};
 ghost use Rattle.bench_tokenizer.specs.Readings.{Reads, Takes, Begins, IsCounted};
 
 use crate::counts::Counts;
+use bench_pages::split_piece;
 use html_tokenizer::{BufferQueue, References, Tokenizer, TokenizerOpts};
 use markup::{ParseFault, TokenizerResult};
 use std::alloc::Global;
-
-/// How many bytes a piece has at most.
-const PIECE: usize = 4_096;
-
-/// A front of a text, of so many bytes at most where a character ends within them, and what follows it.
-fn split_piece(text: &str) -> (&str, &str)
-    ensures whole { chars text.now ≡ chars result.0.now ++ chars result.1.now }
-    ensures shorter { 0 < length text.now → length result.1.now < length text.now }
-{
-    let end = text.floor_char_boundary(PIECE);
-    if end == 0 {
-        return (text, "");
-    }
-    text.split_at(end)
-}
 
 /// A tokenizer at the front of its input, with the five names of references that a written text needs.
 fn tokenizer_of(alloc: Global, exact_errors: bool) -> Result<Tokenizer<Counts>, ParseFault>

@@ -1,4 +1,4 @@
-//! The page that is read.
+//! The page that benchmarks read.
 
 use markup::ParseFault;
 use std::alloc::Global;
@@ -17,7 +17,7 @@ and then ends without much ado, as most paragraphs do.</p>\n\
 <img src=\"a.png\" alt=\"a picture\"/><br>\n</div>\n";
 
 /// A page of as many blocks as have so many bytes, one at least.
-pub(crate) fn page_of(alloc: Global, bytes: usize) -> Result<String, ParseFault> {
+pub fn page_of(alloc: Global, bytes: usize) -> Result<String, ParseFault> {
     let mut page = String::from_str(alloc, BLOCK)?;
     for _block in 1..bytes / BLOCK.len() {
         page.push_str(BLOCK)?;
