@@ -1,0 +1,76 @@
+-- What a tokenizer has read, over any sink.
+use Rattle.std.specs.Prelude.{◌≡◌, ℕ, Bool, true, false, List, [], ◌++◌, Option, Some, None, Result, Ok, Err, IsErr, IsOk}
+use Rattle.markup.specs.declared.fault.ParseFault.{ParseFault}
+use Rattle.markup.specs.declared.fault.ParseFault.TheVariants.{Failed}
+use Rattle.html_queue.specs.Queue.{Queue}
+use Rattle.html_tokens.specs.declared.options.TokenizerOpts.{TokenizerOpts}
+use Rattle.html_tokens.specs.declared.sink.TokenSink.{Ghosts}
+use Rattle.html_tokens.specs.Item.{Stand}
+use Rattle.html_tokens.specs.NormalText.{normal_text}
+use Rattle.html_tokens.specs.Notes.{Notes, without_notes}
+use Rattle.html_tokens.specs.Reading.{first_stand, reading}
+use Rattle.html_tokens.specs.Sink.{IsRefusal, Refusal}
+use Rattle.html_tokens.specs.Table.{Row}
+use Rattle.html_tokenizer.specs.Calls.{refusal_of, to_come}
+use Rattle.html_tokenizer.specs.declared.tokenizer.Tokenizer.{Tokenizer}
+
+-- how a reading begins: with which references, whether a byte order mark is dropped, where it stands, and in which state of the sink
+pub record Beginning (S : Type 0) : Type 0 where
+  pub table : List Row
+  pub discard_bom : Bool
+  pub stand : Stand
+  pub state : S
+
+-- a beginning by the options of a tokenizer
+abbrev pub beginning : {S : Type 0} → List Row → TokenizerOpts → S → Beginning S
+beginning table opts s = record { table = table; discard_bom = opts.discard_bom; stand = first_stand opts.initial_state opts.last_start_tag_name; state = s }
+
+-- what stands against a call: a text that could not be kept, or what stands against the tokenizer
+abbrev pub stopped_by : Bool → Option ParseFault → Option ParseFault
+stopped_by true refusal = Some Failed
+stopped_by false refusal = refusal
+
+module _ {K H : Type 0} (Sink : Ghosts K H) where
+  -- what a whole text leaves
+  abbrev pub read_whole : Beginning Sink.State → List ℕ → Result Sink.State Refusal
+  read_whole begin text = reading Sink.step (λ fault s. s) Sink.asks_cdata Sink.ended begin.table begin.stand 0 begin.state (normal_text begin.discard_bom text)
+
+  -- A text was read: of whatever follows the tokenizer makes, what is noted aside, what the beginning makes of both.
+  pub record HasRead (begin : Beginning Sink.State) (text : List ℕ) (k : Tokenizer K) : Type 0 where
+    pub notes : Notes ℕ
+    pub same : (t : List ℕ) → without_notes (to_come Sink k notes t) ≡ read_whole begin (text ++ t)
+
+  -- behind whatever was read, this text was read too
+  abbrev pub ReadsOn : Tokenizer K → Tokenizer K → List ℕ → Type 0
+  ReadsOn old new text = (begin : Beginning Sink.State) (before : List ℕ) → HasRead begin before old → HasRead begin (before ++ text) new
+
+  -- no token of a text is refused
+  abbrev pub IsTaken : Beginning Sink.State → Type 0
+  IsTaken begin = (text : List ℕ) → IsOk (read_whole begin text)
+
+  -- a text that begins so is refused
+  pub record IsRefusedBehind (begin : Beginning Sink.State) (before : List ℕ) : Type 0 where
+    pub behind : List ℕ
+    pub is : IsErr (read_whole begin (before ++ behind))
+
+  -- where a fault is a refusal, a text that begins as what was read is refused
+  abbrev pub FailsBehind : Tokenizer K → ParseFault → Type 0
+  FailsBehind k fault = IsRefusal fault → (begin : Beginning Sink.State) (before : List ℕ) → HasRead begin before k → IsRefusedBehind begin before
+
+  -- All of an input was read, past every pause; or the tokenizer failed. What stands against a call leaves all as it is.
+  abbrev pub FeedsAll : Option ParseFault → Tokenizer K → Tokenizer K → Queue → Queue → Result (Unit {0}) ParseFault → Type 0
+  FeedsAll None old new from to (Ok x) = ReadsOn old new from.characters × (to.characters ≡ []) × (refusal_of new ≡ None)
+  FeedsAll None old new from to (Err fault) = (new.stream.has_failed ≡ true) × FailsBehind old fault
+  FeedsAll (Some fault) old new from to result = (result ≡ Err fault) × (new ≡ old) × (to ≡ from)
+
+  -- All of a text was read, and its end: the sink is left as the whole text leaves it.
+  abbrev pub EndsAll : Option ParseFault → Tokenizer K → List ℕ → Result K ParseFault → Type 0
+  EndsAll None k text (Ok sink) = (begin : Beginning Sink.State) (before : List ℕ) → HasRead begin before k → read_whole begin (before ++ text) ≡ Ok (Sink.view sink)
+  EndsAll None k text (Err fault) = FailsBehind k fault
+  EndsAll (Some fault) k text result = result ≡ Err fault
+
+  -- What waited was read, and then a text, past every pause; or the tokenizer failed, or the text could not be kept.
+  abbrev pub TakesText : Option ParseFault → Option ParseFault → Tokenizer K → Tokenizer K → Queue → Queue → List ℕ → Result (Unit {0}) ParseFault → Type 0
+  TakesText None left old new from to text (Ok x) = ReadsOn old new (from.characters ++ text) × (to.characters ≡ []) × (left ≡ None)
+  TakesText None left old new from to text (Err fault) = (left ≡ Some Failed) × FailsBehind old fault
+  TakesText (Some fault) left old new from to text result = (result ≡ Err fault) × (new ≡ old) × (to ≡ from)
