@@ -1,0 +1,63 @@
+//! Building the tree of a page that is read in pieces.
+ghost use Rattle.std.specs.Prelude.{IfOk};
+ghost use Rattle.html_tokenizer.specs.Calls.{IsReadyIf, refusal};
+
+use bench_pages::{PIECE, split_piece};
+use html_forest::Forest;
+use html_tokenizer::{BufferQueue, References, TokenSink, Tokenizer, TokenizerOpts};
+use html_tree_builder::{TreeBuilder, TreeBuilderOpts};
+use markup::{ParseFault, TokenizerResult};
+use std::alloc::Global;
+
+/// A tokenizer at the front of its input, with the five names of references that a written text needs.
+fn tokenizer_over<S: TokenSink + Drop>(alloc: Global, sink: S) -> Result<Tokenizer<S>, ParseFault>
+    requires { S.is_sound (S.view sink) }
+    ensures { IfOk result (λ k. IsReadyIf S.TokenSink (refusal k.stream) k) }
+{
+    let Ok(table) = References::five(alloc) else {
+        return Err(ParseFault::Memory);
+    };
+    Ok(Tokenizer::new(alloc, sink, TokenizerOpts::default(), table))
+}
+
+/// Feeds one piece more, on over the scripts in it.
+fn feed_piece<S: TokenSink>(
+    tokenizer: &mut Tokenizer<S>,
+    input: &mut BufferQueue,
+    piece: String,
+) -> Result<(), ParseFault>
+    requires { IsReadyIf S.TokenSink (refusal tokenizer.old.stream) tokenizer.old }
+    ensures { IsReadyIf S.TokenSink (refusal tokenizer.new.stream) tokenizer.new }
+{
+    input.push_back(piece)?;
+    'pauses: for _pause in 0..PIECE {
+        if matches!(tokenizer.feed(input)?, TokenizerResult::Done) {
+            return Ok(());
+        }
+    }
+    Ok(())
+}
+
+/// Reads a page in pieces to its end, and hands out the sink.
+fn read_over<S: TokenSink + Drop>(alloc: Global, sink: S, page: &str) -> Result<S, ParseFault>
+    requires { S.is_sound (S.view sink) }
+{
+    let mut tokenizer = tokenizer_over(alloc, sink)?;
+    let mut input = BufferQueue::new();
+    let mut rest = page;
+    while !rest.is_empty() {
+        let (piece, behind) = split_piece(rest);
+        feed_piece(&mut tokenizer, &mut input, String::from_str(alloc, piece)?)?;
+        rest = behind;
+    }
+    tokenizer.end()?;
+    Ok(tokenizer.sink)
+}
+
+/// The tree of a page.
+pub(crate) fn build(alloc: Global, page: &str) -> Result<Forest, ParseFault> {
+    let forest = Forest::new(alloc)?;
+    let builder = TreeBuilder::new(alloc, forest, TreeBuilderOpts::default());
+    let builder = read_over(alloc, builder, page)?;
+    Ok(builder.sink)
+}
