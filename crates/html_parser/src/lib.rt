@@ -1,5 +1,12 @@
 //! The parser: text in any pieces, and the document that it makes (HTML Standard, section 13.2).
 #![tactic(auto)]
 
+pub mod documents;
 mod feeding;
 pub mod laws;
+pub mod options;
+pub mod parser;
+
+pub use documents::parse_document;
+pub use options::ParseOpts;
+pub use parser::Parser;
