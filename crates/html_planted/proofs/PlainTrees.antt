@@ -53,7 +53,7 @@ no-template (Formatted Emphasis) = refl
 no-template (Formatted Code) = refl
 no-template Link = refl
 
-and-false : (b c : Bool) → c ≡ false → (b && c) ≡ false
+pub and-false : (b c : Bool) → c ≡ false → (b && c) ≡ false
 and-false true c h = h
 and-false false c h = refl
 

@@ -1,0 +1,14 @@
+pub mod Runs
+pub mod Taking
+pub mod Turns
+pub mod Stacks
+pub mod Words
+pub mod Entries
+pub mod Goods
+pub mod Texts
+pub mod Flow
+pub mod Tables
+pub mod Trees
+pub mod Frame
+pub mod Returns
+pub mod Document

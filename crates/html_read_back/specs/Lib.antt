@@ -1,0 +1,5 @@
+pub mod Runs
+pub mod States
+pub mod Places
+pub mod Laws
+pub mod ReadBack
