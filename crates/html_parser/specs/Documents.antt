@@ -1,7 +1,7 @@
 -- The document of a text, as a parser reads it.
 use Rattle.std.specs.Prelude.{◌≡◌, ℕ, Bool, false, List, [], ◌++◌, Option, Some, None, Result, Ok, Err}
 use Rattle.html_queue.specs.Queue.{Queue}
-use Rattle.markup.specs.Forest.{Forest, create_element, node_count}
+use Rattle.markup.specs.Forest.{Forest, add_error, create_element, node_count}
 use Rattle.markup.specs.declared.attributes.Attribute.{Attribute}
 use Rattle.markup.specs.declared.names.QualName.{QualName}
 use Rattle.markup.specs.TreeLaws.{with_errors}
@@ -21,7 +21,7 @@ use Rattle.html_tokenizer.specs.Calls.{IsReadyIf, refusal_of}
 use Rattle.html_tokenizer.specs.declared.tokenizer.Tokenizer.{Tokenizer}
 use Rattle.html_tree_builder.specs.States.{built}
 use Rattle.html_tree_builder.specs.declared.builder.TreeBuilder.{TreeBuilder}
-use Rattle.html_parser.specs.Read.{Beginning, FailsBehind, HasRead, IsTaken, beginning, read_whole, stopped_by}
+use Rattle.html_parser.specs.Read.{Beginning, FailsBehind, HasRead, IsTaken, KeepsRead, beginning, read_whole, stopped_by}
 
 -- a tree builder, as what takes tokens
 abbrev pub builder : {K H O : Type 0} → TreeGhosts K H O → Ghosts (TreeBuilder K H O) H
@@ -78,3 +78,10 @@ pub record Begins {K H O : Type 0} (Sink : TreeGhosts K H O) (begin : Beginning 
 abbrev pub of_new_context : List Row → TokenizerOpts → Setting → QualName → List Attribute → Bool → Forest → Beginning State
 of_new_context table opts setting name attributes scripting f =
     of_fragment table opts setting (record { number = node_count f; namespace = namespace_of name.ns; name = name.local }) None scripting (create_element f name attributes (flags_of (namespace_of name.ns) name.local attributes false))
+
+-- An error was told: it is counted, and all else stands. What was read still was, and what could be called still can.
+pub record TellsError {K H O : Type 0} (Sink : TreeGhosts K H O) (old new : Tokenizer (TreeBuilder K H O)) : Type 0 where
+  pub counts : Sink.forest new.sink.sink ≡ add_error (Sink.forest old.sink.sink)
+  pub same : new ≡ record old { sink = record old.sink { sink = new.sink.sink } }
+  pub read : KeepsRead (builder Sink) old new
+  pub ready : (refused : Option ParseFault) → IsReadyIf (builder Sink) refused old → IsReadyIf (builder Sink) refused new

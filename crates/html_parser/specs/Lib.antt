@@ -1,3 +1,4 @@
 pub mod Read
 pub mod Cuts
 pub mod Documents
+pub mod Laws

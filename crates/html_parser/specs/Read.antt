@@ -44,6 +44,10 @@ module _ {K H : Type 0} (Sink : Ghosts K H) where
   abbrev pub ReadsOn : Tokenizer K → Tokenizer K → List ℕ → Type 0
   ReadsOn old new text = (begin : Beginning Sink.State) (before : List ℕ) → HasRead begin before old → HasRead begin (before ++ text) new
 
+  -- whatever was read still was
+  abbrev pub KeepsRead : Tokenizer K → Tokenizer K → Type 0
+  KeepsRead old new = (begin : Beginning Sink.State) (before : List ℕ) → HasRead begin before old → HasRead begin before new
+
   -- no token of a text is refused
   abbrev pub IsTaken : Beginning Sink.State → Type 0
   IsTaken begin = (text : List ℕ) → IsOk (read_whole begin text)

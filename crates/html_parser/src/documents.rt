@@ -18,7 +18,7 @@ use markup::{ParseFault, TreeSink};
 use std::alloc::Global;
 
 /// A parser over a builder that has taken nothing yet.
-fn over<Sink: TreeSink>(
+pub(crate) fn over<Sink: TreeSink>(
     alloc: Global,
     builder: TreeBuilder<Sink>,
     opts: TokenizerOpts,

@@ -3,13 +3,14 @@ ghost use Rattle.std.specs.Prelude.{◌≡◌, ◌++◌, IfSome};
 ghost use Rattle.std.specs.Str.{chars};
 ghost use Rattle.std.specs.String.{string_bytes};
 ghost use Rattle.html_tokenizer.specs.Calls.{IsReadyIf, refusal_of};
-ghost use Rattle.html_parser.specs.Documents.{Finishes, builder};
+ghost use Rattle.html_parser.specs.Documents.{Finishes, TellsError, builder};
 ghost use Rattle.html_parser.specs.Read.{TakesText, stopped_by};
 
 use crate::feeding::{end_all, take_text};
 use html_tokenizer::{BufferQueue, Tokenizer};
 use html_tree_builder::TreeBuilder;
 use markup::{ParseFault, TreeSink};
+use std::borrow::CowStr;
 
 /// A parser: it takes text in any pieces, and builds what the whole text makes.
 ///
@@ -41,6 +42,14 @@ impl<Sink: TreeSink> Parser<Sink> {
             &mut self.has_failed,
             text,
         )
+    }
+
+    /// Tells the sink a parse error of the caller's own, in words that may change.
+    pub fn error(&mut self, message: CowStr<'static>)
+        ensures same { self.new ≡ record self.old { tokenizer = self.new.tokenizer } }
+        ensures tells { TellsError Sink.TreeSink self.old.tokenizer self.new.tokenizer }
+    {
+        self.tokenizer.sink.sink.parse_error(message);
     }
 
     /// Takes what waits, ends the text, and gives what was built.

@@ -38,7 +38,7 @@ own-namespace uri = by (bytes_eq uri html_namespace) (bytes_eq uri mathml_namesp
   by false false true e = tt
   by false false false e = e
 
-named-own : (n : ℕ) (o : Option QualName) → IsOwn (named_open n o).namespace
+pub named-own : (n : ℕ) (o : Option QualName) → IsOwn (named_open n o).namespace
 unfolding html_namespace
 named-own n None = refl
 named-own n (Some name) = own-namespace name.ns

@@ -1,0 +1,87 @@
+-- No text is refused by a parser.
+use Rattle.std.proofs.Common.{◌≡◌, ◌∙◌, ℕ, Bool, true, false, List, [], ◌++◌, Option, Some, None, Result, Ok, Err, refl, sym, ap, subst}
+use Rattle.std.specs.Prelude.{IfErr, IfSome, IsErr, IsOk}
+use Rattle.html_queue.specs.Queue.{Queue}
+use Rattle.markup.specs.declared.fault.ParseFault.{ParseFault}
+use Rattle.markup.specs.declared.fault.ParseFault.TheVariants.{Memory, TokenInText, Ended, Shape, Failed}
+use Rattle.markup.specs.declared.tree_sink.TreeSink.{Ghosts as TreeGhosts}
+use Rattle.html_rules.specs.State.{State}
+use Rattle.html_tokens.specs.Sink.{IsRefusal}
+use Rattle.html_tokenizer.specs.Calls.{refusal_of, refused_by}
+use Rattle.html_tokenizer.specs.declared.tokenizer.Tokenizer.{Tokenizer}
+use Rattle.html_tree_builder.specs.declared.builder.TreeBuilder.{TreeBuilder}
+use Rattle.html_parser.specs.Documents.{Begins, Finishes, TellsError, builder}
+use Rattle.html_parser.specs.Laws.{HasReadTaken, IsNoRefusal, IsNoTextRefused, TakesEach}
+use Rattle.html_parser.specs.Read.{Beginning, FailsBehind, TakesText, stopped_by}
+
+not-both : {A F : Type 0} (r : Result A F) → IsErr r → IsOk r → ⊥
+not-both (Ok x) h k = absurd cc
+not-both (Err e) h k = absurd cc
+
+-- what is no refusal of a token is none of a text
+other-fault : (fault : ParseFault) → (IsRefusal fault → ⊥) → IsNoRefusal fault
+other-fault Memory h = tt
+other-fault TokenInText h = h tt
+other-fault Ended h = tt
+other-fault Shape h = h tt
+other-fault Failed h = tt
+
+some-same : {a b : ParseFault} → Some a ≡ Some b → a ≡ b
+some-same e = cc
+
+-- what stands against a call is no refusal of a text
+stop-is : (failed a b : Bool) (fault : ParseFault) → stopped_by failed (refused_by a b) ≡ Some fault → IsNoRefusal fault
+stop-is true a b fault e = subst IsNoRefusal (some-same e) tt
+stop-is false true b fault e = subst IsNoRefusal (some-same e) tt
+stop-is false false true fault e = subst IsNoRefusal (some-same e) tt
+stop-is false false false fault e = absurd cc
+
+-- of what answers a fault
+fault-is : {A : Type 0} (result : Result A ParseFault) (fault : ParseFault) → result ≡ Err fault → IsNoRefusal fault → IfErr result IsNoRefusal
+fault-is result fault e h = subst (λ r. IfErr r IsNoRefusal) (sym e) h
+
+module _ {K H O : Type 0} (Sink : TreeGhosts K H O) where
+  never : (k : Tokenizer (TreeBuilder K H O)) (fault : ParseFault) → HasReadTaken Sink k → FailsBehind (builder Sink) k fault → IsNoRefusal fault
+  never k fault h fails = other-fault fault (λ r. let refused = fails r h.begin h.before h.read in not-both _ refused.is (h.taken (h.before ++ refused.behind)))
+
+  begins : (begin : Beginning State) (has_failed : Bool) (k : Tokenizer (TreeBuilder K H O)) (input : Queue) → Begins Sink begin has_failed k input → TakesEach Sink (stopped_by has_failed (refusal_of k)) k
+  begins begin has_failed k input b = rw b.starts.begun (record { begin = begin; before = []; read = b.starts.read; taken = b.taken })
+
+  finishes : (stopped : Option ParseFault) (k : Tokenizer (TreeBuilder K H O)) (text : List ℕ) (result : Result O ParseFault) → ((fault : ParseFault) → stopped ≡ Some fault → IsNoRefusal fault)
+      → TakesEach Sink stopped k → Finishes Sink stopped k text result → IfErr result IsNoRefusal
+  finishes None k text (Ok output) stop h f = tt
+  finishes None k text (Err fault) stop h f = never k fault h f
+  finishes (Some fault) k text result stop h f = fault-is result fault f (stop fault refl)
+
+  takes : (stopped left : Option ParseFault) (old new : Tokenizer (TreeBuilder K H O)) (from to : Queue) (text : List ℕ) (result : Result (Unit {0}) ParseFault) → ((fault : ParseFault) → stopped ≡ Some fault → IsNoRefusal fault)
+      → TakesEach Sink stopped old → TakesText (builder Sink) stopped left old new from to text result → IfErr result IsNoRefusal
+  takes None left old new from to text (Ok x) stop h t = tt
+  takes None left old new from to text (Err fault) stop h t = never old fault h t.1
+  takes (Some fault) left old new from to text result stop h t = fault-is result fault t.0 (stop fault refl)
+
+  keeps : (stopped left : Option ParseFault) (old new : Tokenizer (TreeBuilder K H O)) (from to : Queue) (text : List ℕ) (result : Result (Unit {0}) ParseFault)
+      → TakesEach Sink stopped old → TakesText (builder Sink) stopped left old new from to text result → ((fault : ParseFault) → stopped ≡ Some fault → new ≡ old → left ≡ Some fault) → TakesEach Sink left new
+  keeps None left old new from to text (Ok x) h t same = rw t.2 (record { begin = h.begin; before = h.before ++ (from.characters ++ text); read = t.0 h.begin h.before h.read; taken = h.taken })
+  keeps None left old new from to text (Err fault) h t same = rw t.0 tt
+  keeps (Some fault) left old new from to text result h t same = rw (same fault refl t.1) tt
+
+  -- where a call is stopped, so is the next
+  still : (failed fails : Bool) (old new : Tokenizer (TreeBuilder K H O)) → IfSome (stopped_by failed (refusal_of old)) (λ _. fails ≡ failed) → (fault : ParseFault) → stopped_by failed (refusal_of old) ≡ Some fault → new ≡ old → stopped_by fails (refusal_of new) ≡ Some fault
+  still failed fails old new h fault e same =
+      let k : fails ≡ failed = subst (λ o. IfSome o (λ _. fails ≡ failed)) e h in
+      ap (λ b. stopped_by b (refusal_of new)) k ∙ (ap (λ (x : Tokenizer (TreeBuilder K H O)). stopped_by failed (refusal_of x)) same ∙ e)
+
+  errs : (stopped : Option ParseFault) (old new : Tokenizer (TreeBuilder K H O)) → TakesEach Sink stopped old → TellsError Sink old new → TakesEach Sink stopped new
+  errs None old new h t = record { begin = h.begin; before = h.before; read = t.read h.begin h.before h.read; taken = h.taken }
+  errs (Some fault) old new h t = tt
+
+  pub no-refusal : IsNoTextRefused Sink
+  no-refusal = record {
+    begins = begins;
+    process = λ failed fails old new from to text result h t same. (
+      keeps _ _ old new from to text result h t (still failed fails old new same),
+      takes _ _ old new from to text result (stop-is failed old.stream.has_failed old.stream.has_ended) h t,
+    );
+    error = λ failed old new h t. subst (λ (x : Tokenizer (TreeBuilder K H O)). TakesEach Sink (stopped_by failed (refusal_of x)) new) (sym t.same) (errs _ old new h t);
+    finish = λ failed k text result h f. finishes _ k text result (stop-is failed k.stream.has_failed k.stream.has_ended) h f;
+  }
