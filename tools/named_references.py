@@ -1,7 +1,7 @@
 """Writes the named character references of the HTML Standard (section 13.5) as a table.
 
 A line for each name: the name without its ampersand, a space, and the one or two values in
-hexadecimal, in the order of the names. The same file lies where the program that checks it runs.
+hexadecimal, in the order of the names. It lies where the program that checks it runs.
 
     python3 tools/named_references.py
 """
@@ -10,7 +10,7 @@ from html.entities import html5
 from pathlib import Path
 
 ROOT = Path(__file__).resolve().parent.parent
-FILES = ["data/named_references.table", "crates/table_check/data/named_references.table"]
+FILE = "crates/table_check/data/named_references.table"
 
 
 def row(name: str) -> str:
@@ -19,5 +19,4 @@ def row(name: str) -> str:
 
 
 table = "".join(row(name) for name in sorted(html5))
-for file in FILES:
-    (ROOT / file).write_text(table, encoding="ascii")
+(ROOT / FILE).write_text(table, encoding="ascii")
