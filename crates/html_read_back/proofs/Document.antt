@@ -43,6 +43,7 @@ use Rattle.html_tokens.specs.declared.replies.TokenSinkResult.TheVariants.{Conti
 use Rattle.html_tokens.specs.declared.tags.TagKind.TheVariants.{EndTag}
 use Rattle.html_tokens.specs.declared.token.Token.TheVariants.{EOFToken}
 use Rattle.html_tokens.proofs.CleanItems.{reading-clean}
+use Rattle.html_read_back.specs.Forms.{doctype_node}
 use Rattle.html_read_back.specs.Places.{IsGood}
 use Rattle.html_read_back.specs.ReadBack.{IsReadAs, IsReadAgain, document_trees}
 use Rattle.html_read_back.specs.Runs as runs
@@ -53,7 +54,7 @@ use Rattle.html_read_back.proofs.Goods.{good-around, good-element, good-planted,
 use Rattle.html_read_back.proofs.Returns.{own-normal, trees-none}
 use Rattle.html_read_back.proofs.Runs.{reader-reads, reads-both, reads-one}
 use Rattle.html_read_back.proofs.Taking.{end-takes, tag-once, takes-from}
-use Rattle.html_read_back.proofs.Turns.Frame.{doctype-taken, doctype_node, end-html, end-of_file, start-head, start-html}
+use Rattle.html_read_back.proofs.Turns.Frame.{doctype-taken, end-html, end-of_file, start-head, start-html}
 
 good-empty : IsGood empty_forest 0
 good-empty = record { tree = record { forest = IsForest-empty; contents = HasContents-empty }; parent = IsParent-document empty_forest IsForest-empty; silent = refl }
@@ -101,19 +102,19 @@ module _ (rows : List Row) (reads : ReadsEscapes rows) (sc : Bool) (o : Around) 
     frameset_ok : Bool
     runs : Reads rows (in_data None) (at o None mode.Initial f [] [] true) text (in_data left) (at o (Some head) mode.AfterAfterBody g (opened body Body ∷ opened root Html ∷ []) [] frameset_ok)
 
-  doctype-takes : (f : Forest) → f.errors ≡ 0 → f.quirks ≡ NoQuirks → TakesQuietly rows (at o None mode.Initial f [] [] true) (doctype_token (codes "html")) (at o None mode.BeforeHtml (put_new f (Last 0) doctype_node) [] [] true) Continue
+  pub doctype-takes : (f : Forest) → f.errors ≡ 0 → f.quirks ≡ NoQuirks → TakesQuietly rows (at o None mode.Initial f [] [] true) (doctype_token (codes "html")) (at o None mode.BeforeHtml (put_new f (Last 0) doctype_node) [] [] true) Continue
   unfolding is_fit taken
   doctype-takes f silent quirks = takes-from rows _ _ (doctype_token (codes "html")) Continue (record { goes_on = refl; fit = refl; free = refl; keeps_lf = refl; silent = silent }) refl (doctype-taken o f quirks) refl silent (λ pauses. refl)
 
-  html-takes : (f : Forest) (attrs : List Attribute) → f.errors ≡ 0 → TakesQuietly rows (at o None mode.BeforeHtml f [] [] true) (start_token (spelled Html) attrs) (at o None mode.BeforeHead (put_new f (Last 0) (element_node Html attrs)) (opened (node_count f) Html ∷ []) [] true) Continue
+  pub html-takes : (f : Forest) (attrs : List Attribute) → f.errors ≡ 0 → TakesQuietly rows (at o None mode.BeforeHtml f [] [] true) (start_token (spelled Html) attrs) (at o None mode.BeforeHead (put_new f (Last 0) (element_node Html attrs)) (opened (node_count f) Html ∷ []) [] true) Continue
   unfolding is_fit
   html-takes f attrs silent = tag-once rows _ _ (tag_of Html attrs) false (record { goes_on = refl; fit = refl; free = refl; keeps_lf = refl; silent = silent }) refl (start-html o f attrs) silent
 
-  head-takes : (f : Forest) (n : ℕ) (attrs : List Attribute) → f.errors ≡ 0 → TakesQuietly rows (at o None mode.BeforeHead f (opened n Html ∷ []) [] true) (start_token (spelled Head) attrs) (at o (Some (node_count f)) mode.InHead (put_new f (Last n) (element_node Head attrs)) (opened (node_count f) Head ∷ opened n Html ∷ []) [] true) Continue
+  pub head-takes : (f : Forest) (n : ℕ) (attrs : List Attribute) → f.errors ≡ 0 → TakesQuietly rows (at o None mode.BeforeHead f (opened n Html ∷ []) [] true) (start_token (spelled Head) attrs) (at o (Some (node_count f)) mode.InHead (put_new f (Last n) (element_node Head attrs)) (opened (node_count f) Head ∷ opened n Html ∷ []) [] true) Continue
   unfolding is_fit names_of
   head-takes f n attrs silent = tag-once rows _ _ (tag_of Head attrs) false (record { goes_on = refl; fit = refl; free = refl; keeps_lf = refl; silent = silent }) refl (start-head o f n attrs) silent
 
-  html-ends : (hd n b : ℕ) (f : Forest) (ok : Bool) → f.errors ≡ 0 → TakesQuietly rows (at o (Some hd) mode.AfterBody f (opened b Body ∷ opened n Html ∷ []) [] ok) (end_token (spelled Html)) (at o (Some hd) mode.AfterAfterBody f (opened b Body ∷ opened n Html ∷ []) [] ok) Continue
+  pub html-ends : (hd n b : ℕ) (f : Forest) (ok : Bool) → f.errors ≡ 0 → TakesQuietly rows (at o (Some hd) mode.AfterBody f (opened b Body ∷ opened n Html ∷ []) [] ok) (end_token (spelled Html)) (at o (Some hd) mode.AfterAfterBody f (opened b Body ∷ opened n Html ∷ []) [] ok) Continue
   unfolding is_fit names_of
   html-ends hd n b f ok silent = tag-once rows _ _ (named EndTag (spelled Html)) false (record { goes_on = refl; fit = refl; free = refl; keeps_lf = refl; silent = silent }) refl (end-html o (Some hd) f n b [] ok) silent
 

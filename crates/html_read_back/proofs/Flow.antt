@@ -33,7 +33,8 @@ use Rattle.html_tokens.specs.Laws.{ReadsEscapes, has_no_null, in_data}
 use Rattle.html_tokens.specs.Table.{Row as TableRow}
 use Rattle.html_tokens.specs.declared.replies.TokenSinkResult.TheVariants.{Continue}
 use Rattle.html_tokens.specs.declared.token.Token.TheVariants.{CharacterTokens}
-use Rattle.html_read_back.specs.Laws.{ReadsInFlow, element_text}
+use Rattle.html_read_back.specs.Forms.{AreReadInFlow, IsReadInFlow}
+use Rattle.html_read_back.specs.Laws.{ReadsInFlow}
 use Rattle.html_read_back.specs.Places.{AreBelow, AreOpen, Drops, Fits, HasNoLink, IsBare, IsGood, IsHome, ListsThere, TakesBlocks, TakesThere}
 use Rattle.html_read_back.specs.Runs.{Reads, TakesQuietly}
 use Rattle.html_read_back.specs.States.{Around, Home, at, element_node, mode_in, opened, tag_of}
@@ -112,16 +113,11 @@ takes-list Unordered b n stack takes = (record { back = takes.back; no_paragraph
 takes-list Ordered b n stack takes = (record { back = takes.back; no_paragraph = takes.no_paragraph }, refl)
 
 module _ (rows : List TableRow) (reads : ReadsEscapes rows) (sc : Bool) (o : Around) (head : Option ℕ) where
-  -- the law of trees in a place of flow, and of an element there
-  abbrev pub FlowLaw : Place → Trees → Type 0
-  FlowLaw place trees =
-      (b : Home) (n : ℕ) (top : PlainElement) (os : List Open) (last : Option (List ℕ)) (f : Forest) (es : List Entry) (ok : Bool) → IsGood f n → Fits place b f (opened n top ∷ os) es
-      → ReadsInFlow rows o head b n top os last f es ok (text_of sc trees) (planted trees n f)
+  abbrev FlowLaw : Place → Trees → Type 0
+  FlowLaw place trees = AreReadInFlow rows sc o head place trees
 
-  abbrev pub FlowElement : Place → PlainElement → List Attribute → Trees → Type 0
-  FlowElement place k attrs kids =
-      (b : Home) (n : ℕ) (top : PlainElement) (os : List Open) (last : Option (List ℕ)) (f : Forest) (es : List Entry) (ok : Bool) → IsGood f n → Fits place b f (opened n top ∷ os) es
-      → ReadsInFlow rows o head b n top os last f es ok (element_text k attrs (text_of sc kids)) (planted kids (node_count f) (put_new f (Last n) (element_node k attrs)))
+  abbrev FlowElement : Place → PlainElement → List Attribute → Trees → Type 0
+  FlowElement place k attrs kids = IsReadInFlow rows sc o head place k attrs kids
 
   -- an element, from what is read of its tags and of its children
   pub around : (k : PlainElement) (attrs : List Attribute) → are_plain_attributes attrs ≡ true → (last left : Option (List ℕ)) (s inner end new : State) (t : List ℕ)

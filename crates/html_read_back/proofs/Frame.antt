@@ -1,9 +1,6 @@
 -- A document's frame is read as it is: the doctype, `html`, `head` with white space and a title, white space, and `body`.
-use Rattle.std.proofs.Common.{◌≡◌, ◌∙◌, ℕ, Bool, true, false, List, [], ◌∷◌, ◌++◌, Option, Some, refl, sym, ap, arith, append_assoc, append-nil, subst}
+use Rattle.std.proofs.Common.{◌≡◌, ◌∙◌, ℕ, Bool, true, false, List, [], ◌∷◌, ◌++◌, Option, Some, refl, sym, ap, append_assoc, append-nil, subst}
 use Rattle.std.specs.List.{list_all}
-use Rattle.std.specs.Prelude.{nat_eq}
-use Rattle.std.proofs.lemmas.Bool.Decides.{nat_tests}
-use Rattle.std.proofs.lemmas.Bool.{and_parts}
 use Rattle.markup.specs.Escape.{end_tag, escape, start_tag}
 use Rattle.markup.specs.Forest.{Forest, node_count, put_new, put_text}
 use Rattle.markup.specs.Forest.Place.{Last}
@@ -41,21 +38,13 @@ use Rattle.html_read_back.proofs.Goods.{good-around, good-element, good-planted,
 use Rattle.html_read_back.proofs.Runs.{reads-both, reads-one}
 use Rattle.html_read_back.proofs.Tables.{space-of}
 use Rattle.html_read_back.proofs.Taking.{IsReady, character-once, tag-once, tag-replied}
-use Rattle.html_read_back.proofs.Texts.{every, text-reads}
+use Rattle.html_read_back.proofs.Texts.{every, text-reads, white-not_null}
 use Rattle.html_read_back.proofs.Trees.{law}
 use Rattle.html_read_back.proofs.Turns.Frame.{character-in_title, end-body, end-head, end-title, in_title, space-behind_head, space-in_head, start-body, start-title}
 use Rattle.html_read_back.proofs.Words.{appended}
 
-white-not_null : (cs : List ℕ) → list_all is_white cs ≡ true → has_no_null cs ≡ true
-white-not_null [] h = refl
-white-not_null (c ∷ cs) h =
-    let p = and_parts (is_white c) (list_all is_white cs) h in
-    let white : is_white c ≡ true = p.0 in
-    let one : nat_eq c 0 ≡ false = grind (arith, nat_tests) in
-    rw one (white-not_null cs p.1)
-
 -- the text in a title
-record TitleText (sc : Bool) (kids : Trees) : Type 0 where
+pub record TitleText (sc : Bool) (kids : Trees) : Type 0 where
   text : List ℕ
   shown : has_no_null text ≡ true
   is : text_of sc kids ≡ escape text
@@ -69,7 +58,7 @@ no-more (ProcessingInstruction target text rest) h = absurd h
 no-more (Doctype name public_id system_id rest) h = absurd (let no = h.0 in cc)
 no-more (Element name attributes template kids rest) h = absurd (let no = h.1.2 in cc)
 
-title-text : (sc : Bool) (kids : Trees) → IsPlain InTitle false kids → TitleText sc kids
+pub title-text : (sc : Bool) (kids : Trees) → IsPlain InTitle false kids → TitleText sc kids
 unfolding written
 title-text sc Nothing h = record { text = []; shown = refl; is = refl; grows = λ n f. refl }
 title-text sc (Text text rest) h = rw (no-more rest h.3) record { text = text; shown = (texts-read text h.1).0; is = append-nil (escape text); grows = λ n f. refl }
@@ -103,7 +92,7 @@ module _ (rows : List Row) (reads : ReadsEscapes rows) (sc : Bool) (o : Around) 
         character-once rows _ _ c false (ready-in_head f _ good.silent)
         (space-in_head o (Some hd) f n m c (space-of c white) ∙ ap (λ s. turn_of s (Finished false)) (appended o (Some hd) mode.InHead (c ∷ []) m Head f (opened n Html ∷ []) [] true)) (good-text f m (c ∷ []) good).silent
 
-    head-text : (last : Option (List ℕ)) (cs : List ℕ) → list_all is_white cs ≡ true → (f : Forest) → IsGood f m → Reads rows (in_data last) (in_head f) (escape cs) (in_data last) (in_head (put_text f (Last m) cs))
+    pub head-text : (last : Option (List ℕ)) (cs : List ℕ) → list_all is_white cs ≡ true → (f : Forest) → IsGood f m → Reads rows (in_data last) (in_head f) (escape cs) (in_data last) (in_head (put_text f (Last m) cs))
     head-text last cs white f good = text-reads rows reads InData last m (λ f ok. in_head f) (λ c ok. ok) is_white head-space cs (white-not_null cs white) white f true good
 
     behind-title : (trees : Trees) (after_text : Bool) → IsPlain BehindTitle after_text trees → (last : Option (List ℕ)) (f : Forest) → IsGood f m → Reads rows (in_data last) (in_head f) (text_of sc trees) (in_data last) (in_head (planted trees m f))
@@ -132,7 +121,7 @@ module _ (rows : List Row) (reads : ReadsEscapes rows) (sc : Bool) (o : Around) 
       unfolding is_fit names_of
       title-ends f silent = tag-once rows _ _ (named EndTag (spelled Title)) false (record { goes_on = refl; fit = refl; free = refl; keeps_lf = refl; silent = silent }) refl (end-title o (Some hd) f n m t) silent
 
-    title-reads : (attrs : List Attribute) → are_plain_attributes attrs ≡ true → (kids : Trees) → TitleText sc kids → (last : Option (List ℕ)) (f : Forest) → IsGood f m
+    pub title-reads : (attrs : List Attribute) → are_plain_attributes attrs ≡ true → (kids : Trees) → TitleText sc kids → (last : Option (List ℕ)) (f : Forest) → IsGood f m
         → let g = put_new f (Last m) (element_node Title attrs) in
         Reads rows (in_data last) (in_head f) (start_tag (spelled Title) attrs ++ (text_of sc kids ++ end_tag (spelled Title))) (in_data (Some (spelled Title))) (in_head (planted kids (node_count f) g))
     title-reads attrs plain kids content last f good =
@@ -216,7 +205,7 @@ module _ (rows : List Row) (reads : ReadsEscapes rows) (sc : Bool) (o : Around) 
         character-once rows _ _ c false (ready-behind_head f _ good.silent)
         (space-behind_head o (Some hd) f n m c (space-of c white) ∙ ap (λ s. turn_of s (Finished false)) (appended o (Some hd) mode.AfterHead (c ∷ []) n Html f [] [] true)) (good-text f n (c ∷ []) good).silent
 
-    space-reads : (last : Option (List ℕ)) (cs : List ℕ) → list_all is_white cs ≡ true → (f : Forest) → IsGood f n → Reads rows (in_data last) (behind_head f) (escape cs) (in_data last) (behind_head (put_text f (Last n) cs))
+    pub space-reads : (last : Option (List ℕ)) (cs : List ℕ) → list_all is_white cs ≡ true → (f : Forest) → IsGood f n → Reads rows (in_data last) (behind_head f) (escape cs) (in_data last) (behind_head (put_text f (Last n) cs))
     space-reads last cs white f good = text-reads rows reads InData last n (λ f ok. behind_head f) (λ c ok. ok) is_white space-takes cs (white-not_null cs white) white f true good
 
     -- THE BODY
@@ -234,10 +223,10 @@ module _ (rows : List Row) (reads : ReadsEscapes rows) (sc : Bool) (o : Around) 
       lists = tt;
     }
 
-    body-begins : (attrs : List Attribute) (f : Forest) → f.errors ≡ 0 → TakesQuietly rows (behind_head f) (start_token (spelled Body) attrs) (at o (Some hd) mode.InBody (put_new f (Last n) (element_node Body attrs)) (opened (node_count f) Body ∷ opened n Html ∷ []) [] false) Continue
+    pub body-begins : (attrs : List Attribute) (f : Forest) → f.errors ≡ 0 → TakesQuietly rows (behind_head f) (start_token (spelled Body) attrs) (at o (Some hd) mode.InBody (put_new f (Last n) (element_node Body attrs)) (opened (node_count f) Body ∷ opened n Html ∷ []) [] false) Continue
     body-begins attrs f silent = tag-once rows _ _ (tag_of Body attrs) false (ready-behind_head f _ silent) refl (start-body o (Some hd) f n m attrs) silent
 
-    body-ends : (b : ℕ) (f : Forest) (ok : Bool) → f.errors ≡ 0 → TakesQuietly rows (at o (Some hd) mode.InBody f (opened b Body ∷ opened n Html ∷ []) [] ok) (end_token (spelled Body)) (behind_body b f ok) Continue
+    pub body-ends : (b : ℕ) (f : Forest) (ok : Bool) → f.errors ≡ 0 → TakesQuietly rows (at o (Some hd) mode.InBody f (opened b Body ∷ opened n Html ∷ []) [] ok) (end_token (spelled Body)) (behind_body b f ok) Continue
     unfolding is_fit names_of
     body-ends b f ok silent = tag-once rows _ _ (named EndTag (spelled Body)) false (record { goes_on = refl; fit = refl; free = refl; keeps_lf = refl; silent = silent }) refl (end-body o (Some hd) f n b [] ok) silent
 

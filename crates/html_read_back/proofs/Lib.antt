@@ -8,7 +8,9 @@ pub mod Goods
 pub mod Texts
 pub mod Flow
 pub mod Tables
+pub mod Forms
 pub mod Trees
 pub mod Frame
 pub mod Returns
 pub mod Document
+pub mod FrameForms

@@ -17,7 +17,7 @@ use Rattle.html_slices.proofs.PlainForms.{attributes-read, names-of_tags, texts-
 use Rattle.html_slices.proofs.Returns.{end-no_return, start-no_return, text-no_return}
 use Rattle.html_tokens.specs.NormalText.{normal_text}
 use Rattle.html_tokens.proofs.NewlineLaws.{newlines-own}
-use Rattle.html_read_back.proofs.Trees.{nothing-in_break}
+use Rattle.html_read_back.proofs.Forms.{nothing-in_break}
 
 joined : (a b : List ℕ) → has_no_return a ≡ true → has_no_return b ≡ true → has_no_return (a ++ b) ≡ true
 joined [] b h k = k

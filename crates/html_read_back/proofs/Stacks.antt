@@ -9,14 +9,14 @@ use Rattle.html_plain.specs.declared.elements.Level.TheVariants.{One, Two, Three
 use Rattle.html_plain.specs.declared.elements.ListKind.TheVariants.{Unordered, Ordered}
 use Rattle.html_plain.specs.declared.elements.PlainElement.{PlainElement}
 use Rattle.html_plain.specs.declared.elements.PlainElement.TheVariants.{Html, Head, Title, Body, Paragraph, Heading, Division, List as ListElement, Item, Table, TableBody, Row, Cell, Break, Formatted, Link}
-use Rattle.html_rules.specs.Shape.{has_root, is_fit}
+use Rattle.html_rules.specs.Shape.{is_fit}
 use Rattle.html_rules.specs.Sets.{names_of}
-use Rattle.html_rules.specs.Stack.{is_open, open_templates}
+use Rattle.html_rules.specs.Stack.{is_open}
 use Rattle.html_rules.specs.State.{Entry, Open, is_in}
 use Rattle.html_rules.specs.Step.{is_barred}
 use Rattle.html_rules.specs.declared.tag_set.TagSet.TheVariants as set
 use Rattle.html_tokens.specs.declared.token.Token.{Token}
-use Rattle.html_read_back.specs.Places.{IsHome}
+use Rattle.html_read_back.specs.Places.{IsHome, IsRooted}
 use Rattle.html_read_back.specs.States.{Around, Home, OfBody, OfCell, Part, OfTable, OfBodies, OfRow, at, mode_in, mode_of_part, opened, waiting_at}
 use Rattle.html_read_back.proofs.Taking.{IsReady}
 
@@ -120,11 +120,6 @@ home-free OfCell t = refl
 
 pub home-ready : (o : Around) (head : Option ℕ) (b : Home) (f : Forest) (stack : List Open) (es : List Entry) (ok : Bool) (t : Token) → IsHome b stack → f.errors ≡ 0 → IsReady (at o head (mode_in b) f stack es ok) t
 home-ready o head b f stack es ok t home silent = record { goes_on = refl; fit = home-fit o head b f stack es ok home; free = home-free b t; keeps_lf = refl; silent = silent }
-
--- the root is `html`, and no template is open
-pub record IsRooted (stack : List Open) : Type 0 where
-  pub root : has_root stack ≡ true
-  pub templates : open_templates stack ≡ 0
 
 part-fit : (o : Around) (head : Option ℕ) (part : Part) (f : Forest) (stack : List Open) (es : List Entry) (ok : Bool) → IsRooted stack → is_fit (at o head (mode_of_part part) f stack es ok) ≡ true
 unfolding is_fit

@@ -39,15 +39,16 @@ use Rattle.html_tokens.specs.declared.replies.TokenSinkResult.TheVariants.{Conti
 use Rattle.html_tokens.specs.declared.tags.Tag.{Tag}
 use Rattle.html_tokens.specs.declared.tags.TagKind.TheVariants.{EndTag}
 use Rattle.html_tokens.specs.declared.token.Token.TheVariants.{CharacterTokens, TagToken}
+use Rattle.html_read_back.specs.Forms.{AreReadInFlow, AreReadInPart}
 use Rattle.html_read_back.specs.Laws.{ReadsElementInPart, ReadsInFlow, ReadsInPart, held}
-use Rattle.html_read_back.specs.Places.{AreBelow, Fits, IsGood, IsHome, TakesThere}
+use Rattle.html_read_back.specs.Places.{AreBelow, Fits, IsGood, IsHome, IsRooted, TakesThere}
 use Rattle.html_read_back.specs.Runs.{NoText, Reads, TakesQuietly}
 use Rattle.html_read_back.specs.States.{Around, Home, OfCell, Part, OfTable, OfBodies, OfRow, at, element_node, mode_in, mode_of_part, opened, part_element, tag_of, waiting_at}
 use Rattle.html_read_back.proofs.Entries.{below-more, drops-none}
-use Rattle.html_read_back.proofs.Flow.{FlowLaw, around}
+use Rattle.html_read_back.proofs.Flow.{around}
 use Rattle.html_read_back.proofs.Goods.{element-more, good-around, good-element, good-planted, good-text, text-more}
 use Rattle.html_read_back.proofs.Runs.{reads-both, reads-one}
-use Rattle.html_read_back.proofs.Stacks.{IsRooted, home-ready, no-template_open, part-ready, waiting-ready}
+use Rattle.html_read_back.proofs.Stacks.{home-ready, no-template_open, part-ready, waiting-ready}
 use Rattle.html_read_back.proofs.Taking.{character-once, character-twice, tag-once, tag-twice}
 use Rattle.html_read_back.proofs.Turns.Flow.{start-table}
 use Rattle.html_read_back.proofs.Turns.Tables.{end-cell, end-row, end-table, end-table_body, first-character, next-character, start-cell, start-row, start-table_body, tag-behind_text}
@@ -80,10 +81,8 @@ unfolding back_to_original tell_pending_text append_text
 told o head m n k f os es ok text white = rw (white, no-template_open n k) refl
 
 module _ (rows : List TableRow) (reads : ReadsEscapes rows) (sc : Bool) (o : Around) (head : Option ℕ) where
-  abbrev pub PartLaw : Part → Trees → Type 0
-  PartLaw part trees =
-      (n : ℕ) (os : List Open) (last : Option (List ℕ)) (f : Forest) (es : List Entry) (ok : Bool) (waiting : List ℕ) → IsGood f n → IsRooted (opened n (part_element part) ∷ os) → AreBelow (node_count f) es → list_all plain.is_white waiting ≡ true
-      → ReadsInPart rows o head part n os last f es ok waiting (text_of sc trees) (planted trees n (put_text f (Last n) waiting))
+  abbrev PartLaw : Part → Trees → Type 0
+  PartLaw part trees = AreReadInPart rows sc o head part trees
 
   -- a tag is taken where text waits as where that was told
   held-takes : (part : Part) (n : ℕ) (os : List Open) (f : Forest) (es : List Entry) (ok : Bool) (waiting : List ℕ) (tag : Tag) (new : State) (b : Bool) → IsGood f n → IsRooted (opened n (part_element part) ∷ os) → list_all plain.is_white waiting ≡ true
@@ -136,7 +135,7 @@ module _ (rows : List TableRow) (reads : ReadsEscapes rows) (sc : Bool) (o : Aro
 
   -- ELEMENTS
 
-  abbrev pub PartElement : Part → PlainElement → List Attribute → Trees → Type 0
+  abbrev PartElement : Part → PlainElement → List Attribute → Trees → Type 0
   PartElement part k attrs kids =
       (n : ℕ) (os : List Open) (last : Option (List ℕ)) (f : Forest) (es : List Entry) (ok : Bool) (waiting : List ℕ) → IsGood f n → IsRooted (opened n (part_element part) ∷ os) → AreBelow (node_count f) es → list_all plain.is_white waiting ≡ true
       → let g = put_text f (Last n) waiting in
@@ -208,7 +207,7 @@ module _ (rows : List TableRow) (reads : ReadsEscapes rows) (sc : Bool) (o : Aro
   cell-takes Data n stack = (record { back = λ s. refl; no_paragraph = refl }, refl)
   cell-takes Header n stack = (record { back = λ s. refl; no_paragraph = refl }, refl)
 
-  pub cell-law : (kind : CellKind) (attrs : List Attribute) → are_plain_attributes attrs ≡ true → (kids : Trees) → ArePlantable false kids → FlowLaw rows reads sc o head InFlow kids → PartElement OfRow (Cell kind) attrs kids
+  pub cell-law : (kind : CellKind) (attrs : List Attribute) → are_plain_attributes attrs ≡ true → (kids : Trees) → ArePlantable false kids → AreReadInFlow rows sc o head InFlow kids → PartElement OfRow (Cell kind) attrs kids
   unfolding set_mode push_marker
   cell-law kind attrs plain kids can law n os last f es ok waiting good rooted below white =
       let k = Cell kind in

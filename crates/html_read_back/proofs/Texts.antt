@@ -1,11 +1,13 @@
 -- Escaped text is read character by character.
-use Rattle.std.proofs.Common.{◌≡◌, ℕ, Bool, true, List, [], ◌∷◌, Option, refl}
+use Rattle.std.proofs.Common.{◌≡◌, ℕ, Bool, true, false, List, [], ◌∷◌, Option, arith, nat_eq, refl}
+use Rattle.std.proofs.lemmas.Bool.Decides.{nat_tests}
 use Rattle.std.specs.List.{list_all}
 use Rattle.std.proofs.lemmas.Bool.{and_parts}
 use Rattle.markup.specs.Escape.{escape, escaped}
 use Rattle.markup.specs.Forest.{Forest, put_text}
 use Rattle.markup.specs.Forest.Place.{Last}
 use Rattle.markup.proofs.TextPieces.{put_text-append}
+use Rattle.html_plain.specs.Grammar.{is_white}
 use Rattle.html_rules.specs.State.{State}
 use Rattle.html_slices.specs.Forms.{TextPlace, in_text}
 use Rattle.html_slices.proofs.SpelledForms.{character-spelled}
@@ -22,6 +24,15 @@ use Rattle.html_read_back.proofs.Runs.{reads-both, reads-one}
 abbrev pub flag_after : (ℕ → Bool → Bool) → List ℕ → Bool → Bool
 flag_after next [] ok = ok
 flag_after next (c ∷ cs) ok = flag_after next cs (next c ok)
+
+-- white space is no U+0000
+pub white-not_null : (cs : List ℕ) → list_all is_white cs ≡ true → has_no_null cs ≡ true
+white-not_null [] h = refl
+white-not_null (c ∷ cs) h =
+    let p = and_parts (is_white c) (list_all is_white cs) h in
+    let white : is_white c ≡ true = p.0 in
+    let one : nat_eq c 0 ≡ false = grind (arith, nat_tests) in
+    rw one (white-not_null cs p.1)
 
 -- every text passes the test that nothing fails
 pub every : (t : List ℕ) → list_all (λ c. true) t ≡ true

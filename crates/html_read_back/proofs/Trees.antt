@@ -6,56 +6,42 @@ use Rattle.markup.specs.Forest.{Forest, node_count, put_new, put_text}
 use Rattle.markup.specs.Forest.Place.{Last}
 use Rattle.markup.specs.Trees.{Trees, Nothing, Text, Comment, ProcessingInstruction, Doctype, Element, written}
 use Rattle.markup.specs.declared.attributes.Attribute.{Attribute}
-use Rattle.html_plain.specs.Elements.{behind_element, behind_text, holds, html_name, inside, spelled, text_kind}
-use Rattle.html_plain.specs.Grammar.{IsPlain, are_plain_attributes, is_plain_text, is_white, takes_text}
-use Rattle.html_plain.specs.Laws.{is_void, text_of}
+use Rattle.html_plain.specs.Elements.{behind_element, behind_text, html_name, inside, spelled, text_kind}
+use Rattle.html_plain.specs.Grammar.{IsPlain, is_plain_text, is_white, takes_text}
+use Rattle.html_plain.specs.Laws.{text_of}
 use Rattle.html_plain.specs.declared.elements.PlainElement.{PlainElement}
-use Rattle.html_plain.specs.declared.elements.PlainElement.TheVariants.{Paragraph, Heading, Division, List as ListElement, Item, Table, TableBody, Row, Cell, Break, Formatted, Link}
+use Rattle.html_plain.specs.declared.elements.PlainElement.TheVariants.{Break}
 use Rattle.html_plain.specs.declared.place.Place.{Place}
-use Rattle.html_plain.specs.declared.place.Place.TheVariants.{InBreak, InFlow, InLine, InList, InRow, InTable, InTableBody}
+use Rattle.html_plain.specs.declared.place.Place.TheVariants.{InFlow, InLine, InList, InRow, InTable, InTableBody}
 use Rattle.html_plain.proofs.WrittenForms.{break-written, element-written}
-use Rattle.html_planted.specs.Planted.{ArePlantable, planted}
+use Rattle.html_planted.specs.Planted.{planted}
 use Rattle.html_planted.proofs.PlainTrees.{plain-plantable}
 use Rattle.html_rules.specs.State.{Entry, Open}
 use Rattle.html_slices.proofs.PlainForms.{texts-read}
 use Rattle.html_tokens.specs.Laws.{ReadsEscapes, in_data}
 use Rattle.html_tokens.specs.Table.{Row as TableRow}
-use Rattle.html_read_back.specs.Laws.{ReadsElementInPart, ReadsInFlow, ReadsInPart}
-use Rattle.html_read_back.specs.Places.{AreBelow, Fits, IsGood}
+use Rattle.html_read_back.specs.Forms.{AreRead, AreReadInFlow, AreReadInPart, IsRead, IsReadInFlow, IsReadInPart}
+use Rattle.html_read_back.proofs.Forms.{form, nothing-in_break}
+use Rattle.html_read_back.specs.Laws.{ReadsElementInPart, ReadsInFlow, ReadsInPart, element_text}
+use Rattle.html_read_back.specs.Places.{AreBelow, Fits, IsGood, IsRooted}
 use Rattle.html_read_back.specs.Runs as runs
 use Rattle.html_read_back.specs.Runs.{Reads}
 use Rattle.html_read_back.specs.States.{Around, Home, Part, OfTable, OfBodies, OfRow, element_node, opened, part_element}
-use Rattle.html_read_back.proofs.Entries.{below-more, drops-none, drops-then, link-left}
-use Rattle.html_read_back.proofs.Flow.{FlowLaw, bare-no_link, block-law, break-law, fits-after, format-law, heading-law, item-law, link-law, lists-formatted, takes-division, takes-list, text-flows}
+use Rattle.html_read_back.proofs.Entries.{below-more, drops-none, drops-then}
+use Rattle.html_read_back.proofs.Flow.{fits-after, text-flows}
 use Rattle.html_read_back.proofs.Goods.{element-more, good-around, good-element, good-planted, good-text, planted-more, text-more}
 use Rattle.html_read_back.proofs.Runs.{reads-both}
-use Rattle.html_read_back.proofs.Stacks.{IsRooted}
-use Rattle.html_read_back.proofs.Tables.{PartElement, PartLaw, cell-law, row-law, table-law, table_body-law, text-part}
-
-pub nothing-in_break : (b : Bool) (trees : Trees) → IsPlain InBreak b trees → trees ≡ Nothing
-nothing-in_break b Nothing h = refl
-nothing-in_break b (Text text rest) h = absurd (let no = h.2 in cc)
-nothing-in_break b (Comment text rest) h = absurd h
-nothing-in_break b (ProcessingInstruction target text rest) h = absurd h
-nothing-in_break b (Doctype name public_id system_id rest) h = absurd (let no = h.0 in cc)
-nothing-in_break b (Element name attributes template kids rest) h = absurd (let no = h.1.2 in cc)
+use Rattle.html_read_back.proofs.Tables.{text-part}
 
 module _ (rows : List TableRow) (reads : ReadsEscapes rows) (sc : Bool) (o : Around) (head : Option ℕ) where
   abbrev flow : Place → Trees → Type 0
-  flow place trees = FlowLaw rows reads sc o head place trees
+  flow place trees = AreReadInFlow rows sc o head place trees
 
   abbrev part : Part → Trees → Type 0
-  part p trees = PartLaw rows reads sc o head p trees
+  part p trees = AreReadInPart rows sc o head p trees
 
-  -- what is proved of trees, by their place
-  abbrev pub Law : Place → Trees → Type 0
-  Law InFlow trees = flow InFlow trees
-  Law (InLine in_link) trees = flow (InLine in_link) trees
-  Law InList trees = flow InList trees
-  Law InTable trees = part OfTable trees
-  Law InTableBody trees = part OfBodies trees
-  Law InRow trees = part OfRow trees
-  Law place trees = Unit {0}
+  abbrev Law : Place → Trees → Type 0
+  Law place trees = AreRead rows sc o head place trees
 
   -- ONE AFTER THE OTHER
 
@@ -159,42 +145,33 @@ module _ (rows : List TableRow) (reads : ReadsEscapes rows) (sc : Bool) (o : Aro
 
   -- ELEMENTS
 
-  element-shape : (k : PlainElement) → is_void k ≡ false → (attrs : List Attribute) (kids rest : Trees)
-      → text_of sc (Element (html_name (spelled k)) attrs false kids rest) ≡ (start_tag (spelled k) attrs ++ (text_of sc kids ++ end_tag (spelled k))) ++ text_of sc rest
-  element-shape k void attrs kids rest =
-      element-written k void sc attrs kids rest ∙ around-shape (start_tag (spelled k) attrs) (text_of sc kids) (end_tag (spelled k)) (text_of sc rest) where
-        around-shape : (a b c d : List ℕ) → a ++ (b ++ (c ++ d)) ≡ (a ++ (b ++ c)) ++ d
-        around-shape a b c d = simp append_assoc
+  around-shape : (a b c d : List ℕ) → a ++ (b ++ (c ++ d)) ≡ (a ++ (b ++ c)) ++ d
+  around-shape a b c d = simp append_assoc
 
-  -- an element of flow, and what follows it
-  abbrev InFlowThere : Place → PlainElement → List Attribute → Trees → Type 0
-  InFlowThere place k attrs kids =
-      (b : Home) (n : ℕ) (top : PlainElement) (os : List Open) (last : Option (List ℕ)) (f : Forest) (es : List Entry) (ok : Bool) → IsGood f n → Fits place b f (opened n top ∷ os) es
-      → ReadsInFlow rows o head b n top os last f es ok (start_tag (spelled k) attrs ++ (text_of sc kids ++ end_tag (spelled k))) (planted kids (node_count f) (put_new f (Last n) (element_node k attrs)))
+  element-shape : (place : Place) (k : PlainElement) (attrs : List Attribute) (kids rest : Trees) → IsPlain (inside place k) false kids
+      → text_of sc (Element (html_name (spelled k)) attrs false kids rest) ≡ element_text k attrs (text_of sc kids) ++ text_of sc rest
+  element-shape place Break attrs kids rest is =
+      ap (λ kids. text_of sc (Element (html_name (spelled Break)) attrs false kids rest)) (nothing-in_break false kids is) ∙ break-written sc attrs rest
+  element-shape place k attrs kids rest is =
+      element-written k refl sc attrs kids rest ∙ around-shape (start_tag (spelled k) attrs) (text_of sc kids) (end_tag (spelled k)) (text_of sc rest)
 
-  flow-element : (place : Place) (k : PlainElement) → is_void k ≡ false → (attrs : List Attribute) (kids rest : Trees) → ArePlantable false kids → InFlowThere place k attrs kids → flow place rest → flow place (Element (html_name (spelled k)) attrs false kids rest)
-  flow-element place k void attrs kids rest can there law b n top os last f es ok good fits =
+  -- an element, and what follows it
+  flow-first : (place : Place) (k : PlainElement) (attrs : List Attribute) (kids rest : Trees) → IsPlain (inside place k) false kids → IsReadInFlow rows sc o head place k attrs kids → flow place rest → flow place (Element (html_name (spelled k)) attrs false kids rest)
+  flow-first place k attrs kids rest is there law b n top os last f es ok good fits =
+      let can = plain-plantable (inside place k) false kids is in
       let g = put_new f (Last n) (element_node k attrs) in
       let m = node_count f in
       let inner = good-element f n k attrs good in
       let around_it = good-around f n k attrs good in
       let l₁ = element-more f n k attrs good in
       let l₂ = planted-more kids m g false can inner in
-      let t = start_tag (spelled k) attrs ++ (text_of sc kids ++ end_tag (spelled k)) in
+      let t = element_text k attrs (text_of sc kids) in
       let both = flow-both place b n top os last f (planted kids m g) es ok t rest fits (good-planted kids m n g false can inner around_it.parent) (omega arith) (there b n top os last f es ok good fits) law in
-      rw (element-shape k void attrs kids rest) both
+      rw (element-shape place k attrs kids rest is) both
 
-  flow-break : (place : Place) (attrs : List Attribute) → are_plain_attributes attrs ≡ true → (kids rest : Trees) → kids ≡ Nothing → flow place rest → flow place (Element (html_name (spelled Break)) attrs false kids rest)
-  flow-break place attrs plain kids rest none law b n top os last f es ok good fits =
-      let g = put_new f (Last n) (element_node Break attrs) in
-      let l = element-more f n Break attrs good in
-      let first = break-law rows reads sc o head place attrs plain Nothing refl b n top os last f es ok good fits in
-      let both = flow-both place b n top os last f g es ok (start_tag (spelled Break) attrs) rest fits (good-around f n Break attrs good) (omega arith) first law in
-      rw (none, break-written sc attrs rest) both
-
-  -- an element of a part, and what follows it
-  part-first : (p : Part) (k : PlainElement) → is_void k ≡ false → (attrs : List Attribute) (kids rest : Trees) → ArePlantable false kids → PartElement rows reads sc o head p k attrs kids → part p rest → part p (Element (html_name (spelled k)) attrs false kids rest)
-  part-first p k void attrs kids rest can there law n os last f es ok waiting good rooted below white =
+  part-first : (p : Part) (place : Place) (k : PlainElement) (attrs : List Attribute) (kids rest : Trees) → IsPlain (inside place k) false kids → IsReadInPart rows sc o head p k attrs kids → part p rest → part p (Element (html_name (spelled k)) attrs false kids rest)
+  part-first p place k attrs kids rest is there law n os last f es ok waiting good rooted below white =
+      let can = plain-plantable (inside place k) false kids is in
       let f' = put_text f (Last n) waiting in
       let good' = good-text f n waiting good in
       let g = put_new f' (Last n) (element_node k attrs) in
@@ -204,85 +181,19 @@ module _ (rows : List TableRow) (reads : ReadsEscapes rows) (sc : Bool) (o : Aro
       let l₀ = text-more f n waiting good in
       let l₁ = element-more f' n k attrs good' in
       let l₂ = planted-more kids m g false can inner in
-      let t = start_tag (spelled k) attrs ++ (text_of sc kids ++ end_tag (spelled k)) in
+      let t = element_text k attrs (text_of sc kids) in
       let first = part-element p n os last f (planted kids m g) es ok waiting t (good-planted kids m n g false can inner around_it.parent) (omega arith) (there n os last f es ok waiting good rooted below white) in
       let both = part-both p n os last f (planted kids m g) es ok waiting t rest rooted below first law in
-      rw (element-shape k void attrs kids rest) both
+      rw (element-shape place k attrs kids rest is) both
 
-  -- each element where it may stand
-
-  in-flow : (k : PlainElement) → holds InFlow k ≡ true → (attrs : List Attribute) → are_plain_attributes attrs ≡ true → (kids rest : Trees) → IsPlain (inside InFlow k) false kids → Law (inside InFlow k) kids → flow InFlow rest → flow InFlow (Element (html_name (spelled k)) attrs false kids rest)
-  in-flow Paragraph h attrs plain kids rest is law more =
-      let can = plain-plantable (InLine false) false kids is in
-      flow-element InFlow Paragraph refl attrs kids rest can (block-law rows reads sc o head Paragraph refl refl refl attrs plain kids can (InLine false) (λ b n stack takes. tt) bare-no_link law) more
-  in-flow (Heading level) h attrs plain kids rest is law more =
-      let can = plain-plantable (InLine false) false kids is in
-      flow-element InFlow (Heading level) refl attrs kids rest can (heading-law rows reads sc o head level attrs plain kids can law) more
-  in-flow Division h attrs plain kids rest is law more =
-      let can = plain-plantable InFlow false kids is in
-      flow-element InFlow Division refl attrs kids rest can (block-law rows reads sc o head Division refl refl refl attrs plain kids can InFlow takes-division (λ es bare. bare) law) more
-  in-flow (ListElement kind) h attrs plain kids rest is law more =
-      let can = plain-plantable InList false kids is in
-      flow-element InFlow (ListElement kind) refl attrs kids rest can (block-law rows reads sc o head (ListElement kind) refl refl refl attrs plain kids can InList (takes-list kind) (λ es bare. bare) law) more
-  in-flow Table h attrs plain kids rest is law more =
-      let can = plain-plantable InTable false kids is in
-      flow-element InFlow Table refl attrs kids rest can (table-law rows reads sc o head attrs plain kids can law) more
-  in-flow Break h attrs plain kids rest is law more = flow-break InFlow attrs plain kids rest (nothing-in_break false kids is) more
-  in-flow (Formatted format) h attrs plain kids rest is law more =
-      let can = plain-plantable (InLine false) false kids is in
-      flow-element InFlow (Formatted format) refl attrs kids rest can
-      (format-law rows reads sc o head (Formatted format) refl refl refl attrs plain kids can InFlow false law (λ m es room less bare. lists-formatted rows reads sc o head (Formatted format) refl attrs m room (link-left es room less (bare-no_link es bare)))) more
-  in-flow Link h attrs plain kids rest is law more =
-      let can = plain-plantable (InLine true) false kids is in
-      flow-element InFlow Link refl attrs kids rest can (link-law rows reads sc o head attrs plain kids can InFlow law bare-no_link) more
-  in-flow k h attrs plain kids rest is law more = absurd (cc)
-
-  in-line : (in_link : Bool) (k : PlainElement) → holds (InLine in_link) k ≡ true → (attrs : List Attribute) → are_plain_attributes attrs ≡ true → (kids rest : Trees) → IsPlain (inside (InLine in_link) k) false kids → Law (inside (InLine in_link) k) kids → flow (InLine in_link) rest → flow (InLine in_link) (Element (html_name (spelled k)) attrs false kids rest)
-  in-line in_link Break h attrs plain kids rest is law more = flow-break (InLine in_link) attrs plain kids rest (nothing-in_break false kids is) more
-  in-line true (Formatted format) h attrs plain kids rest is law more =
-      let can = plain-plantable (InLine true) false kids is in
-      flow-element (InLine true) (Formatted format) refl attrs kids rest can (format-law rows reads sc o head (Formatted format) refl refl refl attrs plain kids can (InLine true) true law (λ m es room less none. tt)) more
-  in-line false (Formatted format) h attrs plain kids rest is law more =
-      let can = plain-plantable (InLine false) false kids is in
-      flow-element (InLine false) (Formatted format) refl attrs kids rest can
-      (format-law rows reads sc o head (Formatted format) refl refl refl attrs plain kids can (InLine false) false law (λ m es room less none. lists-formatted rows reads sc o head (Formatted format) refl attrs m room (link-left es room less none))) more
-  in-line false Link h attrs plain kids rest is law more =
-      let can = plain-plantable (InLine true) false kids is in
-      flow-element (InLine false) Link refl attrs kids rest can (link-law rows reads sc o head attrs plain kids can (InLine false) law (λ es none. none)) more
-  in-line in_link k h attrs plain kids rest is law more = absurd (cc)
-
-  in-list : (k : PlainElement) → holds InList k ≡ true → (attrs : List Attribute) → are_plain_attributes attrs ≡ true → (kids rest : Trees) → IsPlain (inside InList k) false kids → Law (inside InList k) kids → flow InList rest → flow InList (Element (html_name (spelled k)) attrs false kids rest)
-  in-list Item h attrs plain kids rest is law more =
-      let can = plain-plantable InFlow false kids is in
-      flow-element InList Item refl attrs kids rest can (item-law rows reads sc o head attrs plain kids can law) more
-  in-list k h attrs plain kids rest is law more = absurd (cc)
-
-  in-table : (k : PlainElement) → holds InTable k ≡ true → (attrs : List Attribute) → are_plain_attributes attrs ≡ true → (kids rest : Trees) → IsPlain (inside InTable k) false kids → Law (inside InTable k) kids → part OfTable rest → part OfTable (Element (html_name (spelled k)) attrs false kids rest)
-  in-table TableBody h attrs plain kids rest is law more =
-      let can = plain-plantable InTableBody false kids is in
-      part-first OfTable TableBody refl attrs kids rest can (table_body-law rows reads sc o head attrs plain kids can law) more
-  in-table k h attrs plain kids rest is law more = absurd (cc)
-
-  in-table_body : (k : PlainElement) → holds InTableBody k ≡ true → (attrs : List Attribute) → are_plain_attributes attrs ≡ true → (kids rest : Trees) → IsPlain (inside InTableBody k) false kids → Law (inside InTableBody k) kids → part OfBodies rest → part OfBodies (Element (html_name (spelled k)) attrs false kids rest)
-  in-table_body Row h attrs plain kids rest is law more =
-      let can = plain-plantable InRow false kids is in
-      part-first OfBodies Row refl attrs kids rest can (row-law rows reads sc o head attrs plain kids can law) more
-  in-table_body k h attrs plain kids rest is law more = absurd (cc)
-
-  in-row : (k : PlainElement) → holds InRow k ≡ true → (attrs : List Attribute) → are_plain_attributes attrs ≡ true → (kids rest : Trees) → IsPlain (inside InRow k) false kids → Law (inside InRow k) kids → part OfRow rest → part OfRow (Element (html_name (spelled k)) attrs false kids rest)
-  in-row (Cell kind) h attrs plain kids rest is law more =
-      let can = plain-plantable InFlow false kids is in
-      part-first OfRow (Cell kind) refl attrs kids rest can (cell-law rows reads sc o head kind attrs plain kids can law) more
-  in-row k h attrs plain kids rest is law more = absurd (cc)
-
-  element-law : (place : Place) (k : PlainElement) → holds place k ≡ true → (attrs : List Attribute) → are_plain_attributes attrs ≡ true → (kids rest : Trees) → IsPlain (inside place k) false kids → Law (inside place k) kids → Law (behind_element place) rest → Law place (Element (html_name (spelled k)) attrs false kids rest)
-  element-law InFlow k h attrs plain kids rest is law more = in-flow k h attrs plain kids rest is law more
-  element-law (InLine in_link) k h attrs plain kids rest is law more = in-line in_link k h attrs plain kids rest is law more
-  element-law InList k h attrs plain kids rest is law more = in-list k h attrs plain kids rest is law more
-  element-law InTable k h attrs plain kids rest is law more = in-table k h attrs plain kids rest is law more
-  element-law InTableBody k h attrs plain kids rest is law more = in-table_body k h attrs plain kids rest is law more
-  element-law InRow k h attrs plain kids rest is law more = in-row k h attrs plain kids rest is law more
-  element-law place k h attrs plain kids rest is law more = tt
+  element-law : (place : Place) (k : PlainElement) (attrs : List Attribute) (kids rest : Trees) → IsPlain (inside place k) false kids → IsRead rows sc o head place k attrs kids → Law (behind_element place) rest → Law place (Element (html_name (spelled k)) attrs false kids rest)
+  element-law InFlow k attrs kids rest is there more = flow-first InFlow k attrs kids rest is there more
+  element-law (InLine in_link) k attrs kids rest is there more = flow-first (InLine in_link) k attrs kids rest is there more
+  element-law InList k attrs kids rest is there more = flow-first InList k attrs kids rest is there more
+  element-law InTable k attrs kids rest is there more = part-first OfTable InTable k attrs kids rest is there more
+  element-law InTableBody k attrs kids rest is there more = part-first OfBodies InTableBody k attrs kids rest is there more
+  element-law InRow k attrs kids rest is there more = part-first OfRow InRow k attrs kids rest is there more
+  element-law place k attrs kids rest is there more = tt
 
   -- THE INDUCTION
 
@@ -297,4 +208,4 @@ module _ (rows : List TableRow) (reads : ReadsEscapes rows) (sc : Bool) (o : Aro
       let w = h.1 in
       subst (λ x. Law place (Element x attributes template kids rest)) (sym w.0)
       (subst (λ x. Law place (Element (html_name (spelled k)) attributes x kids rest)) (sym w.1)
-      (element-law place k w.2 attributes w.3 kids rest w.4 (law kids (inside place k) false w.4) (law rest (behind_element place) false w.5)))
+      (element-law place k attributes kids rest w.4 (form rows reads place k w.2 sc o head attributes kids w.3 w.4 (law kids (inside place k) false w.4)) (law rest (behind_element place) false w.5)))

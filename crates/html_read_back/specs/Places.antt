@@ -62,6 +62,11 @@ pub record IsHome (b : Home) (stack : List Open) : Type 0 where
   pub templates : open_templates stack ≡ 0
   pub cell : has_cell b stack ≡ true
 
+-- the root is `html`, and no template is open
+pub record IsRooted (stack : List Open) : Type 0 where
+  pub root : has_root stack ≡ true
+  pub templates : open_templates stack ≡ 0
+
 -- a reset gives the mode, and no paragraph is open
 pub record TakesBlocks (b : Home) (stack : List Open) : Type 0 where
   pub back : (s : State) → mode_of_open s stack ≡ mode_in b

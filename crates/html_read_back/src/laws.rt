@@ -1,5 +1,36 @@
 //! Laws of reading written documents back. Each function's contract is one law.
+ghost use Rattle.html_read_back.specs.Forms.{AreBlocksRead, AreFramesRead, AreInlinesRead, ArePlainTreesRead, AreTablesRead, AreTextsRead, OfEachTable};
 ghost use Rattle.html_read_back.specs.ReadBack.{AreDocumentsReadBack, ArePlainForestsReadAgain};
+
+/// The doctype, `html`, `head` with white space and a title, white space, and `body` lead from one insertion mode to the next.
+pub fn frames_are_read()
+    ensures { AreFramesRead }
+{}
+
+/// A text in flow goes into the current node; white space in a table waits for the next tag.
+pub fn texts_are_read()
+    ensures { OfEachTable AreTextsRead }
+{}
+
+/// A `br`, a formatting element and a link are read as they are.
+pub fn inlines_are_read()
+    ensures { OfEachTable AreInlinesRead }
+{}
+
+/// So are a paragraph, a heading, a division, and a list with its items.
+pub fn blocks_are_read()
+    ensures { OfEachTable AreBlocksRead }
+{}
+
+/// So are a table, its bodies, their rows, and the cells of these.
+pub fn tables_are_read()
+    ensures { OfEachTable AreTablesRead }
+{}
+
+/// Plain trees are read in their place as they are, and the state comes back.
+pub fn plain_trees_are_read()
+    ensures { ArePlainTreesRead }
+{}
 
 /// What is written of a plain document is read as that document, without an error.
 pub fn written_documents_are_read_back()

@@ -1,7 +1,6 @@
 -- What the rules make of each tag of a document's frame, and of the text of a head and of a title.
 use Rattle.std.proofs.Common.{◌≡◌, ℕ, Bool, true, false, List, [], ◌∷◌, Option, Some, None, refl, ap, sym}
 use Rattle.std.specs.Prelude.{codes}
-use Rattle.markup.specs.Forest as forest
 use Rattle.markup.specs.Forest.{Forest, node_count, put_new, put_text}
 use Rattle.markup.specs.Forest.Place.{Last}
 use Rattle.markup.specs.declared.attributes.Attribute.{Attribute}
@@ -24,12 +23,9 @@ use Rattle.html_slices.specs.Forms.{doctype_token, end_token, start_token}
 use Rattle.html_tokens.specs.declared.replies.TokenSinkResult.TheVariants.{RawData}
 use Rattle.html_tokens.specs.declared.states.RawKind.TheVariants.{Rcdata}
 use Rattle.html_tokens.specs.declared.token.Token.TheVariants.{CharacterTokens, EOFToken}
+use Rattle.html_read_back.specs.Forms.{doctype_node}
 use Rattle.html_read_back.specs.States.{Around, at, element_node, opened, state}
 use Rattle.html_read_back.proofs.Words.{inserted}
-
--- the node of the doctype
-abbrev pub doctype_node : forest.NodeData
-doctype_node = forest.NodeData.Doctype (codes "html") [] []
 
 -- the state in a title
 abbrev pub in_title : Around → Option ℕ → Forest → List Open → State
