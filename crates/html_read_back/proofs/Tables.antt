@@ -1,5 +1,5 @@
 -- Tables and their parts are read as their subtrees. White space beside their elements waits for the next tag.
-use Rattle.std.proofs.Common.{◌≡◌, ◌∙◌, ℕ, ◌≤◌, Bool, true, false, List, [], ◌∷◌, ◌++◌, Option, Some, refl, sym, ap, arith, append_assoc, append-nil}
+use Rattle.std.proofs.Common.{◌≡◌, ◌∙◌, ℕ, ◌≤◌, Bool, true, false, List, [], ◌∷◌, ◌++◌, Option, Some, refl, sym, ap, arith, subst, append_assoc, append-nil}
 use Rattle.std.specs.Prelude.{◌||◌, nat_eq}
 use Rattle.std.specs.List.{list_all}
 use Rattle.std.proofs.lemmas.Bool.{and_from, and_parts}
@@ -169,6 +169,9 @@ module _ (rows : List TableRow) (reads : ReadsEscapes rows) (sc : Bool) (o : Aro
       let within = law m stack (Some (spelled k)) g es ok [] good_inner rooted' (below-more (node_count f) (node_count g) es le below) refl in
       let h = planted kids m g in
       let left = good-planted kids m n g false can good_inner around_it.parent in
+      let text_there = put_text within.forest (Last m) within.still_waiting in
+      let closed : turn (end_token (spelled k)) (at o head (mode_of_part inner) text_there (opened m k ∷ stack) es within.frameset_ok) ≡ turn_of (at o head (mode_of_part part) h stack es within.frameset_ok) (Finished false) =
+      subst (λ f. turn (end_token (spelled k)) (at o head (mode_of_part inner) text_there (opened m k ∷ stack) es within.frameset_ok) ≡ turn_of (at o head (mode_of_part part) f stack es within.frameset_ok) (Finished false)) {x = text_there} within.whole (ends m text_there stack es within.frameset_ok) in
       record {
         last_tag = within.last_tag;
         frameset_ok = within.frameset_ok;
@@ -178,8 +181,7 @@ module _ (rows : List TableRow) (reads : ReadsEscapes rows) (sc : Bool) (o : Aro
             (held-takes part n os f es ok waiting (tag_of k attrs) _ false good rooted white refl (starts n f' os es ok) good'.silent)
             within.reads
             (held-takes inner m stack within.forest es within.frameset_ok within.still_waiting (named EndTag (spelled k)) _ false within.good rooted' within.white refl
-            (ends m (put_text within.forest (Last m) within.still_waiting) stack es within.frameset_ok ∙ ap (λ f. turn_of (at o head (mode_of_part part) f stack es within.frameset_ok) (Finished false)) within.whole)
-            left.silent);
+            closed left.silent);
       }
 
   pub table_body-law : (attrs : List Attribute) → are_plain_attributes attrs ≡ true → (kids : Trees) → ArePlantable false kids → PartLaw OfBodies kids → PartElement OfTable TableBody attrs kids

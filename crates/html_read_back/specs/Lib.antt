@@ -4,3 +4,4 @@ pub mod Places
 pub mod Laws
 pub mod Forms
 pub mod ReadBack
+pub mod Rows
