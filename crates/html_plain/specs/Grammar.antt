@@ -1,4 +1,5 @@
 -- The plain grammar: which trees are read back as they are written.
+use lib.Utf8.{scalar}
 use Rattle.std.specs.Prelude.{◌≡◌, ℕ, Bool, true, false, ◌&&◌, ◌||◌, not, nat_eq, List, [], ◌∷◌, Option, Some, None, is_none, codes}
 use Rattle.std.specs.Char.{is_ascii_lowercase, is_ascii_digit}
 use Rattle.std.specs.List.{list_all}
@@ -17,9 +18,9 @@ use Rattle.html_plain.specs.declared.place.Place.TheVariants.{BeforeDoctype, Bef
 
 -- TEXTS AND ATTRIBUTES
 
--- neither U+0000 nor a carriage return
+-- a character, that is a scalar value of Unicode, but for U+0000 and a carriage return
 abbrev pub is_plain_character : ℕ → Bool
-is_plain_character c = not (nat_eq c 0) && not (nat_eq c 13)
+is_plain_character c = (not (nat_eq c 0) && not (nat_eq c 13)) && scalar c
 
 -- a tab, a line feed, a form feed or a space
 abbrev pub is_white : ℕ → Bool

@@ -1,4 +1,5 @@
 -- Plain names, attributes and texts are among those that are read back.
+use lib.Utf8.{scalar}
 use Rattle.std.proofs.Common.{◌≡◌, ◌∙◌, ℕ, true, List, [], ◌∷◌, refl, sym, ap}
 use Rattle.std.specs.Prelude.{◌&&◌, not, is_none, nat_eq}
 use Rattle.std.specs.List.{list_all}
@@ -49,13 +50,15 @@ no-null : (t : List ℕ) → list_all is_plain_character t ≡ true → has_no_n
 no-null [] h = refl
 no-null (c ∷ t) h =
     let p = and_parts (is_plain_character c) (list_all is_plain_character t) h in
-    and_from (is_not_null c) (has_no_null t) (and_parts (not (nat_eq c 0)) (not (nat_eq c 13)) p.0).0 (no-null t p.1)
+    let q = and_parts (not (nat_eq c 0) && not (nat_eq c 13)) (scalar c) p.0 in
+    and_from (is_not_null c) (has_no_null t) (and_parts (not (nat_eq c 0)) (not (nat_eq c 13)) q.0).0 (no-null t p.1)
 
 no-return : (t : List ℕ) → list_all is_plain_character t ≡ true → has_no_return t ≡ true
 no-return [] h = refl
 no-return (c ∷ t) h =
     let p = and_parts (is_plain_character c) (list_all is_plain_character t) h in
-    and_from (not (nat_eq c 13)) (has_no_return t) (and_parts (not (nat_eq c 0)) (not (nat_eq c 13)) p.0).1 (no-return t p.1)
+    let q = and_parts (not (nat_eq c 0) && not (nat_eq c 13)) (scalar c) p.0 in
+    and_from (not (nat_eq c 13)) (has_no_return t) (and_parts (not (nat_eq c 0)) (not (nat_eq c 13)) q.0).1 (no-return t p.1)
 
 pub texts-read : (text : List ℕ) → is_plain_text text ≡ true → (has_no_null text ≡ true) × (has_no_return text ≡ true)
 texts-read text h = let p = and_parts (not (is_empty text)) (list_all is_plain_character text) h in (no-null text p.1, no-return text p.1)
