@@ -78,11 +78,11 @@ plain_bodies =
 -- trees in a body that are not, each by one clause
 abbrev odd_bodies : List Trees
 odd_bodies =
-    -- texts: empty, neighbours, U+0000, U+000D
+    -- texts: empty, neighbours, U+0000, U+000D, a surrogate
     Text [] Nothing
     ∷ say "a" (text "b")
     ∷ one "p" (say "a" (text "b"))
-    ∷ Text (codes "a" ++ 0 ∷ []) Nothing ∷ Text (codes "a" ++ 13 ∷ []) Nothing
+    ∷ Text (codes "a" ++ 0 ∷ []) Nothing ∷ Text (codes "a" ++ 13 ∷ []) Nothing ∷ Text (0xD800 ∷ []) Nothing
     ∷ one "p" (Text (13 ∷ []) Nothing)
     -- nodes of other kinds
     ∷ Comment (codes "x") Nothing ∷ ProcessingInstruction (codes "x") (codes "y") Nothing ∷ Doctype (codes "html") [] [] Nothing

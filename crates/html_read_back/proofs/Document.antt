@@ -1,5 +1,5 @@
 -- The written text of a plain document is read as that document.
-use Rattle.std.proofs.Common.{◌≡◌, ◌==◌, ◌∙◌, ℕ, ◌+◌, Bool, true, false, length, List, [], ◌∷◌, ◌++◌, Option, Some, None, Ok, refl, sym, ap, append-nil, codes, subst}
+use Rattle.std.proofs.Common.{◌≡◌, ◌==◌, ◌∙◌, ℕ, ◌+◌, Bool, true, false, length, List, [], ◌∷◌, ◌++◌, Option, Some, None, Ok, refl, sym, ap, append-nil, codes, subst, encode_utf8_all}
 use Rattle.std.proofs.lemmas.Bool.{cond_both}
 use Rattle.markup.specs.Escape.{end_tag, escape, start_tag, written_doctype}
 use Rattle.markup.specs.Forest as forest
@@ -45,13 +45,14 @@ use Rattle.html_tokens.specs.declared.token.Token.TheVariants.{EOFToken}
 use Rattle.html_tokens.proofs.CleanItems.{reading-clean}
 use Rattle.html_read_back.specs.Forms.{doctype_node}
 use Rattle.html_read_back.specs.Places.{IsGood}
-use Rattle.html_read_back.specs.ReadBack.{IsReadAs, IsReadAgain, document_trees}
+use Rattle.html_read_back.specs.ReadBack.{AreBytesReadAgain, IsReadAs, IsReadAgain, document_trees}
 use Rattle.html_read_back.specs.Runs as runs
 use Rattle.html_read_back.specs.Runs.{Reads, TakesQuietly}
 use Rattle.html_read_back.specs.States.{Around, at, element_node, opened, tag_of}
 use Rattle.html_read_back.proofs.Frame.{body-reads, end-reads, head-ends, head-reads, start-reads}
 use Rattle.html_read_back.proofs.Goods.{good-around, good-element, good-planted, good-text}
 use Rattle.html_read_back.proofs.Returns.{own-normal, trees-none}
+use Rattle.html_read_back.proofs.Scalars.{trees-utf8}
 use Rattle.html_read_back.proofs.Runs.{reader-reads, reads-both, reads-one}
 use Rattle.html_read_back.proofs.Taking.{end-takes, tag-once, takes-from}
 use Rattle.html_read_back.proofs.Turns.Frame.{doctype-taken, end-html, end-of_file, start-head, start-html}
@@ -293,4 +294,18 @@ module _ (rows : List Row) (reads : ReadsEscapes rows) (sc : Bool) (o : Around) 
         read = read;
         plain = ap is_plain_document read.shows ∙ judged;
         written = ap (text_of sc) read.shows;
+      }
+
+  -- the same by bytes
+  pub bytes-again : (exact : Bool) (f : Forest) → is_plain_forest f ≡ true → AreBytesReadAgain rows exact o sc f (encode_utf8_all (text_of sc (document_trees f)))
+  bytes-again exact f judged =
+      let trees = document_trees f in
+      let is = computed-cases BeforeDoctype false trees judged in
+      let text = trees-utf8 sc trees BeforeDoctype false is in
+      let read = subst (λ t. IsReadAs rows exact o t trees) (sym text.1) (document-back exact trees is) in
+      record {
+        utf8 = text.0;
+        read = read;
+        plain = ap is_plain_document read.shows ∙ judged;
+        written = ap (λ t. encode_utf8_all (text_of sc t)) read.shows;
       }

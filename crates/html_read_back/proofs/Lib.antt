@@ -14,3 +14,4 @@ pub mod Frame
 pub mod Returns
 pub mod Document
 pub mod FrameForms
+pub mod Scalars

@@ -1,5 +1,6 @@
 -- What it means that a text is read as a document, without an error.
-use Rattle.std.specs.Prelude.{◌≡◌, ℕ, Bool, true, List, None, Ok}
+use Rattle.std.specs.Prelude.{◌≡◌, ℕ, Bool, true, List, None, Ok, IsUtf8, encode_utf8_all}
+use Rattle.std.specs.Str.{chars}
 use Rattle.markup.specs.Forest.{Forest, children_of, empty_forest}
 use Rattle.markup.specs.Trees.{Trees, trees_of}
 use Rattle.markup.specs.declared.quirks.QuirksMode.TheVariants.{NoQuirks}
@@ -51,3 +52,16 @@ pub record IsReadAgain (rows : List Row) (exact : Bool) (o : Around) (scripting 
 
 abbrev pub ArePlainForestsReadAgain : Type 0
 ArePlainForestsReadAgain = (rows : List Row) → ReadsEscapes rows → (exact : Bool) (o : Around) (scripting : Bool) (f : Forest) → is_plain_forest f ≡ true → IsReadAgain rows exact o scripting f
+
+-- The bytes that a plain document is written as: a text in UTF-8, whose document is judged plain, is not in quirks mode, owes no error
+-- and is written as the same bytes.
+pub record AreBytesReadAgain (rows : List Row) (exact : Bool) (o : Around) (scripting : Bool) (f : Forest) (bytes : List ℕ) : Type 0 where
+  pub utf8 : IsUtf8 bytes
+  pub read : IsReadAs rows exact o (chars bytes) (document_trees f)
+  pub plain : is_plain_forest read.left.forest ≡ true
+  pub written : encode_utf8_all (text_of scripting (document_trees read.left.forest)) ≡ bytes
+
+abbrev pub ArePlainBytesReadAgain : Type 0
+ArePlainBytesReadAgain =
+    (rows : List Row) → ReadsEscapes rows → (exact : Bool) (o : Around) (scripting : Bool) (f : Forest) → is_plain_forest f ≡ true
+    → AreBytesReadAgain rows exact o scripting f (encode_utf8_all (text_of scripting (document_trees f)))

@@ -1,6 +1,6 @@
 //! Laws of reading written documents back. Each function's contract is one law.
 ghost use Rattle.html_read_back.specs.Forms.{AreBlocksRead, AreFramesRead, AreInlinesRead, ArePlainTreesRead, AreTablesRead, AreTextsRead, OfEachTable};
-ghost use Rattle.html_read_back.specs.ReadBack.{AreDocumentsReadBack, ArePlainForestsReadAgain};
+ghost use Rattle.html_read_back.specs.ReadBack.{AreDocumentsReadBack, ArePlainBytesReadAgain, ArePlainForestsReadAgain};
 
 /// The doctype, `html`, `head` with white space and a title, white space, and `body` lead from one insertion mode to the next.
 pub fn frames_are_read()
@@ -40,4 +40,9 @@ pub fn written_documents_are_read_back()
 /// What is written of a forest that is judged plain is read as a document that is judged plain and written the same.
 pub fn plain_forests_are_read_again()
     ensures { ArePlainForestsReadAgain }
+{}
+
+/// The bytes that such a forest is written as are a text, which is read so and written as the same bytes.
+pub fn plain_bytes_are_read_again()
+    ensures { ArePlainBytesReadAgain }
 {}
