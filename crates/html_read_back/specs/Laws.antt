@@ -1,4 +1,6 @@
--- What each form of the plain grammar is read as, and the law of plain trees.
+-- What it means that a text is read in flow, or in a part of a table, and that the state comes back. Throughout `n` and `top` are the
+-- current node, `os` what is open below it, `last` the name of the last start tag, `f` the forest, `es` the entries of formatting
+-- elements, and `ok` whether a frameset may still come.
 use Rattle.std.specs.Prelude.{◌≡◌, ℕ, ◌≤◌, Bool, true, List, [], ◌∷◌, ◌++◌, Option}
 use Rattle.std.specs.List.{list_all}
 use Rattle.markup.specs.Escape.{end_tag, start_tag}
