@@ -1,7 +1,8 @@
 -- The written text of a plain document is read as that document.
-use Rattle.std.proofs.Common.{◌≡◌, ◌==◌, ◌∙◌, ℕ, ◌+◌, Bool, true, false, length, List, [], ◌∷◌, ◌++◌, Option, Some, None, Ok, refl, sym, ap, append-nil, codes, subst, encode_utf8_all}
+use Rattle.std.proofs.Common.{◌≡◌, ◌==◌, ◌∙◌, ℕ, ◌+◌, Bool, true, false, length, List, [], ◌∷◌, ◌++◌, Option, Some, None, Ok, refl, sym, ap, append-nil, codes, subst, encode_utf8_all, Err, Result}
 use Rattle.std.proofs.lemmas.Bool.{cond_both}
 use Rattle.markup.specs.Escape.{end_tag, escape, start_tag, written_doctype}
+use Rattle.std.specs.Str.{chars}
 use Rattle.markup.specs.Forest as forest
 use Rattle.markup.specs.Forest.{Forest, children_of, data_if, empty_forest, joined_text, node_count, previous_at, put_new, put_text, text_of as text_in}
 use Rattle.markup.specs.Forest.Place.{Last}
@@ -23,6 +24,7 @@ use Rattle.html_plain.proofs.WrittenForms.{element-written}
 use Rattle.html_planted.specs.Planted.{planted}
 use Rattle.html_planted.proofs.PlainTrees.{document-walked, plain-plantable}
 use Rattle.html_planted.proofs.Planting.{new-keeps}
+use Rattle.html_rules.specs.Documents.{document}
 use Rattle.html_rules.specs.ForeignContent.{asks_cdata}
 use Rattle.html_rules.specs.Sets.{names_of}
 use Rattle.html_rules.specs.Shape.{is_fit}
@@ -37,6 +39,7 @@ use Rattle.html_tokens.specs.Item.{Stand}
 use Rattle.html_tokens.specs.Laws.{ReadsEscapes, in_data}
 use Rattle.html_tokens.specs.NormalText.{normal_text}
 use Rattle.html_tokens.specs.Reading.{line_breaks, line_number, reading, reading_from}
+use Rattle.html_tokens.specs.Sink.{Refusal}
 use Rattle.html_tokens.specs.Table.{Row}
 use Rattle.html_tokens.specs.Tags.{named}
 use Rattle.html_tokens.specs.declared.replies.TokenSinkResult.TheVariants.{Continue}
@@ -45,7 +48,7 @@ use Rattle.html_tokens.specs.declared.token.Token.TheVariants.{EOFToken}
 use Rattle.html_tokens.proofs.CleanItems.{reading-clean}
 use Rattle.html_read_back.specs.Forms.{doctype_node}
 use Rattle.html_read_back.specs.Places.{IsGood}
-use Rattle.html_read_back.specs.ReadBack.{AreBytesReadAgain, IsReadAs, IsReadAgain, document_trees}
+use Rattle.html_read_back.specs.ReadBack.{AreBytesReadAgain, IsSameAgain, default_opts, default_setting, IsReadAs, IsReadAgain, document_trees}
 use Rattle.html_read_back.specs.Runs as runs
 use Rattle.html_read_back.specs.Runs.{Reads, TakesQuietly}
 use Rattle.html_read_back.specs.States.{Around, at, element_node, opened, tag_of}
@@ -308,4 +311,21 @@ module _ (rows : List Row) (reads : ReadsEscapes rows) (sc : Bool) (o : Around) 
         read = read;
         plain = ap is_plain_document read.shows ∙ judged;
         written = ap (λ t. encode_utf8_all (text_of sc t)) read.shows;
+      }
+
+  ok-same : (r : Result State Refusal) (s t : State) → r ≡ Ok s → r ≡ Ok t → s ≡ t
+  ok-same (Ok x) s t h k = cc
+  ok-same (Err e) s t h k = absurd (cc)
+
+  -- what is read has one document
+  pub bytes-stable : (exact : Bool) (f : Forest) → is_plain_forest f ≡ true → (left : State)
+      → document rows (default_opts exact) (default_setting o) empty_forest (chars (encode_utf8_all (text_of sc (document_trees f)))) ≡ Ok left → IsSameAgain sc f left
+  bytes-stable exact f judged left given =
+      let again = bytes-again exact f judged in
+      let same : again.read.left ≡ left = ok-same (document rows (default_opts exact) (default_setting o) empty_forest (chars (encode_utf8_all (text_of sc (document_trees f))))) again.read.left left again.read.gives given in
+      subst (λ s. IsSameAgain sc f s) same record {
+        trees = again.read.shows;
+        plain = again.plain;
+        no_quirks = again.read.told_no_quirks;
+        bytes = again.written;
       }

@@ -65,3 +65,17 @@ abbrev pub ArePlainBytesReadAgain : Type 0
 ArePlainBytesReadAgain =
     (rows : List Row) → ReadsEscapes rows → (exact : Bool) (o : Around) (scripting : Bool) (f : Forest) → is_plain_forest f ≡ true
     → AreBytesReadAgain rows exact o scripting f (encode_utf8_all (text_of scripting (document_trees f)))
+
+-- what a document is once it was written and read: plain and not in quirks mode, with the trees and the bytes of the one before
+pub record IsSameAgain (scripting : Bool) (f : Forest) (left : State) : Type 0 where
+  pub trees : document_trees left.forest ≡ document_trees f
+  pub plain : is_plain_forest left.forest ≡ true
+  pub no_quirks : left.forest.quirks ≡ NoQuirks
+  pub bytes : encode_utf8_all (text_of scripting (document_trees left.forest)) ≡ encode_utf8_all (text_of scripting (document_trees f))
+
+-- so is every document of the bytes that a plain document is written as
+abbrev pub ArePlainBytesStable : Type 0
+ArePlainBytesStable =
+    (rows : List Row) → ReadsEscapes rows → (exact : Bool) (o : Around) (scripting : Bool) (f : Forest) → is_plain_forest f ≡ true
+    → (left : State) → document rows (default_opts exact) (default_setting o) empty_forest (chars (encode_utf8_all (text_of scripting (document_trees f)))) ≡ Ok left
+    → IsSameAgain scripting f left

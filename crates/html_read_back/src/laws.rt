@@ -1,6 +1,6 @@
 //! Laws of reading written documents back. Each function's contract is one law.
 ghost use Rattle.html_read_back.specs.Forms.{AreBlocksRead, AreFramesRead, AreInlinesRead, ArePlainTreesRead, AreTablesRead, AreTextsRead, OfEachTable};
-ghost use Rattle.html_read_back.specs.ReadBack.{AreDocumentsReadBack, ArePlainBytesReadAgain, ArePlainForestsReadAgain};
+ghost use Rattle.html_read_back.specs.ReadBack.{AreDocumentsReadBack, ArePlainBytesReadAgain, ArePlainBytesStable, ArePlainForestsReadAgain};
 
 /// The doctype, `html`, `head` with white space and a title, white space, and `body` lead from one insertion mode to the next.
 pub fn frames_are_read()
@@ -45,4 +45,9 @@ pub fn plain_forests_are_read_again()
 /// The bytes that such a forest is written as are a text, which is read so and written as the same bytes.
 pub fn plain_bytes_are_read_again()
     ensures { ArePlainBytesReadAgain }
+{}
+
+/// Whatever document these bytes are read as, it is plain, has the same trees, and is written as the same bytes.
+pub fn plain_bytes_write_themselves()
+    ensures { ArePlainBytesStable }
 {}
