@@ -22,6 +22,7 @@ pub mod ForeignElements
 pub mod Adopted
 pub mod Turned
 pub mod EndTags
+mod EndedOptions
 pub mod Dispatched
 pub mod ShadowRoots
 pub mod Agencies

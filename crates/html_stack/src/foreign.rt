@@ -51,6 +51,7 @@ fn foreign_element(alloc: Global, namespace: Namespace, tag: Tag) -> Result<NewE
         class,
         attrs,
         had_duplicate_attributes: tag.had_duplicate_attributes,
+        already_started: false,
     })
 }
 

@@ -11,6 +11,7 @@ mod formatting;
 pub mod inserting;
 mod resetting;
 pub mod stack;
+mod telling;
 mod walks;
 mod wanted;
 

@@ -182,12 +182,15 @@ impl<Sink: TreeSink> Stack<Sink> {
     }
 
     /// Elements are popped until foreign content ends: until the current node is HTML's, or HTML may stand in it (HTML Standard, section
-    /// 13.2.6.5). The sink is not told.
-    pub fn pop_foreign(&mut self)
-        ensures { self.new ≡ record self.old { open_elems = left_from ends_foreign self.old.open_elems } }
+    /// 13.2.6.5). The sink is told of each.
+    pub fn pop_foreign(&mut self, sink: &mut Sink)
+        requires { AreOpened (Sink.forest sink.old) self.old.open_elems }
+        ensures left { self.new ≡ record self.old { open_elems = left_from ends_foreign self.old.open_elems } }
+        ensures same { Sink.forest sink.new ≡ Sink.forest sink.old }
     {
-        let left = walks::count_from(self.open_elems.as_slice(), Wanted::EndsForeign);
-        self.open_elems.truncate(left);
+        while !self.open_elems.is_empty() && !self.current_is(Wanted::EndsForeign) {
+            drop(self.pop(sink));
+        }
     }
 
     /// The elements that were opened first stay, so many. The sink is not told.

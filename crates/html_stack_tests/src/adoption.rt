@@ -12,7 +12,7 @@ use std::test::Fail;
 
 // A step of the tree builder.
 #[derive(Clone, Copy)]
-enum Step<'a> {
+pub(crate) enum Step<'a> {
     // An element is opened.
     Element(&'a str),
     // A formatting element is opened and listed; with foster parenting.
@@ -74,7 +74,7 @@ fn mark(_forest: &Forest, stack: &mut Stack<Forest>) -> Result<(), ParseFault>
 }
 
 // One step.
-fn take(
+pub(crate) fn take(
     alloc: Global,
     forest: &mut Forest,
     stack: &mut Stack<Forest>,
@@ -136,10 +136,14 @@ fn are_listed(stack: &Stack<Forest>, names: &[&str]) -> bool {
 }
 
 // The steps, the document, what is open, what is listed, and how many errors there are.
-type Row<'a> = (&'a [Step<'a>], &'a str, &'a [&'a str], &'a [&'a str], u64);
+pub(crate) type Row<'a> = (&'a [Step<'a>], &'a str, &'a [&'a str], &'a [&'a str], u64);
 
 // Whether the forest is this document, which is short, so that writing it fails only for want of memory.
-fn is_written(alloc: Global, forest: &mut Forest, document: &str) -> Result<bool, ParseFault> {
+pub(crate) fn is_written(
+    alloc: Global,
+    forest: &mut Forest,
+    document: &str,
+) -> Result<bool, ParseFault> {
     let id = forest.get_document();
     let mut writer = MemWriter::new(alloc, 1_000, usize::MAX, None, false)?;
     let node = ForestNode { forest, id };
@@ -161,452 +165,462 @@ fn leads(alloc: Global, row: Row<'_>) -> Result<bool, ParseFault> {
     )
 }
 
+/// Rows in which the agency moves what is misnested.
+pub(crate) const MISNESTED: &[Row<'static>] = &[
+    (
+        &[
+            Step::Listed("b"),
+            Step::Text("1"),
+            Step::Element("p"),
+            Step::Text("2"),
+            Step::Adopt("b"),
+        ],
+        "<html><body><b>1</b><p><b>2</b></p></body></html>",
+        &["html", "body", "p"],
+        &[],
+        1,
+    ),
+    (
+        &[
+            Step::Listed("b"),
+            Step::Text("1"),
+            Step::Element("p"),
+            Step::Text("2"),
+            Step::Adopt("b"),
+            Step::Reconstruct,
+            Step::Text("3"),
+        ],
+        "<html><body><b>1</b><p><b>2</b>3</p></body></html>",
+        &["html", "body", "p"],
+        &[],
+        1,
+    ),
+    (
+        &[
+            Step::Element("p"),
+            Step::Text("1"),
+            Step::Listed("b"),
+            Step::Text("2"),
+            Step::Listed("i"),
+            Step::Text("3"),
+            Step::Adopt("b"),
+            Step::Reconstruct,
+            Step::Text("4"),
+            Step::Adopt("i"),
+            Step::Reconstruct,
+            Step::Text("5"),
+        ],
+        "<html><body><p>1<b>2<i>3</i></b><i>4</i>5</p></body></html>",
+        &["html", "body", "p"],
+        &[],
+        1,
+    ),
+    (
+        &[
+            Step::Element("p"),
+            Step::Text("1"),
+            Step::Listed("s"),
+            Step::Text("2"),
+            Step::Listed("b"),
+            Step::Text("3"),
+            Step::BackTo(TagSet::Body),
+            Step::Reconstruct,
+            Step::Text("4"),
+            Step::Adopt("s"),
+            Step::Reconstruct,
+            Step::Text("5"),
+            Step::Adopt("b"),
+        ],
+        "<html><body><p>1<s>2<b>3</b></s></p><s><b>4</b></s><b>5</b></body></html>",
+        &["html", "body"],
+        &[],
+        1,
+    ),
+    (
+        &[
+            Step::Listed("a"),
+            Step::Text("1"),
+            Step::Element("div"),
+            Step::Text("2"),
+            Step::Element("div"),
+            Step::Text("3"),
+            Step::Adopt("a"),
+            Step::Text("4"),
+        ],
+        "<html><body><a>1</a><div><a>2</a><div><a>3</a>4</div></div></body></html>",
+        &["html", "body", "div", "div"],
+        &[],
+        2,
+    ),
+    (
+        &[
+            Step::Listed("b"),
+            Step::Listed("b"),
+            Step::Listed("a"),
+            Step::Element("p"),
+            Step::Adopt("a"),
+        ],
+        "<html><body><b><b><a></a><p><a></a></p></b></b></body></html>",
+        &["html", "body", "b", "b", "p"],
+        &["b", "b"],
+        1,
+    ),
+    (
+        &[
+            Step::Listed("b"),
+            Step::Listed("a"),
+            Step::Listed("b"),
+            Step::Element("p"),
+            Step::Adopt("a"),
+        ],
+        "<html><body><b><a><b></b></a><b><p><a></a></p></b></b></body></html>",
+        &["html", "body", "b", "b", "p"],
+        &["b", "b"],
+        1,
+    ),
+    (
+        &[
+            Step::Listed("a"),
+            Step::Listed("b"),
+            Step::Listed("b"),
+            Step::Element("p"),
+            Step::Adopt("a"),
+        ],
+        "<html><body><a><b><b></b></b></a><b><b><p><a></a></p></b></b></body></html>",
+        &["html", "body", "b", "b", "p"],
+        &["b", "b"],
+        1,
+    ),
+];
+
 #[test]
 fn misnested_elements_are_adopted(rt: HostRuntime) -> Result<(), Fail> {
-    let rows: &[Row<'_>] = &[
-        (
-            &[
-                Step::Listed("b"),
-                Step::Text("1"),
-                Step::Element("p"),
-                Step::Text("2"),
-                Step::Adopt("b"),
-            ],
-            "<html><body><b>1</b><p><b>2</b></p></body></html>",
-            &["html", "body", "p"],
-            &[],
-            1,
-        ),
-        (
-            &[
-                Step::Listed("b"),
-                Step::Text("1"),
-                Step::Element("p"),
-                Step::Text("2"),
-                Step::Adopt("b"),
-                Step::Reconstruct,
-                Step::Text("3"),
-            ],
-            "<html><body><b>1</b><p><b>2</b>3</p></body></html>",
-            &["html", "body", "p"],
-            &[],
-            1,
-        ),
-        (
-            &[
-                Step::Element("p"),
-                Step::Text("1"),
-                Step::Listed("b"),
-                Step::Text("2"),
-                Step::Listed("i"),
-                Step::Text("3"),
-                Step::Adopt("b"),
-                Step::Reconstruct,
-                Step::Text("4"),
-                Step::Adopt("i"),
-                Step::Reconstruct,
-                Step::Text("5"),
-            ],
-            "<html><body><p>1<b>2<i>3</i></b><i>4</i>5</p></body></html>",
-            &["html", "body", "p"],
-            &[],
-            1,
-        ),
-        (
-            &[
-                Step::Element("p"),
-                Step::Text("1"),
-                Step::Listed("s"),
-                Step::Text("2"),
-                Step::Listed("b"),
-                Step::Text("3"),
-                Step::BackTo(TagSet::Body),
-                Step::Reconstruct,
-                Step::Text("4"),
-                Step::Adopt("s"),
-                Step::Reconstruct,
-                Step::Text("5"),
-                Step::Adopt("b"),
-            ],
-            "<html><body><p>1<s>2<b>3</b></s></p><s><b>4</b></s><b>5</b></body></html>",
-            &["html", "body"],
-            &[],
-            1,
-        ),
-        (
-            &[
-                Step::Listed("a"),
-                Step::Text("1"),
-                Step::Element("div"),
-                Step::Text("2"),
-                Step::Element("div"),
-                Step::Text("3"),
-                Step::Adopt("a"),
-                Step::Text("4"),
-            ],
-            "<html><body><a>1</a><div><a>2</a><div><a>3</a>4</div></div></body></html>",
-            &["html", "body", "div", "div"],
-            &[],
-            2,
-        ),
-        (
-            &[
-                Step::Listed("b"),
-                Step::Listed("b"),
-                Step::Listed("a"),
-                Step::Element("p"),
-                Step::Adopt("a"),
-            ],
-            "<html><body><b><b><a></a><p><a></a></p></b></b></body></html>",
-            &["html", "body", "b", "b", "p"],
-            &["b", "b"],
-            1,
-        ),
-        (
-            &[
-                Step::Listed("b"),
-                Step::Listed("a"),
-                Step::Listed("b"),
-                Step::Element("p"),
-                Step::Adopt("a"),
-            ],
-            "<html><body><b><a><b></b></a><b><p><a></a></p></b></b></body></html>",
-            &["html", "body", "b", "b", "p"],
-            &["b", "b"],
-            1,
-        ),
-        (
-            &[
-                Step::Listed("a"),
-                Step::Listed("b"),
-                Step::Listed("b"),
-                Step::Element("p"),
-                Step::Adopt("a"),
-            ],
-            "<html><body><a><b><b></b></b></a><b><b><p><a></a></p></b></b></body></html>",
-            &["html", "body", "b", "b", "p"],
-            &["b", "b"],
-            1,
-        ),
-    ];
-    for row in rows {
+    for row in MISNESTED {
         assert!(rt; leads(rt.alloc(), *row)?);
     }
     Ok(())
 }
+
+/// Rows in which elements are copied, three at most.
+pub(crate) const COPIED: &[Row<'static>] = &[
+    (
+        &[
+            Step::Listed("b"),
+            Step::Listed("i"),
+            Step::Listed("em"),
+            Step::Listed("code"),
+            Step::Listed("u"),
+            Step::Element("p"),
+            Step::Text("x"),
+            Step::Adopt("b"),
+        ],
+        "<html><body><b><i><em><code><u></u></code></em></i></b><em><code><u><p><b>x</b></p></u></code></em></body></html>",
+        &["html", "body", "em", "code", "u", "p"],
+        &["em", "code", "u"],
+        1,
+    ),
+    (
+        &[
+            Step::Element("div"),
+            Step::Listed("a"),
+            Step::Listed("b"),
+            Step::Listed("u"),
+            Step::Listed("i"),
+            Step::Listed("code"),
+            Step::Element("div"),
+            Step::Adopt("a"),
+        ],
+        "<html><body><div><a><b><u><i><code></code></i></u></b></a><u><i><code><div><a></a></div></code></i></u></div></body></html>",
+        &["html", "body", "div", "u", "i", "code", "div"],
+        &["u", "i", "code"],
+        1,
+    ),
+    (
+        &[
+            Step::Listed("b"),
+            Step::Listed("em"),
+            Step::Element("foo"),
+            Step::Element("foo"),
+            Step::Element("aside"),
+            Step::Adopt("b"),
+        ],
+        "<html><body><b><em><foo><foo></foo></foo></em></b><em><aside><b></b></aside></em></body></html>",
+        &["html", "body", "em", "aside"],
+        &["em"],
+        1,
+    ),
+    (
+        &[
+            Step::Listed("b"),
+            Step::Listed("em"),
+            Step::Element("foo"),
+            Step::Element("foo"),
+            Step::Element("foo"),
+            Step::Element("aside"),
+            Step::Adopt("b"),
+        ],
+        "<html><body><b><em><foo><foo><foo></foo></foo></foo></em></b><aside><b></b></aside></body></html>",
+        &["html", "body", "aside"],
+        &[],
+        1,
+    ),
+];
 
 #[test]
 fn three_elements_are_copied(rt: HostRuntime) -> Result<(), Fail> {
-    let rows: &[Row<'_>] = &[
-        (
-            &[
-                Step::Listed("b"),
-                Step::Listed("i"),
-                Step::Listed("em"),
-                Step::Listed("code"),
-                Step::Listed("u"),
-                Step::Element("p"),
-                Step::Text("x"),
-                Step::Adopt("b"),
-            ],
-            "<html><body><b><i><em><code><u></u></code></em></i></b><em><code><u><p><b>x</b></p></u></code></em></body></html>",
-            &["html", "body", "em", "code", "u", "p"],
-            &["em", "code", "u"],
-            1,
-        ),
-        (
-            &[
-                Step::Element("div"),
-                Step::Listed("a"),
-                Step::Listed("b"),
-                Step::Listed("u"),
-                Step::Listed("i"),
-                Step::Listed("code"),
-                Step::Element("div"),
-                Step::Adopt("a"),
-            ],
-            "<html><body><div><a><b><u><i><code></code></i></u></b></a><u><i><code><div><a></a></div></code></i></u></div></body></html>",
-            &["html", "body", "div", "u", "i", "code", "div"],
-            &["u", "i", "code"],
-            1,
-        ),
-        (
-            &[
-                Step::Listed("b"),
-                Step::Listed("em"),
-                Step::Element("foo"),
-                Step::Element("foo"),
-                Step::Element("aside"),
-                Step::Adopt("b"),
-            ],
-            "<html><body><b><em><foo><foo></foo></foo></em></b><em><aside><b></b></aside></em></body></html>",
-            &["html", "body", "em", "aside"],
-            &["em"],
-            1,
-        ),
-        (
-            &[
-                Step::Listed("b"),
-                Step::Listed("em"),
-                Step::Element("foo"),
-                Step::Element("foo"),
-                Step::Element("foo"),
-                Step::Element("aside"),
-                Step::Adopt("b"),
-            ],
-            "<html><body><b><em><foo><foo><foo></foo></foo></foo></em></b><aside><b></b></aside></body></html>",
-            &["html", "body", "aside"],
-            &[],
-            1,
-        ),
-    ];
-    for row in rows {
+    for row in COPIED {
         assert!(rt; leads(rt.alloc(), *row)?);
     }
     Ok(())
 }
+
+/// Rows that show where the agency ends.
+pub(crate) const ENDING: &[Row<'static>] = &[
+    (
+        &[
+            Step::Element("div"),
+            Step::Listed("a"),
+            Step::Listed("b"),
+            Step::Element("div"),
+            Step::Element("div"),
+            Step::Element("div"),
+            Step::Element("div"),
+            Step::Element("div"),
+            Step::Element("div"),
+            Step::Element("div"),
+            Step::Element("div"),
+            Step::Element("div"),
+            Step::Element("div"),
+            Step::Adopt("a"),
+        ],
+        "<html><body><div><a><b></b></a><b><div><a></a><div><a></a><div><a></a><div><a></a><div><a></a><div><a></a><div><a></a><div><a><div><div></div></div></a></div></div></div></div></div></div></div></div></b></div></body></html>",
+        &[
+            "html", "body", "div", "b", "div", "div", "div", "div", "div", "div", "div", "div",
+            "a", "div", "div",
+        ],
+        &["b", "a"],
+        8,
+    ),
+    (
+        &[
+            Step::Element("p"),
+            Step::Listed("b"),
+            Step::Text("x"),
+            Step::BackTo(TagSet::Body),
+            Step::Adopt("b"),
+        ],
+        "<html><body><p><b>x</b></p></body></html>",
+        &["html", "body"],
+        &[],
+        1,
+    ),
+    (
+        &[Step::Listed("b"), Step::Element("table"), Step::Adopt("b")],
+        "<html><body><b><table></table></b></body></html>",
+        &["html", "body", "b", "table"],
+        &["b"],
+        1,
+    ),
+    (
+        &[Step::Element("b"), Step::Text("x"), Step::Adopt("b")],
+        "<html><body><b>x</b></body></html>",
+        &["html", "body"],
+        &[],
+        0,
+    ),
+    (
+        &[
+            Step::Listed("b"),
+            Step::Marker,
+            Step::Element("b"),
+            Step::Adopt("b"),
+        ],
+        "<html><body><b><b></b></b></body></html>",
+        &["html", "body", "b"],
+        &["b", "|"],
+        0,
+    ),
+    (
+        &[
+            Step::Listed("b"),
+            Step::Marker,
+            Step::Element("p"),
+            Step::Adopt("b"),
+        ],
+        "<html><body><b><p></p></b></body></html>",
+        &["html", "body", "b", "p"],
+        &["b", "|"],
+        1,
+    ),
+    (
+        &[Step::Element("b"), Step::Element("i"), Step::Adopt("b")],
+        "<html><body><b><i></i></b></body></html>",
+        &["html", "body"],
+        &[],
+        1,
+    ),
+    (
+        &[
+            Step::Listed("b"),
+            Step::Listed("i"),
+            Step::Text("x"),
+            Step::Adopt("b"),
+        ],
+        "<html><body><b><i>x</i></b></body></html>",
+        &["html", "body"],
+        &["i"],
+        1,
+    ),
+    (
+        &[
+            Step::Listed("my-tag"),
+            Step::Element("p"),
+            Step::Adopt("my-tag"),
+        ],
+        "<html><body><my-tag></my-tag><p><my-tag></my-tag></p></body></html>",
+        &["html", "body", "p"],
+        &[],
+        1,
+    ),
+];
 
 #[test]
 fn the_adoption_agency_ends(rt: HostRuntime) -> Result<(), Fail> {
-    let rows: &[Row<'_>] = &[
-        (
-            &[
-                Step::Element("div"),
-                Step::Listed("a"),
-                Step::Listed("b"),
-                Step::Element("div"),
-                Step::Element("div"),
-                Step::Element("div"),
-                Step::Element("div"),
-                Step::Element("div"),
-                Step::Element("div"),
-                Step::Element("div"),
-                Step::Element("div"),
-                Step::Element("div"),
-                Step::Element("div"),
-                Step::Adopt("a"),
-            ],
-            "<html><body><div><a><b></b></a><b><div><a></a><div><a></a><div><a></a><div><a></a><div><a></a><div><a></a><div><a></a><div><a><div><div></div></div></a></div></div></div></div></div></div></div></div></b></div></body></html>",
-            &[
-                "html", "body", "div", "b", "div", "div", "div", "div", "div", "div", "div", "div",
-                "a", "div", "div",
-            ],
-            &["b", "a"],
-            8,
-        ),
-        (
-            &[
-                Step::Element("p"),
-                Step::Listed("b"),
-                Step::Text("x"),
-                Step::BackTo(TagSet::Body),
-                Step::Adopt("b"),
-            ],
-            "<html><body><p><b>x</b></p></body></html>",
-            &["html", "body"],
-            &[],
-            1,
-        ),
-        (
-            &[Step::Listed("b"), Step::Element("table"), Step::Adopt("b")],
-            "<html><body><b><table></table></b></body></html>",
-            &["html", "body", "b", "table"],
-            &["b"],
-            1,
-        ),
-        (
-            &[Step::Element("b"), Step::Text("x"), Step::Adopt("b")],
-            "<html><body><b>x</b></body></html>",
-            &["html", "body"],
-            &[],
-            0,
-        ),
-        (
-            &[
-                Step::Listed("b"),
-                Step::Marker,
-                Step::Element("b"),
-                Step::Adopt("b"),
-            ],
-            "<html><body><b><b></b></b></body></html>",
-            &["html", "body", "b"],
-            &["b", "|"],
-            0,
-        ),
-        (
-            &[
-                Step::Listed("b"),
-                Step::Marker,
-                Step::Element("p"),
-                Step::Adopt("b"),
-            ],
-            "<html><body><b><p></p></b></body></html>",
-            &["html", "body", "b", "p"],
-            &["b", "|"],
-            1,
-        ),
-        (
-            &[Step::Element("b"), Step::Element("i"), Step::Adopt("b")],
-            "<html><body><b><i></i></b></body></html>",
-            &["html", "body"],
-            &[],
-            1,
-        ),
-        (
-            &[
-                Step::Listed("b"),
-                Step::Listed("i"),
-                Step::Text("x"),
-                Step::Adopt("b"),
-            ],
-            "<html><body><b><i>x</i></b></body></html>",
-            &["html", "body"],
-            &["i"],
-            1,
-        ),
-        (
-            &[
-                Step::Listed("my-tag"),
-                Step::Element("p"),
-                Step::Adopt("my-tag"),
-            ],
-            "<html><body><my-tag></my-tag><p><my-tag></my-tag></p></body></html>",
-            &["html", "body", "p"],
-            &[],
-            1,
-        ),
-    ];
-    for row in rows {
+    for row in ENDING {
         assert!(rt; leads(rt.alloc(), *row)?);
     }
     Ok(())
 }
+
+/// Rows with foster parenting.
+pub(crate) const FOSTERED: &[Row<'static>] = &[
+    (
+        &[
+            Step::Element("table"),
+            Step::FosteredListed("a"),
+            Step::Text("1"),
+            Step::Element("p"),
+            Step::Text("2"),
+            Step::FosteredAdopt("a"),
+        ],
+        "<html><body><a>1</a><p><a>2</a></p><table></table></body></html>",
+        &["html", "body", "table", "p"],
+        &[],
+        1,
+    ),
+    (
+        &[
+            Step::Element("table"),
+            Step::FosteredListed("a"),
+            Step::Text("1"),
+            Step::Element("p"),
+            Step::Text("2"),
+            Step::Adopt("a"),
+        ],
+        "<html><body><a>1</a><table><p><a>2</a></p></table></body></html>",
+        &["html", "body", "table", "p"],
+        &[],
+        1,
+    ),
+    (
+        &[
+            Step::Element("template"),
+            Step::Listed("a"),
+            Step::Element("p"),
+            Step::FosteredAdopt("a"),
+        ],
+        "<html><body><template><a></a><p><a></a></p></template></body></html>",
+        &["html", "body", "template", "p"],
+        &[],
+        1,
+    ),
+];
 
 #[test]
 fn adopted_elements_are_fostered(rt: HostRuntime) -> Result<(), Fail> {
-    let rows: &[Row<'_>] = &[
-        (
-            &[
-                Step::Element("table"),
-                Step::FosteredListed("a"),
-                Step::Text("1"),
-                Step::Element("p"),
-                Step::Text("2"),
-                Step::FosteredAdopt("a"),
-            ],
-            "<html><body><a>1</a><p><a>2</a></p><table></table></body></html>",
-            &["html", "body", "table", "p"],
-            &[],
-            1,
-        ),
-        (
-            &[
-                Step::Element("table"),
-                Step::FosteredListed("a"),
-                Step::Text("1"),
-                Step::Element("p"),
-                Step::Text("2"),
-                Step::Adopt("a"),
-            ],
-            "<html><body><a>1</a><table><p><a>2</a></p></table></body></html>",
-            &["html", "body", "table", "p"],
-            &[],
-            1,
-        ),
-        (
-            &[
-                Step::Element("template"),
-                Step::Listed("a"),
-                Step::Element("p"),
-                Step::FosteredAdopt("a"),
-            ],
-            "<html><body><template><a></a><p><a></a></p></template></body></html>",
-            &["html", "body", "template", "p"],
-            &[],
-            1,
-        ),
-    ];
-    for row in rows {
+    for row in FOSTERED {
         assert!(rt; leads(rt.alloc(), *row)?);
     }
     Ok(())
 }
 
+/// Rows in which an `a` ends another.
+pub(crate) const ENDED_BY_A: &[Row<'static>] = &[
+    (
+        &[
+            Step::Listed("a"),
+            Step::Text("0"),
+            Step::Listed("b"),
+            Step::Text("1"),
+            Step::EndA,
+            Step::Reconstruct,
+            Step::Listed("a"),
+            Step::Text("2"),
+        ],
+        "<html><body><a>0<b>1</b></a><b><a>2</a></b></body></html>",
+        &["html", "body", "b", "a"],
+        &["b", "a"],
+        2,
+    ),
+    (
+        &[
+            Step::Listed("a"),
+            Step::Text("1"),
+            Step::Element("div"),
+            Step::Text("2"),
+            Step::EndA,
+            Step::Listed("a"),
+            Step::Text("3"),
+        ],
+        "<html><body><a>1</a><div><a>2</a><a>3</a></div></body></html>",
+        &["html", "body", "div", "a"],
+        &["a"],
+        2,
+    ),
+    (
+        &[
+            Step::Listed("a"),
+            Step::Element("table"),
+            Step::EndA,
+            Step::FosteredListed("a"),
+        ],
+        "<html><body><a><a></a><table></table></a></body></html>",
+        &["html", "body", "table", "a"],
+        &["a"],
+        2,
+    ),
+    (
+        &[
+            Step::Element("p"),
+            Step::Listed("a"),
+            Step::Text("1"),
+            Step::BackTo(TagSet::Body),
+            Step::EndA,
+        ],
+        "<html><body><p><a>1</a></p></body></html>",
+        &["html", "body"],
+        &[],
+        2,
+    ),
+    (
+        &[Step::Listed("a"), Step::Marker, Step::EndA],
+        "<html><body><a></a></body></html>",
+        &["html", "body", "a"],
+        &["a", "|"],
+        0,
+    ),
+    (
+        &[Step::Listed("b"), Step::EndA],
+        "<html><body><b></b></body></html>",
+        &["html", "body", "b"],
+        &["b"],
+        0,
+    ),
+];
+
 #[test]
 fn an_a_ends_where_another_begins(rt: HostRuntime) -> Result<(), Fail> {
-    let rows: &[Row<'_>] = &[
-        (
-            &[
-                Step::Listed("a"),
-                Step::Text("0"),
-                Step::Listed("b"),
-                Step::Text("1"),
-                Step::EndA,
-                Step::Reconstruct,
-                Step::Listed("a"),
-                Step::Text("2"),
-            ],
-            "<html><body><a>0<b>1</b></a><b><a>2</a></b></body></html>",
-            &["html", "body", "b", "a"],
-            &["b", "a"],
-            2,
-        ),
-        (
-            &[
-                Step::Listed("a"),
-                Step::Text("1"),
-                Step::Element("div"),
-                Step::Text("2"),
-                Step::EndA,
-                Step::Listed("a"),
-                Step::Text("3"),
-            ],
-            "<html><body><a>1</a><div><a>2</a><a>3</a></div></body></html>",
-            &["html", "body", "div", "a"],
-            &["a"],
-            2,
-        ),
-        (
-            &[
-                Step::Listed("a"),
-                Step::Element("table"),
-                Step::EndA,
-                Step::FosteredListed("a"),
-            ],
-            "<html><body><a><a></a><table></table></a></body></html>",
-            &["html", "body", "table", "a"],
-            &["a"],
-            2,
-        ),
-        (
-            &[
-                Step::Element("p"),
-                Step::Listed("a"),
-                Step::Text("1"),
-                Step::BackTo(TagSet::Body),
-                Step::EndA,
-            ],
-            "<html><body><p><a>1</a></p></body></html>",
-            &["html", "body"],
-            &[],
-            2,
-        ),
-        (
-            &[Step::Listed("a"), Step::Marker, Step::EndA],
-            "<html><body><a></a></body></html>",
-            &["html", "body", "a"],
-            &["a", "|"],
-            0,
-        ),
-        (
-            &[Step::Listed("b"), Step::EndA],
-            "<html><body><b></b></body></html>",
-            &["html", "body", "b"],
-            &["b"],
-            0,
-        ),
-    ];
-    for row in rows {
+    for row in ENDED_BY_A {
         assert!(rt; leads(rt.alloc(), *row)?);
     }
     Ok(())

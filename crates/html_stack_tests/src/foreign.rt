@@ -4,7 +4,7 @@ ghost use Rattle.markup.specs.Forest.{IsNode};
 ghost use Rattle.html_rules_laws.specs.Soundness.{IsStanding};
 ghost use Rattle.html_stack.specs.Inserting.{context_of};
 
-use crate::inserting::{attribute, insert, started, tag};
+use crate::inserting::{attribute, insert, insert_template, started, tag};
 use html_forest::{Forest, ForestNode, NodeId};
 use html_serialize::{SerializeOpts, serialize};
 use html_stack::{ElementClass, ElementName, OpenElement, Stack, TokenShape};
@@ -335,21 +335,6 @@ fn end_tags_close_foreign_elements(rt: HostRuntime) -> Result<(), Fail> {
     Ok(())
 }
 
-// A template with this mode of a shadow root, and text in it.
-fn insert_template(
-    alloc: Global,
-    forest: &mut Forest,
-    stack: &mut Stack<Forest>,
-    mode: &str,
-) -> Result<(), ParseFault>
-    requires { IsStanding forest.old stack.old.open_elems stack.old.active_formatting }
-{
-    let tag = tag(alloc, "template", attribute(alloc, "shadowrootmode", mode)?)?;
-    let class = ElementClass::html(&tag.name);
-    stack.insert_template(forest, None, class, tag, false, None)?;
-    stack.append_text(forest, Text::from_str(alloc, "a")?, false)
-}
-
 #[test]
 fn templates_are_inserted(rt: HostRuntime) -> Result<(), Fail> {
     let rows: &[(&[Opened<'_>], &str, &str)] = &[
@@ -378,6 +363,7 @@ fn templates_are_inserted(rt: HostRuntime) -> Result<(), Fail> {
         let (mut forest, mut stack) = built(rt.alloc(), elements)?;
         insert_template(rt.alloc(), &mut forest, &mut stack, mode)?;
         assert_eq!(rt; stack.open_elems().len(), elements.len() + 2);
+        stack.append_text(&mut forest, Text::from_str(rt.alloc(), "a")?, false)?;
         let id = forest.get_document();
         let mut writer = MemWriter::new(rt.alloc(), 1_000, usize::MAX, None, false)?;
         let node = ForestNode {

@@ -16,7 +16,7 @@ use std::test::Fail;
 
 // A call of the stack.
 #[derive(Clone, Copy)]
-enum Call<'a> {
+pub(crate) enum Call<'a> {
     // The element of a tag, opened.
     Element(&'a str),
     // The same with foster parenting.
@@ -40,6 +40,8 @@ enum Call<'a> {
     Svg(&'a str),
     ClosedSvg(&'a str),
     Foreign(&'a str),
+    // A template with this mode of a shadow root.
+    Template(&'a str),
     // Attributes for the root and for the body.
     RootAttribute(&'a str),
     BodyAttribute(&'a str),
@@ -156,6 +158,21 @@ fn insert_foreign(
     }
 }
 
+// A template with this mode of a shadow root.
+pub(crate) fn insert_template(
+    alloc: Global,
+    forest: &mut Forest,
+    stack: &mut Stack<Forest>,
+    mode: &str,
+) -> Result<(), ParseFault>
+    requires { IsStanding forest.old stack.old.open_elems stack.old.active_formatting }
+    ensures { IsStanding forest.new stack.new.open_elems stack.new.active_formatting }
+{
+    let tag = tag(alloc, "template", attribute(alloc, "shadowrootmode", mode)?)?;
+    let class = ElementClass::html(&tag.name);
+    stack.insert_template(forest, None, class, tag, false, None)
+}
+
 // Back to an element of a set.
 pub(crate) fn back_to(_forest: &Forest, stack: &mut Stack<Forest>, set: TagSet)
     requires { IsStanding _forest.now stack.old.open_elems stack.old.active_formatting }
@@ -184,7 +201,7 @@ fn put_doctype(
 }
 
 // One call.
-fn make(
+pub(crate) fn make(
     alloc: Global,
     forest: &mut Forest,
     stack: &mut Stack<Forest>,
@@ -202,6 +219,7 @@ fn make(
         Call::Svg(name) => insert_foreign(alloc, forest, stack, name, true, false),
         Call::ClosedSvg(name) => insert_foreign(alloc, forest, stack, name, true, true),
         Call::Foreign(name) => insert_foreign(alloc, forest, stack, name, false, false),
+        Call::Template(mode) => insert_template(alloc, forest, stack, mode),
         Call::Doctype(name) => put_doctype(alloc, forest, stack, name),
         Call::RemoveBody => {
             stack.remove_body(forest);
@@ -250,145 +268,160 @@ fn made(alloc: Global, calls: &[Call<'_>]) -> Result<(Forest, Stack<Forest>), Pa
     Ok((forest, stack))
 }
 
+/// Calls behind the root, and what is written then.
+pub(crate) const ROWS: &[(&[Call<'static>], &str)] = &[
+    (&[], "<html></html>"),
+    (
+        &[
+            Call::Element("body"),
+            Call::Element("p"),
+            Call::Text("a"),
+            Call::Text("b"),
+        ],
+        "<html><body><p>ab</p></body></html>",
+    ),
+    (
+        &[
+            Call::Phantom("body"),
+            Call::Void("br"),
+            Call::Text("x"),
+            Call::Comment("c"),
+        ],
+        "<html><body><br>x<!--c--></body></html>",
+    ),
+    (
+        &[
+            Call::Element("body"),
+            Call::ToRoot("r"),
+            Call::ToDocument("d"),
+            Call::Doctype("html"),
+        ],
+        "<html><body></body><!--r--></html><!--d--><!DOCTYPE html>",
+    ),
+    (
+        &[
+            Call::Element("body"),
+            Call::Element("table"),
+            Call::FosteredText("x"),
+            Call::Text("y"),
+        ],
+        "<html><body>x<table>y</table></body></html>",
+    ),
+    (
+        &[
+            Call::Element("body"),
+            Call::Element("table"),
+            Call::Element("tbody"),
+            Call::Element("tr"),
+            Call::Fostered("b"),
+            Call::FosteredText("x"),
+        ],
+        "<html><body><b>x</b><table><tbody><tr></tr></tbody></table></body></html>",
+    ),
+    (
+        &[
+            Call::Element("body"),
+            Call::Element("table"),
+            Call::Element("td"),
+            Call::FosteredText("x"),
+        ],
+        "<html><body><table><td>x</td></table></body></html>",
+    ),
+    (
+        &[
+            Call::Element("body"),
+            Call::Element("template"),
+            Call::Text("x"),
+        ],
+        "<html><body><template>x</template></body></html>",
+    ),
+    (
+        &[
+            Call::Element("table"),
+            Call::Element("template"),
+            Call::Element("tr"),
+            Call::FosteredText("x"),
+        ],
+        "<html><table><template><tr></tr>x</template></table></html>",
+    ),
+    (
+        &[
+            Call::Element("body"),
+            Call::Loose("table"),
+            Call::FosteredText("x"),
+        ],
+        "<html><body>x</body></html>",
+    ),
+    (
+        &[
+            Call::Element("body"),
+            Call::Element("tbody"),
+            Call::FosteredText("x"),
+        ],
+        "<html><body><tbody></tbody></body>x</html>",
+    ),
+    (
+        &[
+            Call::Element("body"),
+            Call::RootAttribute("a"),
+            Call::BodyAttribute("b"),
+            Call::BodyAttribute("b"),
+        ],
+        "<html a=\"1\"><body b=\"1\"></body></html>",
+    ),
+    (
+        &[
+            Call::Element("head"),
+            Call::BodyAttribute("b"),
+            Call::RemoveBody,
+        ],
+        "<html><head></head></html>",
+    ),
+    (
+        &[
+            Call::Element("body"),
+            Call::Text("a"),
+            Call::RemoveBody,
+            Call::Element("frameset"),
+        ],
+        "<html><frameset></frameset></html>",
+    ),
+    (
+        &[
+            Call::Svg("svg"),
+            Call::ClosedSvg("circle"),
+            Call::Foreign("foreignobject"),
+            Call::Text("a"),
+        ],
+        "<html><svg viewBox=\"0\"><circle viewBox=\"0\"></circle><foreignObject viewBox=\"0\">a</foreignObject></svg></html>",
+    ),
+    (
+        &[
+            Call::Element("body"),
+            Call::Svg("svg"),
+            Call::BackTo(TagSet::Body),
+            Call::Foreign("foreignobject"),
+        ],
+        "<html><body><svg viewBox=\"0\"></svg><foreignobject viewbox=\"0\"></foreignobject></body></html>",
+    ),
+    (
+        &[Call::Template("open"), Call::Text("a")],
+        "<html><template shadowrootmode=\"open\">a</template></html>",
+    ),
+    (
+        &[
+            Call::Element("body"),
+            Call::Template("closed"),
+            Call::Element("p"),
+            Call::Text("a"),
+        ],
+        "<html><body><template shadowrootmode=\"closed\"><p>a</p></template></body></html>",
+    ),
+];
+
 #[test]
 fn nodes_are_put_where_they_belong(rt: HostRuntime) -> Result<(), Fail> {
-    let rows: &[(&[Call<'_>], &str)] = &[
-        (&[], "<html></html>"),
-        (
-            &[
-                Call::Element("body"),
-                Call::Element("p"),
-                Call::Text("a"),
-                Call::Text("b"),
-            ],
-            "<html><body><p>ab</p></body></html>",
-        ),
-        (
-            &[
-                Call::Phantom("body"),
-                Call::Void("br"),
-                Call::Text("x"),
-                Call::Comment("c"),
-            ],
-            "<html><body><br>x<!--c--></body></html>",
-        ),
-        (
-            &[
-                Call::Element("body"),
-                Call::ToRoot("r"),
-                Call::ToDocument("d"),
-                Call::Doctype("html"),
-            ],
-            "<html><body></body><!--r--></html><!--d--><!DOCTYPE html>",
-        ),
-        (
-            &[
-                Call::Element("body"),
-                Call::Element("table"),
-                Call::FosteredText("x"),
-                Call::Text("y"),
-            ],
-            "<html><body>x<table>y</table></body></html>",
-        ),
-        (
-            &[
-                Call::Element("body"),
-                Call::Element("table"),
-                Call::Element("tbody"),
-                Call::Element("tr"),
-                Call::Fostered("b"),
-                Call::FosteredText("x"),
-            ],
-            "<html><body><b>x</b><table><tbody><tr></tr></tbody></table></body></html>",
-        ),
-        (
-            &[
-                Call::Element("body"),
-                Call::Element("table"),
-                Call::Element("td"),
-                Call::FosteredText("x"),
-            ],
-            "<html><body><table><td>x</td></table></body></html>",
-        ),
-        (
-            &[
-                Call::Element("body"),
-                Call::Element("template"),
-                Call::Text("x"),
-            ],
-            "<html><body><template>x</template></body></html>",
-        ),
-        (
-            &[
-                Call::Element("table"),
-                Call::Element("template"),
-                Call::Element("tr"),
-                Call::FosteredText("x"),
-            ],
-            "<html><table><template><tr></tr>x</template></table></html>",
-        ),
-        (
-            &[
-                Call::Element("body"),
-                Call::Loose("table"),
-                Call::FosteredText("x"),
-            ],
-            "<html><body>x</body></html>",
-        ),
-        (
-            &[
-                Call::Element("body"),
-                Call::Element("tbody"),
-                Call::FosteredText("x"),
-            ],
-            "<html><body><tbody></tbody></body>x</html>",
-        ),
-        (
-            &[
-                Call::Element("body"),
-                Call::RootAttribute("a"),
-                Call::BodyAttribute("b"),
-                Call::BodyAttribute("b"),
-            ],
-            "<html a=\"1\"><body b=\"1\"></body></html>",
-        ),
-        (
-            &[
-                Call::Element("head"),
-                Call::BodyAttribute("b"),
-                Call::RemoveBody,
-            ],
-            "<html><head></head></html>",
-        ),
-        (
-            &[
-                Call::Element("body"),
-                Call::Text("a"),
-                Call::RemoveBody,
-                Call::Element("frameset"),
-            ],
-            "<html><frameset></frameset></html>",
-        ),
-        (
-            &[
-                Call::Svg("svg"),
-                Call::ClosedSvg("circle"),
-                Call::Foreign("foreignobject"),
-                Call::Text("a"),
-            ],
-            "<html><svg viewBox=\"0\"><circle viewBox=\"0\"></circle><foreignObject viewBox=\"0\">a</foreignObject></svg></html>",
-        ),
-        (
-            &[
-                Call::Element("body"),
-                Call::Svg("svg"),
-                Call::BackTo(TagSet::Body),
-                Call::Foreign("foreignobject"),
-            ],
-            "<html><body><svg viewBox=\"0\"></svg><foreignobject viewbox=\"0\"></foreignobject></body></html>",
-        ),
-    ];
-    for (calls, want) in rows {
+    for (calls, want) in ROWS {
         let (mut forest, _stack) = made(rt.alloc(), calls)?;
         let id = forest.get_document();
         let mut writer = MemWriter::new(rt.alloc(), 1_000, usize::MAX, None, false)?;

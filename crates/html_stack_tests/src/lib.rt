@@ -18,4 +18,6 @@ mod formatting;
 #[cfg(test)]
 mod inserting;
 #[cfg(test)]
+mod memory;
+#[cfg(test)]
 mod stack;

@@ -2,7 +2,7 @@
 
 use html_forest::Forest;
 use html_stack::{
-    ElementClass, ElementName, FormatEntry, InsertionMode, OpenElement, Stack, TagSet,
+    ElementClass, ElementName, FormatEntry, InsertionMode, NewElement, OpenElement, Stack, TagSet,
 };
 use html_tokens::{Tag, TagKind};
 use markup::{
@@ -311,6 +311,32 @@ fn the_end_of_the_body_is_checked(rt: HostRuntime) -> Result<(), Fail> {
         let stack = opened(rt.alloc(), &mut forest, names)?;
         stack.check_body_end(&mut forest);
         assert_eq!(rt; forest.error_count(), *errors);
+    }
+    Ok(())
+}
+
+// What an end tag leaves open, and how many errors there are, where one element that stands nowhere is open.
+fn ended(alloc: Global, open: &str, end: &str) -> Result<(usize, u64), ParseFault> {
+    let mut forest = Forest::new(alloc)?;
+    let mut stack = Stack::new(alloc);
+    let name = LocalName::from_str(alloc, open)?;
+    let element = NewElement::html(name, Attributes::new(alloc));
+    stack.open_element(&mut forest, element)?;
+    let end = LocalName::from_str(alloc, end)?;
+    stack.any_other_end_tag(&mut forest, ElementClass::html(&end), &end);
+    Ok((stack.open_elems().len(), forest.error_count()))
+}
+
+#[test]
+fn end_tags_are_dropped_where_nothing_special_is_open(rt: HostRuntime) -> Result<(), Fail> {
+    let rows: &[(&str, &str, (usize, u64))] = &[
+        ("b", "b", (0, 0)),
+        ("b", "i", (1, 1)),
+        ("option", "option", (0, 0)),
+        ("my-tag", "option", (1, 1)),
+    ];
+    for (open, end, want) in rows {
+        assert!(rt; ended(rt.alloc(), open, end)? == *want);
     }
     Ok(())
 }

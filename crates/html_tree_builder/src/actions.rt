@@ -8,3 +8,4 @@ mod leaving;
 mod modes;
 mod pending;
 mod pointers;
+mod scripts;

@@ -20,6 +20,10 @@ mod framesets;
 #[cfg(test)]
 mod heads;
 #[cfg(test)]
+mod hooks;
+#[cfg(test)]
+mod listing;
+#[cfg(test)]
 mod memory;
 #[cfg(test)]
 mod reading;

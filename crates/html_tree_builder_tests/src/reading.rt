@@ -81,7 +81,7 @@ pub(crate) fn feed_piece<S: TokenSink>(
 }
 
 /// Reads these pieces and their end, and hands out the sink.
-fn read_over<S: TokenSink + Drop>(
+pub(crate) fn read_over<S: TokenSink + Drop>(
     alloc: Global,
     sink: S,
     exact_errors: bool,

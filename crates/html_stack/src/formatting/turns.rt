@@ -87,8 +87,8 @@ fn tell_unless_current<Sink: TreeSink>(
     }
 }
 
-/// A turn whose formatting element is open and in scope; whether another turn follows. The tag of the formatting element is copied, where
-/// there is a furthest block.
+/// A turn whose formatting element is open and in scope; whether another turn follows. Where there is a furthest block, the tag of the
+/// formatting element is copied, and the sink is told that the element has left the stack.
 fn turn_open<Sink: TreeSink>(
     alloc: Global,
     sink: &mut Sink,
@@ -126,6 +126,7 @@ fn turn_open<Sink: TreeSink>(
         tag,
         foster,
     )?;
+    sink.pop(&formatting.node);
     Ok(true)
 }
 

@@ -56,6 +56,16 @@ fn tell_owner<Sink: TreeSink>(
     sink.associate_with_form(made, &form, (&node, previous.as_ref()));
 }
 
+/// Tells the sink of a script that has started.
+fn tell_started<Sink: TreeSink>(sink: &mut Sink, made: &Sink::Handle, already_started: bool)
+    requires { IsNode (Sink.forest sink.old) (Sink.node made.now) }
+    ensures { Sink.forest sink.new ≡ Sink.forest sink.old }
+{
+    if already_started {
+        sink.mark_script_already_started(made);
+    }
+}
+
 /// Makes an element and puts it at a place.
 fn put_element<Sink: TreeSink>(
     sink: &mut Sink,
@@ -73,7 +83,9 @@ fn put_element<Sink: TreeSink>(
     ensures grows { node_count (Sink.forest sink.old) ≤ node_count (Sink.forest sink.new) }
     ensures fault { IfErr result (λ fault. fault ≡ Memory) }
 {
+    let already_started = element.already_started;
     let made = element.create(sink)?;
+    tell_started(sink, &made, already_started);
     tell_owner(sink, &made, owner, point);
     insert_at(sink, point, NodeOrText::AppendNode(made))?;
     Ok(made)
@@ -169,6 +181,27 @@ impl<Sink: TreeSink> Stack<Sink> {
     {
         let element = NewElement::for_tag(class, tag);
         self.insert_element(sink, PushFlag::Push, element, foster, form)
+    }
+
+    /// The same for a script in a fragment: the sink is told that it has started, before it is put, so that it is never run (HTML Standard,
+    /// section 13.2.6.4.4).
+    pub fn insert_started_script(
+        &mut self,
+        sink: &mut Sink,
+        class: ElementClass,
+        tag: Tag,
+        foster: bool,
+    ) -> Result<Sink::Handle, ParseFault>
+        requires class { IsClassOf Html tag.name class }
+        requires standing { IsStanding (Sink.forest sink.old) self.old.open_elems self.old.active_formatting }
+        ensures named { IfOk result (λ made. Sink.node made ≡ node_count (Sink.forest sink.old)) }
+        ensures ok { OnOk result ((s : State) → s.foster_parenting ≡ foster → joined s self.new (Sink.forest sink.new) ≡ insert_element_for tag (joined s self.old (Sink.forest sink.old))) }
+        ensures kept { IsStanding (Sink.forest sink.new) self.new.open_elems self.new.active_formatting }
+        ensures grows { node_count (Sink.forest sink.old) ≤ node_count (Sink.forest sink.new) }
+        ensures fault { IfErr result (λ fault. fault ≡ Memory) }
+    {
+        let element = NewElement::started_script(class, tag);
+        self.insert_element(sink, PushFlag::Push, element, foster, None)
     }
 
     /// The same without opening it ("insert an HTML element" and "immediately pop the current node off the stack").

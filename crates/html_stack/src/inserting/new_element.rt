@@ -25,6 +25,8 @@ pub struct NewElement {
     pub attrs: Attributes,
     /// Whether the tag named an attribute twice.
     pub had_duplicate_attributes: bool,
+    /// Whether it is a script that has started, so that it is never run.
+    pub already_started: bool,
 }
 
 impl NewElement {
@@ -40,7 +42,19 @@ impl NewElement {
             class,
             attrs: tag.attrs,
             had_duplicate_attributes: tag.had_duplicate_attributes,
+            already_started: false,
         }
+    }
+
+    /// The same for the tag of a script that is told of as started.
+    pub(crate) fn started_script(class: ElementClass, tag: Tag) -> NewElement
+        requires { IsClassOf Html tag.name class }
+        ensures of { IsFor Html tag.name tag.attrs tag.had_duplicate_attributes result }
+        ensures is { IsNew result }
+    {
+        let mut element = NewElement::for_tag(class, tag);
+        element.already_started = true;
+        element
     }
 
     /// An HTML element with these attributes, none of which a tag named twice. Its name is looked up.
@@ -55,6 +69,7 @@ impl NewElement {
             class,
             attrs,
             had_duplicate_attributes: false,
+            already_started: false,
         }
     }
 
@@ -82,6 +97,7 @@ impl NewElement {
             class,
             attrs,
             had_duplicate_attributes,
+            ..
         } = self;
         let flags = creating::flags_of(class, attrs.as_slice(), had_duplicate_attributes);
         sink.create_element(QualName::new(None, namespace, name), attrs, flags)

@@ -75,7 +75,7 @@ impl<Sink: TreeSink> Construction<Sink> {
                 }
             }
             Action::ParseError => self.tell_unexpected(sink, told),
-            Action::InsertElement => self.insert_element(sink, told)?,
+            Action::InsertElement => self.insert_element_or_script(sink, told)?,
             Action::InsertVoid => self.insert_void(sink, told)?,
             Action::InsertVoidAs(name) => self.insert_void_as(sink, *name, told)?,
             Action::InsertFormVoid => self.insert_form_void(sink, told)?,
@@ -92,7 +92,7 @@ impl<Sink: TreeSink> Construction<Sink> {
             Action::AddAttributesToRoot => self.add_attributes_to_root(sink, told)?,
             Action::AddAttributesToBody => self.add_attributes_to_body(sink, told)?,
             Action::RemoveBody => self.remove_body(sink),
-            Action::Pop => self.pop_but_root(sink),
+            Action::Pop => self.pop_told(sink, told),
             Action::PopUntil(set) => self.pop_until(*set),
             Action::ClearBackTo(set) => self.clear_back_to(*set),
             Action::Close(set) => self.close_in(sink, *set),
@@ -139,7 +139,7 @@ impl<Sink: TreeSink> Construction<Sink> {
             Action::TellPendingText => self.tell_pending_text(sink)?,
             Action::EnterForeign(namespace) => self.enter_foreign(sink, *namespace, told)?,
             Action::InsertForeign => self.insert_foreign(sink, told)?,
-            Action::PopForeign => self.pop_foreign(),
+            Action::PopForeign => self.pop_foreign(sink),
             Action::CloseForeign => self.close_foreign(told.name),
         }
         Ok(())

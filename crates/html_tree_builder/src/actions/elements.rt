@@ -279,7 +279,7 @@ impl<Sink: TreeSink> Construction<Sink> {
         requires stands { Stands (Sink.forest sink.old) self.old }
         ensures { (a : Answers) → state_of a self.new (Sink.forest sink.new) ≡ process_end_tag_in_body name.now (state_of a self.old (Sink.forest sink.old)) }
     {
-        self.stack.process_end_tag_in_body(sink, class, name);
+        self.stack.any_other_end_tag(sink, class, name);
     }
 
     /// An error, if something is open that may not be where the body ends.

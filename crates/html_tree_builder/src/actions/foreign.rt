@@ -145,9 +145,10 @@ impl<Sink: TreeSink> Construction<Sink> {
 
     /// Elements are popped until foreign content ends.
     #[tactic(auto, unfolding(html_rules::specs::ForeignContent::pop_foreign, html_rules::specs::Stack::pop_until_current))]
-    pub(crate) fn pop_foreign(&mut self)
-        ensures { (a : Answers) (f : Forest) → state_of a self.new f ≡ pop_foreign (state_of a self.old f) }
+    pub(crate) fn pop_foreign(&mut self, sink: &mut Sink)
+        requires stands { Stands (Sink.forest sink.old) self.old }
+        ensures { (a : Answers) → state_of a self.new (Sink.forest sink.new) ≡ pop_foreign (state_of a self.old (Sink.forest sink.old)) }
     {
-        self.stack.pop_foreign();
+        self.stack.pop_foreign(sink);
     }
 }

@@ -1,4 +1,6 @@
-use Rattle.std.proofs.Common.{◌≡◌, ◌∙◌, ◌+◌, Some, None, get_or, length, sym, ap, subst}
+use Rattle.std.proofs.Common.{◌≡◌, ◌∙◌, ◌+◌, Some, None, get_or, length, sym, ap, subst, arith}
+use Rattle.markup.specs.Forest.{IsNode}
+use Rattle.html_rules_laws.specs.Soundness.{IsStanding}
 use Rattle.std.specs.Prelude.{slice_range}
 use Rattle.html_rules.specs.Adoption.{furthest_block, listed_as, opened_after}
 use Rattle.html_rules.specs.Formatting.{Listed}
@@ -9,7 +11,7 @@ use Rattle.html_stack.specs.declared.entries.FormatEntry.TheVariants.{Marker}
 use Rattle.html_stack.proofs.Adopted.{before-place}
 use Rattle.html_stack.proofs.Agencies.{after-is, any-of, block-place, number-place, rest-is, same-tag, told-stands, turn-adopt, turn-cut}
 use Rattle.html_stack.proofs.Results.{on-err}
-use Rattle.html_stack.proofs.StackEdits.{newest-open}
+use Rattle.html_stack.proofs.StackEdits.{newest-open, open-node}
 use Rattle.html_stack.proofs.formatting.turns.turn_open.Goals as goal
 
 pub returns-in_default-clause-ok : goal.returns-in_default-clause-ok
@@ -71,6 +73,19 @@ adopt-requires-clause-turn g c d =
       block = rw number block;
     }
 
+pub pop-requires : goal.pop-requires
+pop-requires g c =
+    let node = g.Sink.TreeSink.node in
+    let n = node c.args.formatting.node in
+    let f = g.Sink.TreeSink.forest c.args.sink.now in
+    let h = g.Sink.TreeSink.forest c.tell_unless_current.new.sink in
+    let xs = c.args.elements.now.items in
+    let es = entries_of node c.args.entries.now.items in
+    let told_is : h ≡ told n (opens_of node xs) f = rw c.as_slice.ensures.value at c.tell_unless_current.ensures in
+    let standing : IsStanding h (opens_of node xs) es = rw told_is (told-stands n f (opens_of node xs) es c.requires.standing) in
+    let before : IsNode h n = open-node h n (opens_of node xs) standing.opened (newest-open node n xs c.args.from c.requires.opened) in
+    omega (arith, before, c.in_ok-adopt.ensures.grows)
+
 pub returns-clause-ok : goal.returns-clause-ok
 returns-clause-ok g c =
     let node = g.Sink.TreeSink.node in
@@ -89,9 +104,10 @@ returns-clause-ok g c =
     let said : IsTagAt items c.args.formatting.place (Some c.in-Some-2.tag) = subst (IsTagAt items c.args.formatting.place) c.in-Some-2.is (rw c.as_slice-3.ensures.value at c.in_ok-tag.ensures.tag) in
     let tag_is = same-tag said.0 c.args.formatting.node c.in-Some-2.tag c.requires.listed.0 (get_or items c.args.formatting.place Marker) said.1 c.requires.listed.1.entry in
     let block = open_of node (get_or xs (c.args.from + 1 + c.in-Some.block) d) in
-    turn-adopt c.args.foster f (g.Sink.TreeSink.forest c.adopt.new.sink) (opens_of node xs) (opens_of node c.adopt.new.elements.items) es (entries_of node c.adopt.new.entries.items) fe block
+    rw c.pop.ensures
+    (turn-adopt c.args.foster f (g.Sink.TreeSink.forest c.adopt.new.sink) (opens_of node xs) (opens_of node c.adopt.new.elements.items) es (entries_of node c.adopt.new.entries.items) fe block
     c.requires.listed.1.newest (newest-open node n xs c.args.from is) c.requires.scope some
     (λ s on. c.in_ok-adopt.ensures.ok s d on
     ∙ ap (λ h. turned (with_all s h (opens_of node xs) es) (record { number = node (get_or xs c.args.from d).handle; tag = c.in-Some-2.tag }) block) told_is
     ∙ ap (λ k. turned (with_all s (told n (opens_of node xs) f) (opens_of node xs) es) (record { number = k; tag = c.in-Some-2.tag }) block) number
-    ∙ ap (λ t. turned (with_all s (told n (opens_of node xs) f) (opens_of node xs) es) (record { number = n; tag = t }) block) tag_is)
+    ∙ ap (λ t. turned (with_all s (told n (opens_of node xs) f) (opens_of node xs) es) (record { number = n; tag = t }) block) tag_is))

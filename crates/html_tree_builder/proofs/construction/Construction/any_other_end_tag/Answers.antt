@@ -6,4 +6,4 @@ pub returns : goal.returns
 returns g c = λ a.
     rw (← c.self.view_is)
     (let s = state_of a (left_of c.self.view_is) (g.Sink.TreeSink.forest c.args.sink.now) in
-    c.process_end_tag_in_body.ensures s)
+    c.any_other_end_tag.ensures s)

@@ -1,0 +1,5 @@
+use Rattle.html_rules_laws.specs.Soundness.{IsStanding}
+use Rattle.html_stack_tests.proofs.memory.take_all.Given as goal
+
+abbrev pub invariant-loop-step : goal.invariant-loop-step
+invariant-loop-step g l = IsStanding l.forest l.stack.open_elems l.stack.active_formatting

@@ -1,0 +1,74 @@
+//! Scripts that are never run: those of fragments, and one that the end of the input cuts off (HTML Standard, sections 13.2.6.4.4 and 13.2.6.4.8).
+ghost use Rattle.std.specs.Prelude.{◌≡◌, OnOk, IfErr};
+ghost use Rattle.markup.specs.declared.fault.ParseFault.TheVariants.{Memory};
+ghost use Rattle.html_rules.specs.Actions.{for_tag};
+ghost use Rattle.html_rules.specs.Places.{insert_element_for};
+ghost use Rattle.html_rules.specs.Stack.{pop_but_root};
+ghost use Rattle.html_rules.specs.State.{Answers};
+ghost use Rattle.html_tree_builder.specs.States.{Stands, state_of};
+ghost use Rattle.html_tree_builder.specs.Told.{IsTold, token_of};
+
+use crate::construction::Construction;
+use crate::told::{Content, Told};
+use html_rules::{InsertionMode, TagSet};
+use markup::{ParseFault, TreeSink};
+
+impl<Sink: TreeSink> Construction<Sink> {
+    /// The script of a tag is inserted, and the sink is told before that it has started.
+    fn insert_started_script(&mut self, sink: &mut Sink, told: Told<'_>) -> Result<(), ParseFault>
+        requires told { IsTold told }
+        requires stands { Stands (Sink.forest sink.old) self.old }
+        ensures ok { OnOk result ((a : Answers) → state_of a self.new (Sink.forest sink.new) ≡ for_tag insert_element_for (token_of told.entry.content) (state_of a self.old (Sink.forest sink.old))) }
+        ensures fault { IfErr result (λ fault. fault ≡ Memory) }
+    {
+        let Content::Tag(tag) = told.content else {
+            return Ok(());
+        };
+        let tag = tag.copy(self.alloc)?;
+        self.stack
+            .insert_started_script(sink, told.class, tag, self.foster_parenting)?;
+        Ok(())
+    }
+
+    /// An element is inserted for a tag; in a fragment a script has started.
+    pub(crate) fn insert_element_or_script(
+        &mut self,
+        sink: &mut Sink,
+        told: Told<'_>,
+    ) -> Result<(), ParseFault>
+        requires told { IsTold told }
+        requires stands { Stands (Sink.forest sink.old) self.old }
+        ensures ok { OnOk result ((a : Answers) → state_of a self.new (Sink.forest sink.new) ≡ for_tag insert_element_for (token_of told.entry.content) (state_of a self.old (Sink.forest sink.old))) }
+        ensures fault { IfErr result (λ fault. fault ≡ Memory) }
+    {
+        if told.class.is_in(TagSet::Script) && self.is_fragment() {
+            return self.insert_started_script(sink, told);
+        }
+        self.insert_element(sink, told)
+    }
+
+    /// Whether the input ends within the text of an element.
+    fn cuts_off_text(&self, told: Told<'_>) -> bool {
+        matches!(told.content, Content::EndOfFile) && matches!(self.mode, InsertionMode::Text)
+    }
+
+    /// Tells the sink of a script that the end of the input cuts off.
+    fn tell_cut_off_script(&self, sink: &mut Sink, told: Told<'_>)
+        requires stands { Stands (Sink.forest sink.old) self.now }
+        ensures { Sink.forest sink.new ≡ Sink.forest sink.old }
+    {
+        if self.cuts_off_text(told) {
+            self.stack.tell_cut_off_script(sink);
+        }
+    }
+
+    /// The current node is popped, unless it is the root. Where it is a script that the end of the input cuts off, the sink is told before that
+    /// it has started.
+    pub(crate) fn pop_told(&mut self, sink: &mut Sink, told: Told<'_>)
+        requires stands { Stands (Sink.forest sink.old) self.old }
+        ensures { (a : Answers) → state_of a self.new (Sink.forest sink.new) ≡ pop_but_root (state_of a self.old (Sink.forest sink.old)) }
+    {
+        self.tell_cut_off_script(sink, told);
+        self.pop_but_root(sink);
+    }
+}
