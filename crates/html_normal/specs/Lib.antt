@@ -1,11 +1,6 @@
-pub mod Body
-pub mod Cut
+pub mod Document
+pub mod Faults
 pub mod Lines
 pub mod Normal
-pub mod Program
-pub mod Reading
-pub mod Rows
-pub mod Spelled
+pub mod Parsing
 pub mod Status
-pub mod Thin
-pub mod Tree

@@ -1,58 +1,66 @@
 -- What a normalisation writes and tells.
-use Rattle.std.specs.Prelude.{◌≡◌, ℕ, ◌≤◌, Bool, true, false, List, [], length, take, Option, Some, None, Result, Err, IsUtf8, encode_utf8_all, ◌⊎◌}
+use Rattle.std.specs.Prelude.{◌≡◌, ℕ, ◌≤◌, ◌^◌, Bool, true, false, List, [], ◌++◌, length, take, Option, Some, Result, Err, ◌⊎◌}
 use Rattle.std.specs.Io.KnownBytes.{append_known}
-use Rattle.std.specs.Str.{chars}
-use Rattle.markup.specs.declared.quirks.QuirksMode.TheVariants.{NoQuirks}
-use Rattle.html_normal.specs.Reading.{HasBegun, ShowsNotUtf8}
-use Rattle.html_normal.specs.Thin.{Piece, document_of, pieces_of, unmatched}
-use Rattle.html_normal.specs.Tree.{written}
+use Rattle.devices.specs.Devices.{count_after}
+use Rattle.markup.specs.Forest.{Forest}
+use Rattle.html_input.specs.Reading.{HasBegun, ShowsNotUtf8}
+use Rattle.html_plain.specs.Grammar.{is_plain_forest}
+use Rattle.html_tokens.specs.Table.{Row}
+use Rattle.html_normal.specs.Document.{IsDocument, document_bytes}
 use Rattle.html_normal.specs.declared.fault.NormalFault.{NormalFault}
-use Rattle.html_normal.specs.declared.fault.NormalFault.TheVariants.{NotUtf8, Read, Write, Memory, Refused, NotYet}
+use Rattle.html_normal.specs.declared.fault.NormalFault.TheVariants.{NotUtf8, Read, Write, Memory, Refused}
 use Rattle.html_normal.specs.declared.report.Report.{Report}
 
--- the bytes that a thin document is written as
-abbrev pub normal_bytes : List Piece → List ℕ
-normal_bytes pieces = encode_utf8_all (written (document_of pieces))
-
--- what is told of a thin document: it is plain, and each end tag that finds no open paragraph is a parse error
-abbrev pub report_of : List Piece → Report
-report_of pieces = record { plain = true; quirks = NoQuirks; errors = unmatched false pieces }
-
--- The input is a thin text, of these pieces.
-pub record IsThin (whole : List ℕ) (pieces : List Piece) : Type 0 where
-  pub text : IsUtf8 whole
-  pub thin : pieces_of (chars whole) ≡ Some pieces
+-- All of the input was read, and this is its document.
+pub record IsRead (table : List Row) (whole : List ℕ) (left : Option (List ℕ)) (document : Forest) : Type 0 where
+  pub input : IsDocument table whole document
+  pub taken : left ≡ Some []
 
 -- All of the input was read, its document was written behind what was written before, and the report is of that document.
-pub record IsNormalised (whole : List ℕ) (left old new : Option (List ℕ)) (report : Report) : Type 0 where
-  pub pieces : List Piece
-  pub input : IsThin whole pieces
+pub record IsNormalised (table : List Row) (whole : List ℕ) (left old new : Option (List ℕ)) (report : Report) : Type 0 where
+  pub document : Forest
+  pub input : IsDocument table whole document
   pub taken : left ≡ Some []
-  pub output : new ≡ append_known old (normal_bytes pieces)
-  pub told : report ≡ report_of pieces
-
--- The input is UTF-8 and was read to its end, but is not thin.
-pub record IsNotThin (whole : List ℕ) (left : Option (List ℕ)) : Type 0 where
-  pub text : IsUtf8 whole
-  pub other : pieces_of (chars whole) ≡ None
-  pub taken : left ≡ Some []
+  pub output : new ≡ append_known old (document_bytes document)
+  pub plain : report.plain ≡ is_plain_forest document
+  pub quirks : report.quirks ≡ document.quirks
 
 -- A beginning of the document was written.
-pub record IsBegun (whole : List ℕ) (old new : Option (List ℕ)) : Type 0 where
-  pub pieces : List Piece
-  pub input : IsThin whole pieces
+pub record IsBegun (table : List Row) (whole : List ℕ) (old new : Option (List ℕ)) : Type 0 where
+  pub document : Forest
+  pub input : IsDocument table whole document
   pub count : ℕ
-  pub within : count ≤ length (normal_bytes pieces)
-  pub output : new ≡ append_known old (take count (normal_bytes pieces))
+  pub within : count ≤ length (document_bytes document)
+  pub output : new ≡ append_known old (take count (document_bytes document))
+
+-- More bytes were read than can be counted.
+pub record IsTooLong (whole left : List ℕ) : Type 0 where
+  pub read : List ℕ
+  pub moved : whole ≡ read ++ left
+  pub long : 2 ^ 64 ≤ length read
+
+-- What a fault of reading says of the bytes of the input that were left before and are left now; what it says of a refused token
+-- is given.
+abbrev pub IsInputFault : Type 0 → (old new : Option (List ℕ)) → NormalFault → Type 0
+IsInputFault refused old new (NotUtf8 at) = (whole left : List ℕ) → old ≡ Some whole → new ≡ Some left → ShowsNotUtf8 whole left at
+IsInputFault refused old new Read = (whole left : List ℕ) → old ≡ Some whole → new ≡ Some left → HasBegun whole left ⊎ IsTooLong whole left
+IsInputFault refused old new Write = ⊥
+IsInputFault refused old new Memory = Unit {0}
+IsInputFault refused old new Refused = refused
 
 -- What a fault says of the bytes of the input that were left before and are left now, and of those written before and now.
-abbrev pub IsFailed : (left left' : Option (List ℕ)) (old new : Option (List ℕ)) → NormalFault → Type 0
-IsFailed left left' old new (NotUtf8 at) = (new ≡ old) × ((whole rest : List ℕ) → left ≡ Some whole → left' ≡ Some rest → ShowsNotUtf8 whole rest at)
-IsFailed left left' old new Read = (new ≡ old) × ((whole rest : List ℕ) → left ≡ Some whole → left' ≡ Some rest → HasBegun whole rest)
-IsFailed left left' old new Write = (whole : List ℕ) → left ≡ Some whole → IsBegun whole old new
-IsFailed left left' old new Memory = (new ≡ old) ⊎ ((whole : List ℕ) → left ≡ Some whole → IsBegun whole old new)
-IsFailed left left' old new Refused = ⊥
-IsFailed left left' old new NotYet = (new ≡ old) × ((whole : List ℕ) → left ≡ Some whole → IsNotThin whole left')
+abbrev pub IsFailed : List Row → (left left' old new : Option (List ℕ)) → NormalFault → Type 0
+IsFailed table left left' old new (NotUtf8 at) = (new ≡ old) × ((whole rest : List ℕ) → left ≡ Some whole → left' ≡ Some rest → ShowsNotUtf8 whole rest at)
+IsFailed table left left' old new Read = (new ≡ old) × ((whole rest : List ℕ) → left ≡ Some whole → left' ≡ Some rest → HasBegun whole rest ⊎ IsTooLong whole rest)
+IsFailed table left left' old new Write = (whole : List ℕ) → left ≡ Some whole → IsBegun table whole old new
+IsFailed table left left' old new Memory = (new ≡ old) ⊎ ((whole : List ℕ) → left ≡ Some whole → IsBegun table whole old new)
+IsFailed table left left' old new Refused = ⊥
+
+-- How often a reader has failed, by how often it had: once more where it is told that reading failed, unless the input is too long.
+abbrev pub CountsReads : {T : Type 0} → Result T NormalFault → (left left' : Option (List ℕ)) (failures failures' : Option ℕ) → Type 0
+CountsReads (Err Read) left left' failures failures' =
+    (failures' ≡ count_after true failures) ⊎ ((failures' ≡ failures) × ((whole rest : List ℕ) → left ≡ Some whole → left' ≡ Some rest → IsTooLong whole rest))
+CountsReads result left left' failures failures' = failures' ≡ failures
 
 -- Whether the writer failed.
 abbrev pub is_write_fault : {T : Type 0} → Result T NormalFault → Bool

@@ -1,8 +1,11 @@
 //! Why a document was not normalised.
 ghost use Rattle.std.specs.Prelude.{◌≡◌};
 ghost use Rattle.html_normal.specs.Status.{status_of};
+ghost use Rattle.html_normal.specs.Faults.{fault_of, input_fault_of, write_fault_of};
 ghost use Rattle.html_normal.specs.declared.fault.NormalFault.TheVariants.{Memory};
 
+use html_input::TextFault;
+use markup::{ParseFault, SerializeFault};
 use std::alloc::AllocError;
 use std::error::Error;
 use std::fmt;
@@ -12,16 +15,14 @@ use std::fmt;
 pub enum NormalFault {
     /// The input is not UTF-8; its longest front that is takes `at` bytes.
     NotUtf8 { at: u64 },
-    /// The input could not be read.
+    /// The input could not be read, or has more than `u64::MAX` bytes.
     Read,
     /// The text could not be written to its end.
     Write,
     /// There was not enough memory.
     Memory,
-    /// The tree builder refused a token.
+    /// The tree builder refused a token. No text leads to this.
     Refused,
-    /// The text is not one of those that this parser reads so far.
-    NotYet,
 }
 
 impl From<AllocError> for NormalFault {
@@ -29,6 +30,45 @@ impl From<AllocError> for NormalFault {
 
     fn from(_error: AllocError) -> NormalFault {
         NormalFault::Memory
+    }
+}
+
+impl From<TextFault> for NormalFault {
+    ghost from_gives = { λ fault made. made ≡ input_fault_of fault };
+
+    fn from(fault: TextFault) -> NormalFault {
+        match fault {
+            TextFault::NotUtf8 { at } => NormalFault::NotUtf8 { at },
+            TextFault::Read => NormalFault::Read,
+            TextFault::Memory => NormalFault::Memory,
+        }
+    }
+}
+
+/// What fails behind want of memory fails for want of memory.
+impl From<ParseFault> for NormalFault {
+    ghost from_gives = { λ fault made. made ≡ fault_of fault };
+
+    fn from(fault: ParseFault) -> NormalFault {
+        match fault {
+            ParseFault::Memory | ParseFault::Failed => NormalFault::Memory,
+            ParseFault::TokenInText | ParseFault::Ended | ParseFault::Shape => NormalFault::Refused,
+        }
+    }
+}
+
+/// Of a serializer that writes a tree only `Memory` and `Write` come.
+impl From<SerializeFault> for NormalFault {
+    ghost from_gives = { λ fault made. made ≡ write_fault_of fault };
+
+    fn from(fault: SerializeFault) -> NormalFault {
+        match fault {
+            SerializeFault::Memory => NormalFault::Memory,
+            SerializeFault::Write
+            | SerializeFault::NoParent
+            | SerializeFault::NoElemInfo
+            | SerializeFault::Failed => NormalFault::Write,
+        }
     }
 }
 
@@ -46,7 +86,6 @@ impl fmt::Display for NormalFault {
             NormalFault::Write => write!(f, "fault: write"),
             NormalFault::Memory => write!(f, "fault: memory"),
             NormalFault::Refused => write!(f, "fault: refused"),
-            NormalFault::NotYet => write!(f, "fault: not yet"),
         }
     }
 }
@@ -62,7 +101,7 @@ impl NormalFault {
             NormalFault::NotUtf8 { .. } => 1,
             NormalFault::Read | NormalFault::Write => 3,
             NormalFault::Memory => 4,
-            NormalFault::Refused | NormalFault::NotYet => 5,
+            NormalFault::Refused => 5,
         }
     }
 }

@@ -1,15 +1,10 @@
-//! What the program `html_normal` does, for the words behind its name.
-ghost use Rattle.std.specs.Prelude.{◌≡◌, ℕ, List, Some, IfOk, IfErr, []};
-ghost use Rattle.devices.specs.Devices.{count_after};
-ghost use Rattle.html_normal.specs.Normal.{IsNormalised};
-ghost use Rattle.html_normal.specs.Program.{IsProgramFailed, is_program_read_fault, is_program_write_fault, program_status_of};
+//! Why the program `html_normal` ends without a document, for its line and its status.
+ghost use Rattle.std.specs.Prelude.{◌≡◌};
+ghost use Rattle.html_normal.specs.Status.{program_status_of};
 
 use crate::fault::NormalFault;
-use crate::report::{Exact, Report};
-use crate::whole::normalise;
-use devices::{Source, Target};
-use html_references::References;
-use std::alloc::Global;
+use html_input::TableFileFault;
+use html_references::TableFault;
 use std::error::Error;
 use std::fmt;
 
@@ -18,20 +13,62 @@ use std::fmt;
 pub enum ProgramFault {
     /// More than one word stands behind the program's name.
     Usage,
+    /// The file with the table of references has none.
+    Table(TableFileFault),
     /// The document was not normalised.
     Normal(NormalFault),
+}
+
+impl From<NormalFault> for ProgramFault {
+    ghost use Rattle.html_normal.specs.declared.program.ProgramFault.TheVariants.{Normal};
+
+    ghost from_gives = { λ fault made. made ≡ Normal fault };
+
+    fn from(fault: NormalFault) -> ProgramFault {
+        ProgramFault::Normal(fault)
+    }
+}
+
+impl From<TableFileFault> for ProgramFault {
+    ghost use Rattle.html_normal.specs.declared.program.ProgramFault.TheVariants.{Table};
+
+    ghost from_gives = { λ fault made. made ≡ Table fault };
+
+    fn from(fault: TableFileFault) -> ProgramFault {
+        ProgramFault::Table(fault)
+    }
 }
 
 /// The program's line on standard error.
 impl fmt::Display for ProgramFault {
     ghost use Rattle.std.specs.Prelude.{Some};
-    ghost use Rattle.html_normal.specs.Program.{program_line};
+    ghost use Rattle.html_normal.specs.Lines.{program_line};
 
     ghost output = { λ fault. Some (program_line fault) };
 
     fn fmt<W: fmt::Write>(&self, f: &mut fmt::Formatter<W>) -> fmt::Result {
         match self {
             ProgramFault::Usage => write!(f, "fault: usage: html_normal [TABLE]"),
+            ProgramFault::Table(TableFileFault::NotUtf8 { at }) => {
+                write!(f, "fault: table: not UTF-8 at byte {at}")
+            }
+            ProgramFault::Table(TableFileFault::BadLine(line)) => {
+                write!(f, "fault: table: line {line}")
+            }
+            ProgramFault::Table(TableFileFault::Table(TableFault::BadName(row))) => {
+                write!(f, "fault: table: name {row}")
+            }
+            ProgramFault::Table(TableFileFault::Table(TableFault::Duplicate(row))) => {
+                write!(f, "fault: table: duplicate {row}")
+            }
+            ProgramFault::Table(TableFileFault::Table(TableFault::BadValue(row))) => {
+                write!(f, "fault: table: value {row}")
+            }
+            ProgramFault::Table(TableFileFault::Table(TableFault::Memory)) => {
+                write!(f, "fault: memory")
+            }
+            ProgramFault::Table(TableFileFault::Read) => write!(f, "fault: read"),
+            ProgramFault::Table(TableFileFault::Memory) => write!(f, "fault: memory"),
             ProgramFault::Normal(fault) => write!(f, "{fault}"),
         }
     }
@@ -46,38 +83,11 @@ impl ProgramFault {
     {
         match self {
             ProgramFault::Usage => 2,
+            ProgramFault::Table(TableFileFault::Read) => 3,
+            ProgramFault::Table(TableFileFault::Memory)
+            | ProgramFault::Table(TableFileFault::Table(TableFault::Memory)) => 4,
+            ProgramFault::Table(_) => 2,
             ProgramFault::Normal(fault) => fault.status(),
         }
-    }
-}
-
-/// Runs the program: normalises what `reader` has, with all options default.
-///
-/// A word names a file with a table of references, which is not read so far: the answer is `NotYet`.
-pub fn run<R: Source, W: Target>(
-    alloc: Global,
-    words: &[String],
-    reader: &mut R,
-    writer: &mut W,
-) -> Result<Report, ProgramFault>
-    ensures no_word { IfOk result (λ report. words.now ≡ []) }
-    ensures ok { IfOk result (λ report. (whole : List ℕ) → R.left reader.old ≡ Some whole
-        → IsNormalised whole (R.left reader.new) (W.written writer.old) (W.written writer.new) report) }
-    ensures err { IfErr result (IsProgramFailed words.now (R.left reader.old) (R.left reader.new) (W.written writer.old) (W.written writer.new)) }
-    ensures read_failures { R.failures reader.new ≡ count_after (is_program_read_fault result) (R.failures reader.old) }
-    ensures write_failures { W.failures writer.new ≡ count_after (is_program_write_fault result) (W.failures writer.old) }
-{
-    match words {
-        [] => {
-            let Ok(five) = References::five(alloc) else {
-                return Err(ProgramFault::Normal(NormalFault::Memory));
-            };
-            match normalise(alloc, reader, writer, five, Exact::default()) {
-                Ok(report) => Ok(report),
-                Err(fault) => Err(ProgramFault::Normal(fault)),
-            }
-        }
-        [_] => Err(ProgramFault::Normal(NormalFault::NotYet)),
-        _ => Err(ProgramFault::Usage),
     }
 }

@@ -1,17 +1,16 @@
 //! From bytes to bytes.
 ghost use Rattle.std.specs.Prelude.{◌≡◌, ℕ, List, Some, IfOk, IfErr};
 ghost use Rattle.devices.specs.Devices.{count_after};
-ghost use Rattle.html_normal.specs.Normal.{IsFailed, IsNormalised, is_write_fault};
-ghost use Rattle.html_normal.specs.Reading.{is_read_fault};
+ghost use Rattle.html_normal.specs.Normal.{CountsReads, IsFailed, IsNormalised, is_write_fault};
 
+use crate::document::read_document;
 use crate::fault::NormalFault;
-use crate::read::read_text;
 use crate::report::{Exact, Report};
-use crate::thin::parse::parse;
-use crate::thin::write::write;
-use devices::{Source, Target, write_whole};
+use devices::{Source, Target};
+use html_forest::ForestNode;
 use html_references::References;
-use markup::QuirksMode;
+use html_serialize::{SerializeOpts, serialize};
+use markup::TreeSink;
 use std::alloc::Global;
 
 /// Reads an HTML document to its end, and writes its normal text.
@@ -26,26 +25,24 @@ pub fn normalise<R: Source, W: Target>(
     exact: Exact,
 ) -> Result<Report, NormalFault>
     ensures ok { IfOk result (λ report. (whole : List ℕ) → R.left reader.old ≡ Some whole
-        → IsNormalised whole (R.left reader.new) (W.written writer.old) (W.written writer.new) report) }
-    ensures err { IfErr result (IsFailed (R.left reader.old) (R.left reader.new) (W.written writer.old) (W.written writer.new)) }
-    ensures read_failures { R.failures reader.new ≡ count_after (is_read_fault result) (R.failures reader.old) }
+        → IsNormalised references whole (R.left reader.new) (W.written writer.old) (W.written writer.new) report) }
+    ensures err { IfErr result (IsFailed references (R.left reader.old) (R.left reader.new) (W.written writer.old) (W.written writer.new)) }
+    ensures read_failures { CountsReads result (R.left reader.old) (R.left reader.new) (R.failures reader.old) (R.failures reader.new) }
     ensures write_failures { W.failures writer.new ≡ count_after (is_write_fault result) (W.failures writer.old) }
     ensures same_reader { R.references reader.new ≡ R.references reader.old }
     ensures same_writer { W.references writer.new ≡ W.references writer.old }
 {
-    // No thin text has a reference, and none has an error that depends on a switch.
-    let _ = (references, exact);
-    let text = read_text(alloc, reader)?;
-    let Some(body) = parse(alloc, text.as_str())? else {
-        return Err(NormalFault::NotYet);
+    let mut forest = read_document(alloc, reader, references, exact)?;
+    let plain = forest.is_plain()?;
+    let id = forest.get_document();
+    let node = ForestNode {
+        forest: &forest,
+        id,
     };
-    let written = write(alloc, body.nodes.as_slice())?;
-    let Ok(()) = write_whole(writer, written.as_bytes()) else {
-        return Err(NormalFault::Write);
-    };
+    serialize(alloc, writer, &node, SerializeOpts::default())?;
     Ok(Report {
-        plain: true,
-        quirks: QuirksMode::NoQuirks,
-        errors: body.errors,
+        plain,
+        quirks: forest.quirks(),
+        errors: forest.error_count(),
     })
 }

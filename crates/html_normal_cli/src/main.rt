@@ -2,11 +2,15 @@
 #![tactic(auto)]
 
 ghost use Rattle.std.specs.Prelude.{◌≡◌, MatchResult};
-ghost use Rattle.html_normal.specs.Program.{program_status_of};
+ghost use Rattle.html_normal.specs.Status.{program_status_of};
 
 use devices::{StdSource, StdTarget};
-use html_normal::{NormalFault, ProgramFault, Report, run};
+use html_normal::{
+    Exact, NormalFault, ProgramFault, References, Report, TableFileFault, normalise, read_table,
+};
 use std::env;
+use std::fs::File;
+use std::io::BufWriter;
 use std::process::ExitCode;
 
 // The words behind the program's name.
@@ -23,11 +27,40 @@ fn words(rt: &HostRuntime) -> Result<Vec<String>, ProgramFault> {
     Ok(words)
 }
 
+// The table of references in the file that a word names, or else the five that a written text needs.
+fn table(rt: &HostRuntime, words: &[String]) -> Result<References, ProgramFault> {
+    match words {
+        [] => {
+            let Ok(five) = References::five(rt.alloc()) else {
+                return Err(ProgramFault::Normal(NormalFault::Memory));
+            };
+            Ok(five)
+        }
+        [path] => {
+            let Ok(file) = File::open(rt, path.as_str()) else {
+                return Err(ProgramFault::Table(TableFileFault::Read));
+            };
+            Ok(read_table(rt.alloc(), &mut StdSource::new(file))?)
+        }
+        _ => Err(ProgramFault::Usage),
+    }
+}
+
 fn normalised(rt: &HostRuntime) -> Result<Report, ProgramFault> {
     let words = words(rt)?;
+    let table = table(rt, words.as_slice())?;
     let mut reader = StdSource::new(rt.stdin());
-    let mut writer = StdTarget::new(rt.stdout());
-    let report = run(rt.alloc(), words.as_slice(), &mut reader, &mut writer)?;
+    let Ok(buffer) = BufWriter::new(rt.alloc(), rt.stdout()) else {
+        return Err(ProgramFault::Normal(NormalFault::Memory));
+    };
+    let mut writer = StdTarget::new(buffer);
+    let report = normalise(
+        rt.alloc(),
+        &mut reader,
+        &mut writer,
+        table,
+        Exact::default(),
+    )?;
     let Ok(()) = writer.flush() else {
         return Err(ProgramFault::Normal(NormalFault::Write));
     };

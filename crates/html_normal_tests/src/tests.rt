@@ -2,9 +2,13 @@
 ghost use Rattle.std.specs.Prelude.{◌<◌};
 
 use devices::{MemReader, MemWriter};
-use html_normal::{Exact, NormalFault, ProgramFault, References, Report, normalise, run};
+use html_normal::{
+    Exact, NormalFault, ProgramFault, References, Report, TableFault, TableFileFault, normalise,
+    read_table,
+};
 use markup::QuirksMode;
 use std::alloc::{AllocError, Global};
+use std::process::Abort;
 use std::test::Fail;
 
 // How a document is read and written.
@@ -21,6 +25,15 @@ struct Devices {
 const WHOLE: Devices = Devices {
     read: 4096,
     write: 4096,
+    read_fails: None,
+    write_fails: None,
+    zero: false,
+    room: 1000,
+};
+
+const BY_SEVENS: Devices = Devices {
+    read: 7,
+    write: 7,
     read_fails: None,
     write_fails: None,
     zero: false,
@@ -62,68 +75,153 @@ fn normal(alloc: Global, bytes: &[u8], on: &Devices, exact: Exact) -> Result<Out
     Ok(Outcome { answer, written })
 }
 
+/// Each setting of the switches for errors.
+const SWITCHES: &[(bool, bool)] = &[(false, false), (true, false), (false, true), (true, true)];
+
+/// What is told of a document: whether it is plain, its quirks mode, and whether errors are.
+type Told = (bool, QuirksMode, bool);
+
+const GOOD: Told = (true, QuirksMode::NoQuirks, false);
+
+const BAD: Told = (true, QuirksMode::NoQuirks, true);
+
+const PLAIN_NOT: Told = (false, QuirksMode::NoQuirks, false);
+
+const PLAIN_NOT_BAD: Told = (false, QuirksMode::NoQuirks, true);
+
+const QUIRKS: Told = (false, QuirksMode::Quirks, true);
+
+/// Sees that a document is written so, in whatever pieces it comes, and with whatever errors are told.
+fn assert_row(
+    rt: &impl Abort,
+    alloc: Global,
+    input: &str,
+    written: &str,
+    told: Told,
+) -> Result<(), AllocError> {
+    let (plain, quirks, errors) = told;
+    for on in [WHOLE, BY_BYTE, BY_SEVENS] {
+        for &(tokenizer, tree_builder) in SWITCHES {
+            let exact = Exact {
+                tokenizer,
+                tree_builder,
+            };
+            let seen = normal(alloc, input.as_bytes(), &on, exact)?;
+            assert!(rt; seen.written.as_slice() == written.as_bytes(), "{input}");
+            let Ok(report) = seen.answer else {
+                return Err(AllocError);
+            };
+            assert_eq!(rt; report.plain, plain, "{input}");
+            assert_eq!(rt; report.quirks, quirks, "{input}");
+            assert_eq!(rt; report.errors > 0, errors, "{input}");
+        }
+    }
+    Ok(())
+}
+
+#[test]
+fn documents(rt: HostRuntime) -> Result<(), Fail> {
+    // all of the text, all that is written, and what is told
+    let rows: &[(&str, &str, Told)] = &[
+        ("", "<html><head></head><body></body></html>", QUIRKS),
+        (
+            "<p>1<b>2<i>3</b>4</i>5</p>",
+            "<html><head></head><body><p>1<b>2<i>3</i></b><i>4</i>5</p></body></html>",
+            QUIRKS,
+        ),
+        (
+            "<!DOCTYPE html><title>&lt;/title></title><a href=\"x&amp;y\">z",
+            "<!DOCTYPE html><html><head><title>&lt;/title&gt;</title></head><body><a href=\"x&amp;y\">z</a></body></html>",
+            BAD,
+        ),
+        (
+            "<!DOCTYPE html><template><p>a",
+            "<!DOCTYPE html><html><head><template><p>a</p></template></head><body></body></html>",
+            PLAIN_NOT_BAD,
+        ),
+        (
+            "<p>é",
+            "<html><head></head><body><p>é</p></body></html>",
+            QUIRKS,
+        ),
+        (
+            "<meta charset=\"UTF-8\" /><meta charset=\"UTF-8\" /> other stuff",
+            "<html><head><meta charset=\"UTF-8\"><meta charset=\"UTF-8\"> </head><body>other stuff</body></html>",
+            QUIRKS,
+        ),
+        (
+            "<!DOCTYPE html><frameset><frame></frameset>",
+            "<!DOCTYPE html><html><head></head><frameset><frame></frameset></html>",
+            PLAIN_NOT,
+        ),
+        (
+            "<!DOCTYPE html><b>",
+            "<!DOCTYPE html><html><head></head><body><b></b></body></html>",
+            BAD,
+        ),
+        (
+            "<!DOCTYPE html PUBLIC \"-//W3C//DTD XHTML 1.0 Frameset//\" \"\">",
+            "<!DOCTYPE html><html><head></head><body></body></html>",
+            (false, QuirksMode::LimitedQuirks, true),
+        ),
+    ];
+    for &(input, written, told) in rows {
+        assert_row(&rt, rt.alloc(), input, written, told)?;
+    }
+    Ok(())
+}
+
+#[test]
+fn bodies(rt: HostRuntime) -> Result<(), Fail> {
+    // behind the doctype, what is written in the body, and what is told
+    let rows: &[(&str, &str, Told)] = &[
+        ("<p>a<br>b", "<p>a<br>b</p>", GOOD),
+        ("<p>a<br>b</p></body></html>", "<p>a<br>b</p>", GOOD),
+        ("<b>1<p>2</b>3</p>", "<b>1</b><p><b>2</b>3</p>", BAD),
+        ("<p>a&amp;b\r\nc", "<p>a&amp;b\nc</p>", GOOD),
+        (
+            "<table>x<tr><td>y</table>",
+            "x<table><tbody><tr><td>y</td></tr></tbody></table>",
+            BAD,
+        ),
+        (
+            "<table> <tr> <td>1</td></tr></table>",
+            "<table> <tbody><tr> <td>1</td></tr></tbody></table>",
+            GOOD,
+        ),
+        ("<svg><![CDATA[a<b]]></svg>", "<svg>a&lt;b</svg>", PLAIN_NOT),
+        ("<pre>&#10x</pre>", "<pre>x</pre>", PLAIN_NOT_BAD),
+        ("<p>a\u{feff}b", "<p>a\u{feff}b</p>", GOOD),
+        (
+            "<p><b><b><b><b>x</b></b></b></b>",
+            "<p><b><b><b><b>x</b></b></b></b></p>",
+            GOOD,
+        ),
+        ("<p>&#13;", "<p>\r</p>", PLAIN_NOT_BAD),
+        ("<p>a\0b", "<p>ab</p>", BAD),
+        ("<p>a</p>", "<p>a</p>", GOOD),
+        ("", "", GOOD),
+        (" </p> a<p>b<p>c</p>d", "a<p>b</p><p>c</p>d", BAD),
+        ("a>b</p>", "a&gt;b<p></p>", BAD),
+        ("<p>é", "<p>é</p>", GOOD),
+        ("a\u{a0}b<p>\u{a0}>", "a&nbsp;b<p>&nbsp;&gt;</p>", GOOD),
+        ("<p> a</p> b ", "<p> a</p> b ", GOOD),
+        ("<p><p><p>", "<p></p><p></p><p></p>", GOOD),
+    ];
+    for &(text, body, told) in rows {
+        let input = format!(in rt.alloc(); "<!DOCTYPE html>{text}")?;
+        let written = format!(in rt.alloc(); "{FRONT}{body}{BACK}")?;
+        assert_row(&rt, rt.alloc(), input.as_str(), written.as_str(), told)?;
+    }
+    Ok(())
+}
+
 fn plain(errors: u64) -> Result<Report, NormalFault> {
     Ok(Report {
         plain: true,
         quirks: QuirksMode::NoQuirks,
         errors,
     })
-}
-
-#[test]
-fn documents(rt: HostRuntime) -> Result<(), Fail> {
-    // behind the doctype, what is written in the body, and the number of errors
-    for (text, body, errors) in [
-        ("<p>a</p>", "<p>a</p>", 0),
-        ("", "", 0),
-        (" </p> a<p>b<p>c</p>d", "a<p>b</p><p>c</p>d", 1),
-        ("a>b</p>", "a&gt;b<p></p>", 1),
-        ("<p>é", "<p>é</p>", 0),
-        ("\t\n\x0c </p></p>", "", 2),
-        ("<p></p></p></p>", "<p></p><p></p><p></p>", 2),
-        ("a\u{a0}b<p>\u{a0}>", "a&nbsp;b<p>&nbsp;&gt;</p>", 0),
-        ("<p> a</p> b ", "<p> a</p> b ", 0),
-        ("\u{feff}\u{1}x", "\u{feff}\u{1}x", 0),
-        ("<p><p><p>", "<p></p><p></p><p></p>", 0),
-    ] {
-        let input = format!(in rt.alloc(); "<!DOCTYPE html>{text}")?;
-        let want = format!(in rt.alloc(); "{FRONT}{body}{BACK}")?;
-        for on in [WHOLE, BY_BYTE] {
-            let exact = Exact {
-                tokenizer: on.read == 1,
-                tree_builder: on.read == 1,
-            };
-            let seen = normal(rt.alloc(), input.as_bytes(), &on, exact)?;
-            assert_eq!(&rt; seen.answer, plain(errors), "{text}");
-            assert_eq!(&rt; seen.written.as_slice(), want.as_bytes(), "{text}");
-        }
-    }
-    Ok(())
-}
-
-#[test]
-fn documents_of_other_kinds(rt: HostRuntime) -> Result<(), Fail> {
-    for text in [
-        "",
-        "<!DOCTYPE html><b>",
-        "<!doctype html>",
-        "<!DOCTYPE html",
-        "\u{feff}<!DOCTYPE html>",
-        "<!DOCTYPE html>a&amp;b",
-        "<!DOCTYPE html>a\rb",
-        "<!DOCTYPE html>a\0b",
-        "<!DOCTYPE html><p class=a>",
-        "<!DOCTYPE html><P>",
-        "<!DOCTYPE html></p >",
-        "<!DOCTYPE html>a<",
-    ] {
-        for on in [WHOLE, BY_BYTE] {
-            let seen = normal(rt.alloc(), text.as_bytes(), &on, Exact::default())?;
-            assert_eq!(&rt; seen.answer, Err(NormalFault::NotYet), "{text}");
-            assert_eq!(&rt; seen.written.len(), 0, "{text}");
-        }
-    }
-    Ok(())
 }
 
 #[test]
@@ -214,11 +312,11 @@ fn bytes_at_fault_are_told_before_a_failed_read(rt: HostRuntime) -> Result<(), F
 
 #[test]
 fn writers_that_fail(rt: HostRuntime) -> Result<(), Fail> {
-    // 55 bytes by tens: six writes
+    // a write or more for each tag and text, none of more than ten bytes
     let input = b"<!DOCTYPE html>a";
     let whole = format!(in rt.alloc(); "{FRONT}a{BACK}")?;
     for zero in [false, true] {
-        for fail_at in 1..8u64 {
+        for fail_at in 1..60u64 {
             let on = Devices {
                 write: 10,
                 write_fails: Some(fail_at),
@@ -226,23 +324,17 @@ fn writers_that_fail(rt: HostRuntime) -> Result<(), Fail> {
                 ..WHOLE
             };
             let seen = normal(rt.alloc(), input.as_slice(), &on, Exact::default())?;
-            let fails = fail_at < 7;
+            let written = seen.written.as_slice();
+            let fails = written.len() < whole.len();
             let want = if fails {
                 Err(NormalFault::Write)
             } else {
                 plain(0)
             };
             assert_eq!(&rt; seen.answer, want, "at {fail_at}");
-            let count = if fails {
-                (fail_at as usize - 1) * 10
-            } else {
-                whole.len()
-            };
-            assert_eq!(&rt; seen.written.len(), count, "at {fail_at}");
-            assert!(&rt;
-                whole.as_bytes().starts_with(seen.written.as_slice()),
-                "at {fail_at}"
-            );
+            assert!(&rt; whole.as_bytes().starts_with(written), "at {fail_at}");
+            assert!(&rt; fails || fail_at > 6, "at {fail_at}");
+            assert!(&rt; !fails || fail_at < 50, "at {fail_at}");
         }
     }
     let on = Devices { room: 20, ..WHOLE };
@@ -252,7 +344,7 @@ fn writers_that_fail(rt: HostRuntime) -> Result<(), Fail> {
     Ok(())
 }
 
-// With ample memory this is a document like any other; where one allocation is refused, nothing was written.
+// With ample memory this is a document like any other; where one allocation is refused, a beginning was written, or nothing.
 #[test]
 fn memory_that_is_refused(rt: HostRuntime) -> Result<(), Fail> {
     let input = b"<!DOCTYPE html> a<p>b</p></p>c";
@@ -261,7 +353,9 @@ fn memory_that_is_refused(rt: HostRuntime) -> Result<(), Fail> {
     };
     let refused = seen.answer == Err(NormalFault::Memory);
     assert!(&rt; refused || seen.answer == plain(1));
-    assert_eq!(&rt; seen.written.is_empty(), refused);
+    let whole = format!(in rt.alloc(); "{FRONT}a<p>b</p><p></p>c{BACK}")?;
+    assert!(&rt; whole.as_bytes().starts_with(seen.written.as_slice()));
+    assert_eq!(&rt; seen.written.len() < whole.len(), refused);
     Ok(())
 }
 
@@ -284,11 +378,6 @@ fn lines_and_statuses(rt: HostRuntime) -> Result<(), Fail> {
         (
             ProgramFault::Normal(NormalFault::Refused),
             "fault: refused",
-            5,
-        ),
-        (
-            ProgramFault::Normal(NormalFault::NotYet),
-            "fault: not yet",
             5,
         ),
     ] {
@@ -325,31 +414,122 @@ fn lines_and_statuses(rt: HostRuntime) -> Result<(), Fail> {
     Ok(())
 }
 
-// What the program answers for so many words.
-fn ran(alloc: Global, words: usize) -> Result<Result<Report, ProgramFault>, AllocError> {
-    let mut reader = MemReader::new(Vec::from_slice(alloc, b"<!DOCTYPE html>")?, 7, None);
-    let mut writer = MemWriter::new(alloc, 100, 9, None, false)?;
-    let mut given = Vec::new(alloc);
-    for _ in 0..words {
-        given.push(String::from_str(alloc, "table")?)?;
-    }
-    Ok(run(alloc, given.as_slice(), &mut reader, &mut writer))
+/// The table of a file.
+fn table(
+    alloc: Global,
+    file: &[u8],
+    on: &Devices,
+) -> Result<Result<References, TableFileFault>, AllocError> {
+    let mut reader = MemReader::new(Vec::from_slice(alloc, file)?, on.read.max(1), on.read_fails);
+    Ok(read_table(alloc, &mut reader))
 }
 
 #[test]
-fn words_of_the_program(rt: HostRuntime) -> Result<(), Fail> {
-    let report = Report {
-        plain: true,
-        quirks: QuirksMode::NoQuirks,
-        errors: 0,
+fn tables_that_are_none(rt: HostRuntime) -> Result<(), Fail> {
+    // a file, and the program's line and status
+    let rows: &[(&[u8], &str, u8)] = &[
+        (b"x 41\nx 42", "fault: table: duplicate 2", 2),
+        (b"x D800", "fault: table: value 1", 2),
+        (b"x  41", "fault: table: line 1", 2),
+        (b"x 1234567", "fault: table: line 1", 2),
+        (b"\n", "fault: table: line 1", 2),
+        (b"x 41\n\nx 42", "fault: table: line 2", 2),
+        (b"x", "fault: table: line 1", 2),
+        (b"x ", "fault: table: line 1", 2),
+        (b" 41", "fault: table: line 1", 2),
+        (b"x 41 ", "fault: table: line 1", 2),
+        (b"x 41 42 43", "fault: table: line 1", 2),
+        (b"x +41", "fault: table: line 1", 2),
+        (b"x 41\r", "fault: table: line 1", 2),
+        (b"x 4g", "fault: table: line 1", 2),
+        (b"x 41\ny! 42\nz 0", "fault: table: name 2", 2),
+        (b"y! 42\nz", "fault: table: line 2", 2),
+        (b"x 41\n\xFF", "fault: table: not UTF-8 at byte 5", 2),
+        (b"x 41\n\xC3", "fault: table: not UTF-8 at byte 5", 2),
+    ];
+    for &(file, line, status) in rows {
+        for on in [WHOLE, BY_BYTE, BY_SEVENS] {
+            match table(rt.alloc(), file, &on)? {
+                Ok(_) => assert!(&rt; false, "{line}"),
+                Err(fault) => {
+                    let fault = ProgramFault::from(fault);
+                    assert_eq!(&rt; fault.to_string(rt.alloc())?.as_str(), line);
+                    assert_eq!(&rt; fault.status(), status, "{line}");
+                }
+            }
+        }
+    }
+    Ok(())
+}
+
+#[test]
+fn tables_of_files(rt: HostRuntime) -> Result<(), Fail> {
+    // a file, what stands behind the doctype, and what is written in the body
+    let rows: &[(&[u8], &str, &str)] = &[
+        (b"x 41 42", "&xy", "ABy"),
+        (b"x 41 42\n", "&xy", "ABy"),
+        (b"x; 000041\r\ny; 1F600\r\n", "&x;&y;", "A\u{1f600}"),
+        (b"x aB\n", "&x", "\u{ab}"),
+        (b"", "&amp;", "&amp;amp;"),
+    ];
+    for &(file, text, body) in rows {
+        for on in [WHOLE, BY_BYTE, BY_SEVENS] {
+            let Ok(references) = table(rt.alloc(), file, &on)? else {
+                return Err(AllocError.into());
+            };
+            let input = format!(in rt.alloc(); "<!DOCTYPE html>{text}")?;
+            let mut reader = MemReader::new(
+                Vec::from_slice(rt.alloc(), input.as_bytes())?,
+                on.read.max(1),
+                None,
+            );
+            let mut writer = MemWriter::new(rt.alloc(), 1000, on.write.max(1), None, false)?;
+            let answer = normalise(
+                rt.alloc(),
+                &mut reader,
+                &mut writer,
+                references,
+                Exact::default(),
+            );
+            let written = format!(in rt.alloc(); "{FRONT}{body}{BACK}")?;
+            assert!(&rt; writer.written() == written.as_bytes(), "{text}");
+            assert!(&rt; matches!(answer, Ok(report) if report.plain), "{text}");
+        }
+    }
+    Ok(())
+}
+
+#[test]
+fn tables_that_cannot_be_read(rt: HostRuntime) -> Result<(), Fail> {
+    let on = Devices {
+        read_fails: Some(1),
+        ..WHOLE
     };
-    for (words, want) in [
-        (0, Ok(report)),
-        (1, Err(ProgramFault::Normal(NormalFault::NotYet))),
-        (2, Err(ProgramFault::Usage)),
-        (3, Err(ProgramFault::Usage)),
-    ] {
-        assert_eq!(&rt; ran(rt.alloc(), words)?, want, "{words} words");
+    match table(rt.alloc(), b"x 41", &on)? {
+        Ok(_) => assert!(&rt; false),
+        Err(fault) => {
+            assert_eq!(&rt; fault, TableFileFault::Read);
+            assert_eq!(&rt; ProgramFault::from(fault).status(), 3);
+        }
+    }
+    Ok(())
+}
+
+#[test]
+fn lines_of_tables(rt: HostRuntime) -> Result<(), Fail> {
+    let rows: &[(TableFileFault, &str, u8)] = &[
+        (TableFileFault::Read, "fault: read", 3),
+        (TableFileFault::Memory, "fault: memory", 4),
+        (
+            TableFileFault::Table(TableFault::Memory),
+            "fault: memory",
+            4,
+        ),
+    ];
+    for &(fault, line, status) in rows {
+        let fault = ProgramFault::from(fault);
+        assert_eq!(&rt; fault.to_string(rt.alloc())?.as_str(), line);
+        assert_eq!(&rt; fault.status(), status, "{line}");
     }
     Ok(())
 }

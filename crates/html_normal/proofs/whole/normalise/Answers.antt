@@ -1,28 +1,34 @@
-use Rattle.std.proofs.Common.{◌∙◌, ◌≡◌, ap, encode_utf8_all}
-use Rattle.std.specs.Str.{chars}
-use Rattle.html_normal.specs.Body.{trees_before}
-use Rattle.html_normal.specs.Thin.{document_around}
-use Rattle.html_normal.specs.Tree.{Nothing, written}
-use Rattle.html_normal.proofs.Normals.{IsAll, all-read, made-of, normalised, begun}
+use Rattle.std.proofs.Common.{refl}
+use Rattle.std.proofs.lemmas.Result.{err_from_is_err_and}
+use Rattle.html_forest.specs.Walk.{walked}
+use Rattle.html_normal.specs.declared.report.Report.{Report}
+use Rattle.html_normal.proofs.Meanings.{normalised, reads-counted, write-failed, writes-counted}
 use Rattle.html_normal.proofs.whole.normalise.Goals as goal
 
-pub returns-in_default-write_whole-clause-err : goal.returns-in_default-write_whole-clause-err
-returns-in_default-write_whole-clause-err g c whole told =
-    let all = all-read _ _ _ whole c.in_ok-text.ensures.ok c.in_ok-text.ensures.end told in
-    let all' : IsAll c.as_str.result.now whole (g.R.Source.left c.read_text.new.reader) = record { same = c.as_str.ensures.value ∙ all.same; taken = all.taken } in
-    let body = rw c.in-Some.is at c.in_ok-body.ensures in
-    let of = made-of (chars c.as_str.result.now) c.in-Some.body.nodes.items c.in-Some.body.errors body in
-    let out : c.as_bytes.result.now ≡ encode_utf8_all (written (document_around (trees_before c.in-Some.body.nodes.items Nothing))) =
-    c.as_bytes.ensures.value ∙ c.in_ok-written.ensures ∙ ap (λ ns. encode_utf8_all (written (document_around (trees_before ns Nothing)))) c.as_slice.ensures.value in
-    let err = c.in_default-write_whole.ensures.err in
-    begun whole c.as_str.result.now c.as_bytes.result.now _ _ _ _ _ err.0 c.as_str.utf8 all' of out err.1 err.2
+pub returns-in_err-serialize-clause-err : goal.returns-in_err-serialize-clause-err
+returns-in_err-serialize-clause-err g c =
+    let p = err_from_is_err_and c.from_residual-in_err-serialize.result c.from_residual-in_err-serialize.ensures.1 in
+    let given = c.get_document-id in
+    let wrote = c.in_err-serialize.ensures.text (walked given.new.self given.result c.default.result.traversal_scope) refl in
+    rw (p.1, p.2)
+    (write-failed c.default.result given.new.self c.in_ok-forest.forest given.result c.default.ensures given.ensures.document given.ensures.same
+    given.ensures.is_forest.document_first _ c.in_err-serialize.field-0.0 _ _ _ _ c.in_ok-forest.ensures.ok wrote)
+
+pub returns-in_err-serialize-clause-read_failures : goal.returns-in_err-serialize-clause-read_failures
+returns-in_err-serialize-clause-read_failures g c =
+    let p = err_from_is_err_and c.from_residual-in_err-serialize.result c.from_residual-in_err-serialize.ensures.1 in
+    rw (p.1, p.2) (reads-counted Report c.in_err-serialize.field-0.0 _ _ _ _ c.in_ok-forest.ensures.counted)
+
+pub returns-in_err-serialize-clause-write_failures : goal.returns-in_err-serialize-clause-write_failures
+returns-in_err-serialize-clause-write_failures g c =
+    let p = err_from_is_err_and c.from_residual-in_err-serialize.result c.from_residual-in_err-serialize.ensures.1 in
+    let given = c.get_document-id in
+    let wrote = c.in_err-serialize.ensures.text (walked given.new.self given.result c.default.result.traversal_scope) refl in
+    rw (p.1, p.2) (writes-counted Report c.in_err-serialize.field-0.0 _ _ _ wrote)
 
 pub returns-clause-ok : goal.returns-clause-ok
 returns-clause-ok g c whole told =
-    let all = all-read _ _ _ whole c.in_ok-text.ensures.ok c.in_ok-text.ensures.end told in
-    let all' : IsAll c.as_str.result.now whole (g.R.Source.left c.read_text.new.reader) = record { same = c.as_str.ensures.value ∙ all.same; taken = all.taken } in
-    let body = rw c.in-Some.is at c.in_ok-body.ensures in
-    let of = made-of (chars c.as_str.result.now) c.in-Some.body.nodes.items c.in-Some.body.errors body in
-    let out : c.as_bytes.result.now ≡ encode_utf8_all (written (document_around (trees_before c.in-Some.body.nodes.items Nothing))) =
-    c.as_bytes.ensures.value ∙ c.in_ok-written.ensures ∙ ap (λ ns. encode_utf8_all (written (document_around (trees_before ns Nothing)))) c.as_slice.ensures.value in
-    normalised whole c.as_str.result.now c.as_bytes.result.now _ _ _ _ _ c.as_str.utf8 all' of out c.in-Ok.ensures.ok
+    let given = c.get_document-id in
+    let wrote = c.in_ok-serialize.ensures.text (walked given.new.self given.result c.default.result.traversal_scope) refl in
+    normalised c.default.result given.new.self c.in_ok-forest.forest given.result c.default.ensures given.ensures.document given.ensures.same
+    given.ensures.is_forest.document_first _ whole _ _ _ _ _ _ (c.in_ok-forest.ensures.ok whole told) wrote c.in_ok-plain.ensures.ok c.quirks.ensures

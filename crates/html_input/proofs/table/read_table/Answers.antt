@@ -1,0 +1,13 @@
+use Rattle.std.proofs.Common.{◌≡◌, List, ℕ, sym, subst}
+use Rattle.std.specs.Io.KnownBytes.{prepend_known}
+use Rattle.html_input.proofs.Whole.{row-fault}
+use Rattle.html_input.proofs.table.read_table.Goals as goal
+
+pub returns-clause-err : goal.returns-clause-err
+returns-clause-err g c =
+    let old = g.R.Source.left c.args.reader.now in
+    let new = g.R.Source.left c.read_text.new.reader in
+    let moved = subst (λ (bs : List ℕ). old ≡ prepend_known bs new) (sym c.as_str.ensures.value) c.in_ok-text.ensures.ok in
+    rw c.row_fault.ensures
+    (row-fault c.in-Err.fault old new c.as_str.result.now c.in_ok-rows.rows.items moved c.in_ok-text.ensures.end c.as_str.utf8 c.in_ok-rows.ensures.ok
+    c.in-Err.ensures.first)

@@ -1,0 +1,13 @@
+//! Texts and tables of references from the bytes of a source.
+#![tactic(auto)]
+
+mod fault;
+mod lines;
+mod read;
+mod split;
+mod table;
+
+pub use fault::TextFault;
+pub use read::{PIECE, read_text};
+pub use split::split_text;
+pub use table::{TableFileFault, read_table};

@@ -1,0 +1,172 @@
+-- What was read, parsed and written, as one.
+use Rattle.std.proofs.Common.{◌≡◌, ◌∙◌, ℕ, ◌≤◌, Bool, true, false, cond, List, [], ◌++◌, length, take, rules, sym, ap, subst, Option, Some, None, Result, Ok, Err, inl, inr, IsUtf8, encode_utf8_all}
+use Rattle.std.specs.Prelude.{IsErr, IsOk}
+use Rattle.std.specs.Io.KnownBytes.{IsAtEnd, append_known, prepend_known}
+use Rattle.std.specs.Str.{chars}
+use Rattle.std.proofs.lemmas.List.{append-nil}
+use Rattle.devices.specs.Devices.{count_after}
+use Rattle.markup.specs.Forest.{Forest, children_of, data_of, empty_forest, template_of}
+use Rattle.markup.specs.Forest.NodeData.{Document}
+use Rattle.markup.specs.TreeLaws.{with_errors}
+use Rattle.markup.specs.Trees.{default_entry, trees_of, written}
+use Rattle.markup.specs.declared.fault.ParseFault.{ParseFault}
+use Rattle.markup.specs.declared.fault.ParseFault.TheVariants as parse
+use Rattle.markup.specs.declared.quirks.QuirksMode.{QuirksMode}
+use Rattle.markup.specs.declared.serializer.SerializeFault.{SerializeFault}
+use Rattle.markup.specs.declared.serializer.SerializeFault.TheVariants as serial
+use Rattle.markup.specs.declared.serializer.TraversalScope.TheVariants.{ChildrenOnly}
+use Rattle.html_forest.specs.Walk.{walked}
+use Rattle.html_input.proofs.Whole.{all-read}
+use Rattle.html_parser.specs.Read.{Beginning, FailsBehind, HasRead, IsRefusedBehind, IsTaken, read_whole}
+use Rattle.html_plain.specs.Grammar.{is_plain_forest}
+use Rattle.html_rules.specs.Documents.{Setting, document}
+use Rattle.html_rules.specs.State.{State}
+use Rattle.html_serialize.specs.Puts.{Told, with_bytes}
+use Rattle.html_serialize.specs.Serializing.{Writes, bytes_in}
+use Rattle.html_serialize.specs.declared.opts.SerializeOpts.{SerializeOpts}
+use Rattle.html_tokens.specs.Table.{Row}
+use Rattle.html_tokens.specs.declared.options.TokenizerOpts.{TokenizerOpts}
+use Rattle.html_tokens.specs.declared.sink.TokenSink.{Ghosts}
+use Rattle.html_tokenizer.specs.declared.tokenizer.Tokenizer.{Tokenizer}
+use Rattle.html_normal.specs.Document.{default_opts, default_setting, document_bytes, document_of}
+use Rattle.html_normal.specs.Faults.{fault_of, write_fault_of}
+use Rattle.html_normal.specs.Normal.{CountsReads, IsBegun, IsFailed, IsInputFault, IsNormalised, IsRead, is_write_fault}
+use Rattle.html_normal.specs.declared.fault.NormalFault.{NormalFault}
+use Rattle.html_normal.specs.declared.fault.NormalFault.TheVariants.{NotUtf8, Read, Write, Memory, Refused}
+use Rattle.html_normal.specs.declared.report.Report.{Report}
+use Rattle.html_normal.proofs.SameTrees.{bytes-same, plain-same}
+
+-- READING
+
+ok-or-err : {A E : Type 0} (x : Result A E) → IsOk x → IsErr x → ⊥
+ok-or-err (Ok x) ok err = absurd (search rules)
+ok-or-err (Err e) ok err = absurd (search rules)
+
+-- where no text is refused, none was
+pub none-refused : {K H : Type 0} (Sink : Ghosts K H) (begin : Beginning Sink.State) (k : Tokenizer K) → HasRead Sink begin [] k → IsTaken Sink begin → ((b : Beginning Sink.State) (before : List ℕ) → HasRead Sink b before k → IsRefusedBehind Sink b before) → ⊥
+none-refused Sink begin k read taken refuses =
+    let there = refuses begin [] read in
+    ok-or-err (read_whole Sink begin there.behind) (taken there.behind) there.is
+
+pub not-refused : (refused : Type 0) (fault : NormalFault) (old new : Option (List ℕ)) → (refused → ⊥) → IsInputFault refused old new fault → IsInputFault ⊥ old new fault
+not-refused refused (NotUtf8 at) old new never is = is
+not-refused refused Read old new never is = is
+not-refused refused Write old new never is = is
+not-refused refused Memory old new never is = is
+not-refused refused Refused old new never is = never is
+
+-- a fault of the end
+pub finish-fault : {K H : Type 0} (Sink : Ghosts K H) (fault : ParseFault) (old new : Option (List ℕ)) (begin : Beginning Sink.State) (before : List ℕ) (k : Tokenizer K) → HasRead Sink begin before k → IsTaken Sink begin → FailsBehind Sink k fault
+    → IsInputFault ⊥ old new (fault_of fault)
+finish-fault Sink parse.Memory old new begin before k read taken fails = tt
+finish-fault Sink parse.Failed old new begin before k read taken fails = tt
+finish-fault Sink parse.TokenInText old new begin before k read taken fails = let there = fails tt begin before read in ok-or-err (read_whole Sink begin (before ++ there.behind)) (taken (before ++ there.behind)) there.is
+finish-fault Sink parse.Ended old new begin before k read taken fails = let there = fails tt begin before read in ok-or-err (read_whole Sink begin (before ++ there.behind)) (taken (before ++ there.behind)) there.is
+finish-fault Sink parse.Shape old new begin before k read taken fails = let there = fails tt begin before read in ok-or-err (read_whole Sink begin (before ++ there.behind)) (taken (before ++ there.behind)) there.is
+
+-- how often a reader failed does not depend on what is answered else
+pub counts-any : (T U : Type 0) (fault : NormalFault) (left left' : Option (List ℕ)) (failures failures' : Option ℕ) → CountsReads {T = T} (Err fault) left left' failures failures' → CountsReads {T = U} (Err fault) left left' failures failures'
+counts-any T U (NotUtf8 at) left left' failures failures' is = is
+counts-any T U Read left left' failures failures' is = is
+counts-any T U Write left left' failures failures' is = is
+counts-any T U Memory left left' failures failures' is = is
+counts-any T U Refused left left' failures failures' is = is
+
+-- the document of a text that was read with options that are the default ones but for the errors that are told
+pub document-same : (table : List Row) (opts : TokenizerOpts) (setting : Setting) (f : Forest) (text waits : List ℕ) → record opts { exact_errors = false } ≡ default_opts → setting ≡ default_setting → f ≡ empty_forest → waits ≡ []
+    → document table opts setting f (text ++ waits) ≡ document_of table text
+document-same table opts setting f text waits opts_is setting_is forest_is none =
+    ap (λ cs. document table opts setting f (text ++ cs)) none ∙ ap (λ cs. document table opts setting f cs) (append-nil text)
+    ∙ ap (λ (o : TokenizerOpts). document table o setting f text) opts_is
+    ∙ ap (λ (s : Setting). document table default_opts s f text) setting_is
+    ∙ ap (λ (g : Forest). document table default_opts default_setting g text) forest_is
+
+-- what was built of all that a reader had is its document
+pub document-made : (table : List Row) (opts : TokenizerOpts) (setting : Setting) (f : Forest) (old new : Option (List ℕ)) (bytes waits : List ℕ) (out sink : Forest) (state : State)
+    → record opts { exact_errors = false } ≡ default_opts → setting ≡ default_setting → f ≡ empty_forest → waits ≡ []
+    → IsUtf8 bytes → old ≡ prepend_known bytes new → IsAtEnd new
+    → document table opts setting f (chars bytes ++ waits) ≡ Ok state → out ≡ sink → with_errors 0 sink ≡ state.forest
+    → (whole : List ℕ) → old ≡ Some whole → IsRead table whole new (with_errors 0 out)
+document-made table opts setting f old new bytes waits out sink state opts_is setting_is forest_is none text moved end made gives same whole told =
+    let every = all-read old new bytes whole moved end told in
+    let meant : document table opts setting f (chars bytes ++ waits) ≡ document_of table (chars whole) =
+    document-same table opts setting f (chars bytes) waits opts_is setting_is forest_is none ∙ ap (λ (bs : List ℕ). document_of table (chars bs)) every.same in
+    record {
+      input = record { text = subst IsUtf8 every.same text; state = state; read = sym meant ∙ made; tree = ap (with_errors 0) gives ∙ same };
+      taken = every.taken;
+    }
+
+-- WRITING
+
+-- the bytes of what stands in the document
+pub bytes-walked : (f : Forest) → data_of f 0 ≡ Document → bytes_in true (ChildrenOnly None) (walked f 0 (ChildrenOnly None)) ≡ document_bytes f
+bytes-walked f is = ap (λ about. encode_utf8_all (written true default_entry (trees_of f (children_of f (cond (template_of about) 1 0))))) is
+
+pub input-failed : (table : List Row) (fault : NormalFault) (left left' old new : Option (List ℕ)) → new ≡ old → IsInputFault ⊥ left left' fault → IsFailed table left left' old new fault
+input-failed table (NotUtf8 at) left left' old new same is = (same, is)
+input-failed table Read left left' old new same is = (same, is)
+input-failed table Write left left' old new same is = absurd is
+input-failed table Memory left left' old new same is = inl same
+input-failed table Refused left left' old new same is = is
+
+abbrev report_with : Bool → QuirksMode → ℕ → Report
+report_with plain mode errors = record { plain = plain; quirks = mode; errors = errors }
+
+-- the bytes that a serializer is to write, by what it was given
+abbrev pub given_bytes : SerializeOpts → Forest → ℕ → List ℕ
+given_bytes opts f id = bytes_in opts.scripting_enabled opts.traversal_scope (walked f id opts.traversal_scope)
+
+-- a serializer was given the document, with default options
+module _ (opts : SerializeOpts) (f g : Forest) (id : ℕ) (opts_is : opts ≡ record { scripting_enabled = true; traversal_scope = ChildrenOnly None; create_missing_parent = false }) (id_is : id ≡ 0) (forest_is : f ≡ g) (top : data_of f 0 ≡ Document) where
+  given_bytes-are : given_bytes opts f id ≡ document_bytes (with_errors 0 g)
+  given_bytes-are =
+      ap (λ (o : SerializeOpts). given_bytes o f id) opts_is ∙ ap (λ n. bytes_in true (ChildrenOnly None) (walked f n (ChildrenOnly None))) id_is
+      ∙ bytes-walked f top ∙ ap document_bytes forest_is ∙ sym (bytes-same 0 g)
+
+  -- the document was written, and the report is of it
+  pub normalised : (table : List Row) (whole : List ℕ) (left : Option (List ℕ)) (old new : Told) (plain : Bool) (mode : QuirksMode) (errors : ℕ)
+      → IsRead table whole left (with_errors 0 g) → new ≡ with_bytes old (given_bytes opts f id) → plain ≡ is_plain_forest g → mode ≡ f.quirks
+      → IsNormalised table whole left old.written new.written (report_with plain mode errors)
+  normalised table whole left old new plain mode errors read wrote plain_is mode_is = record {
+    document = with_errors 0 g;
+    input = read.input;
+    taken = read.taken;
+    output = ap (λ (t : Told). t.written) wrote ∙ ap (append_known old.written) given_bytes-are;
+    plain = plain_is ∙ sym (plain-same 0 g);
+    quirks = mode_is ∙ ap (λ (h : Forest). h.quirks) forest_is;
+  }
+
+  begun : (table : List Row) (whole : List ℕ) (left old new : Option (List ℕ)) (count : ℕ) → IsRead table whole left (with_errors 0 g) → count ≤ length (given_bytes opts f id) → new ≡ append_known old (take count (given_bytes opts f id)) → IsBegun table whole old new
+  begun table whole left old new count read within moved = record {
+    document = with_errors 0 g;
+    input = read.input;
+    count = count;
+    within = subst (λ (bs : List ℕ). count ≤ length bs) given_bytes-are within;
+    output = moved ∙ ap (λ (bs : List ℕ). append_known old (take count bs)) given_bytes-are;
+  }
+
+  -- a fault of the serializer
+  pub write-failed : (table : List Row) (fault : SerializeFault) (left left' : Option (List ℕ)) (old new : Told)
+      → ((whole : List ℕ) → left ≡ Some whole → IsRead table whole left' (with_errors 0 g)) → Writes {R = Unit {0}} (given_bytes opts f id) old (Err fault) new
+      → IsFailed table left left' old.written new.written (write_fault_of fault)
+  write-failed table serial.Write left left' old new read wrote = λ whole told. begun table whole left' old.written new.written wrote.count (read whole told) wrote.within wrote.written
+  write-failed table serial.NoParent left left' old new read wrote = absurd wrote
+  write-failed table serial.NoElemInfo left left' old new read wrote = absurd wrote
+  write-failed table serial.Memory left left' old new read wrote = inr (λ whole told. begun table whole left' old.written new.written wrote.count (read whole told) wrote.within (ap (λ (t : Told). t.written) wrote.told))
+  write-failed table serial.Failed left left' old new read wrote = absurd wrote
+
+-- how often the writer failed, where a serializer did
+pub writes-counted : (T : Type 0) (fault : SerializeFault) (bytes : List ℕ) (old new : Told) → Writes {R = Unit {0}} bytes old (Err fault) new → new.failures ≡ count_after (is_write_fault {T = T} (Err (write_fault_of fault))) old.failures
+writes-counted T serial.Write bytes old new wrote = wrote.failed
+writes-counted T serial.NoParent bytes old new wrote = absurd wrote
+writes-counted T serial.NoElemInfo bytes old new wrote = absurd wrote
+writes-counted T serial.Memory bytes old new wrote = ap (λ (t : Told). t.failures) wrote.told
+writes-counted T serial.Failed bytes old new wrote = absurd wrote
+
+-- a serializer reads nothing
+pub reads-counted : (T : Type 0) (fault : SerializeFault) (left left' : Option (List ℕ)) (failures failures' : Option ℕ) → failures' ≡ failures → CountsReads {T = T} (Err (write_fault_of fault)) left left' failures failures'
+reads-counted T serial.Write left left' failures failures' same = same
+reads-counted T serial.NoParent left left' failures failures' same = same
+reads-counted T serial.NoElemInfo left left' failures failures' same = same
+reads-counted T serial.Memory left left' failures failures' same = same
+reads-counted T serial.Failed left left' failures failures' same = same

@@ -1,0 +1,46 @@
+-- The document of a text, and the text that a document is written as.
+use Rattle.std.specs.Prelude.{◌≡◌, ℕ, true, false, List, None, Result, Ok, IsUtf8, encode_utf8_all}
+use Rattle.std.specs.Str.{chars}
+use Rattle.markup.specs.Forest.{Forest, children_of, data_of, empty_forest, integration_point_of}
+use Rattle.markup.specs.Trees.{Trees, default_entry, trees_of, written}
+use Rattle.markup.specs.declared.quirks.QuirksMode.TheVariants.{NoQuirks}
+use Rattle.html_tokens.specs.Sink.{Refusal}
+use Rattle.html_tokens.specs.Table.{Row}
+use Rattle.html_tokens.specs.declared.options.TokenizerOpts.{TokenizerOpts}
+use Rattle.html_rules.specs.Documents.{Setting, document}
+use Rattle.html_rules.specs.State.{Answers, State}
+
+-- what is not asked for otherwise: a byte order mark is dropped, and reading begins in data
+abbrev pub default_opts : TokenizerOpts
+default_opts = record { exact_errors = false; discard_bom = true; initial_state = None; last_start_tag_name = None }
+
+-- how a tree in memory answers the rules: it has no shadow trees
+abbrev pub forest_answers : Answers
+forest_answers = record { integration_point = λ f n. integration_point_of (data_of f n); allows_shadow_roots = λ f n. true; attaches_shadow = λ f host template attributes. false }
+
+-- scripts run, and the document is a page of its own
+abbrev pub default_setting : Setting
+default_setting = record {
+  opts = record { scripting_enabled = true; iframe_srcdoc = false; drop_doctype = false };
+  quirks_mode = NoQuirks;
+  answers = forest_answers;
+}
+
+-- the state in which the rules leave a text that is read with this table of references
+abbrev pub document_of : List Row → List ℕ → Result State Refusal
+document_of table text = document table default_opts default_setting empty_forest text
+
+-- Bytes are UTF-8, and this is the document that the rules give their text.
+pub record IsDocument (table : List Row) (bytes : List ℕ) (f : Forest) : Type 0 where
+  pub text : IsUtf8 bytes
+  pub state : State
+  pub read : document_of table (chars bytes) ≡ Ok state
+  pub tree : f ≡ state.forest
+
+-- the trees that stand in a document
+abbrev pub document_trees : Forest → Trees
+document_trees f = trees_of f (children_of f 0)
+
+-- the bytes that a document is written as
+abbrev pub document_bytes : Forest → List ℕ
+document_bytes f = encode_utf8_all (written true default_entry (document_trees f))
