@@ -1,5 +1,10 @@
-//! The examples of the README, as they stand there.
+//! Examples: those of the README as they stand there, and what else pages are read for.
 #![tactic(auto)]
 
 pub mod documents;
+pub mod links;
+pub mod outlines;
+pub mod tags;
+pub mod texts;
 pub mod tokens;
+pub mod trees;
