@@ -3,7 +3,9 @@
 use crate::listing::Listing;
 use crate::reading::{page, read_over, whole};
 use html_tree_builder::TreeBuilder;
-use markup::ParseFault;
+use markup::{
+    Attributes, ElementFlags, KnownNamespace, LocalName, Namespace, ParseFault, QualName, TreeSink,
+};
 use std::alloc::Global;
 use std::process::Abort;
 use std::test::Fail;
@@ -18,6 +20,18 @@ fn told_of<const ATTACHES: bool>(
 ) -> Result<Listing<ATTACHES>, ParseFault> {
     let sink: Listing<ATTACHES> = Listing::new(alloc)?;
     let builder = TreeBuilder::new(alloc, sink, page().builder);
+    let builder = read_over(alloc, builder, false, whole(alloc, text)?)?;
+    Ok(builder.sink)
+}
+
+/// A sink that was told a text as a fragment in a `div`.
+fn told_of_fragment(alloc: Global, text: &str) -> Result<Listing<false>, ParseFault> {
+    let mut sink: Listing<false> = Listing::new(alloc)?;
+    let html = Namespace::from_known(KnownNamespace::Html);
+    let local = LocalName::from_str(alloc, "div")?;
+    let name = QualName::new(None, html, local);
+    let context = sink.create_element(name, Attributes::new(alloc), ElementFlags::default())?;
+    let builder = TreeBuilder::new_for_fragment(alloc, sink, context, None, page().builder)?;
     let builder = read_over(alloc, builder, false, whole(alloc, text)?)?;
     Ok(builder.sink)
 }
@@ -293,6 +307,34 @@ const SCRIPTS: &[Row] = &[
 fn scripts_that_have_started_are_told(rt: HostRuntime) -> Result<(), Fail> {
     for row in SCRIPTS {
         let sink: Listing<false> = told_of(rt.alloc(), row.0)?;
+        assert_told(&rt, rt.alloc(), &sink, *row)?;
+    }
+    Ok(())
+}
+
+const FRAGMENTS: &[Row] = &[
+    (
+        "<script>a</script>b",
+        &["started script", "pop script", "pop html"],
+    ),
+    (
+        "<p><script>a",
+        &[
+            "started script",
+            "started script",
+            "pop script",
+            "pop p",
+            "pop html",
+        ],
+    ),
+    ("<style>a</style>", &["pop style", "pop html"]),
+    ("<svg><script>a</script>", &["pop svg", "pop html"]),
+];
+
+#[test]
+fn scripts_of_fragments_have_started(rt: HostRuntime) -> Result<(), Fail> {
+    for row in FRAGMENTS {
+        let sink = told_of_fragment(rt.alloc(), row.0)?;
         assert_told(&rt, rt.alloc(), &sink, *row)?;
     }
     Ok(())
