@@ -1,0 +1,121 @@
+//! Texts by a parser into a forest, and what is written of that.
+ghost use Rattle.std.specs.Prelude.{◌≡◌, None};
+ghost use Rattle.html_tokenizer.specs.Calls.{IsReadyIf, refusal_of};
+ghost use Rattle.html_parser.specs.Documents.{builder};
+ghost use Rattle.html_parser.specs.Read.{stopped_by};
+
+use html_forest::{Forest, ForestNode, NodeId};
+use html_parser::{ParseOpts, Parser, parse_document};
+use html_serialize::{SerializeOpts, serialize};
+use html_tokenizer::{References, TokenizerOpts};
+use html_tree_builder::TreeBuilderOpts;
+use markup::devices::MemWriter;
+use markup::{ParseFault, SerializeFault, TreeSink};
+use std::alloc::{AllocError, Global};
+use std::process::Abort;
+
+/// How exactly errors are told: by the tokenizer, and by the tree builder.
+pub(crate) const EXACT_ERRORS: &[(bool, bool)] = &[
+    (false, false),
+    (false, true),
+    (true, false),
+    (true, true),
+];
+
+/// Options that tell errors so.
+pub(crate) fn opts(exact_errors: (bool, bool)) -> ParseOpts
+    ensures { result.tokenizer.initial_state ≡ None }
+{
+    ParseOpts {
+        tokenizer: TokenizerOpts {
+            exact_errors: exact_errors.0,
+            ..TokenizerOpts::default()
+        },
+        tree_builder: TreeBuilderOpts {
+            exact_errors: exact_errors.1,
+            ..TreeBuilderOpts::default()
+        },
+    }
+}
+
+/// The table that escaping needs.
+pub(crate) fn five(alloc: Global) -> Result<References, ParseFault> {
+    match References::five(alloc) {
+        Ok(table) => Ok(table),
+        Err(_) => Err(ParseFault::Memory),
+    }
+}
+
+/// Has a parser take these pieces and the end.
+pub(crate) fn take_all<Sink: TreeSink + Drop>(
+    parser: Parser<Sink>,
+    pieces: Vec<String>,
+) -> Result<Sink::Output, ParseFault>
+    requires { IsReadyIf (builder Sink.TreeSink) (stopped_by parser.has_failed (refusal_of parser.tokenizer)) parser.tokenizer }
+{
+    let mut parser = parser;
+    for piece in pieces {
+        parser.process(piece)?;
+    }
+    parser.finish()
+}
+
+/// The document of these pieces.
+pub(crate) fn document_of(
+    alloc: Global,
+    opts: ParseOpts,
+    pieces: Vec<String>,
+) -> Result<Forest, ParseFault>
+    requires { opts.tokenizer.initial_state ≡ None }
+{
+    let forest = Forest::new(alloc)?;
+    let parser = parse_document(alloc, forest, opts, five(alloc)?)?;
+    take_all(parser, pieces)
+}
+
+/// The characters of a text from one place on and up to another.
+fn part(alloc: Global, text: &str, from: usize, count: usize) -> Result<String, AllocError> {
+    let mut part = String::new(alloc);
+    for c in text.chars().skip(from).take(count) {
+        part.push(c)?;
+    }
+    Ok(part)
+}
+
+/// A text cut in two at a place.
+pub(crate) fn in_two(alloc: Global, text: &str, place: usize) -> Result<Vec<String>, AllocError> {
+    let mut pieces = Vec::new(alloc);
+    pieces.push(part(alloc, text, 0, place)?)?;
+    pieces.push(part(alloc, text, place, text.len())?)?;
+    Ok(pieces)
+}
+
+/// A text cut at each character.
+pub(crate) fn in_characters(alloc: Global, text: &str) -> Result<Vec<String>, AllocError> {
+    let mut pieces = Vec::new(alloc);
+    for c in text.chars() {
+        let mut piece = String::new(alloc);
+        piece.push(c)?;
+        pieces.push(piece)?;
+    }
+    Ok(pieces)
+}
+
+/// Sees that this is written of what stands in a node.
+pub(crate) fn assert_written(
+    rt: &impl Abort,
+    alloc: Global,
+    forest: &Forest,
+    id: NodeId,
+    text: &str,
+    written: &str,
+) -> Result<(), ParseFault> {
+    let mut writer = MemWriter::new(alloc, 4_096, usize::MAX, None, false)?;
+    let node = ForestNode { forest, id };
+    let opts = SerializeOpts::default();
+    if let Err(SerializeFault::Memory) = serialize(alloc, &mut writer, &node, opts) {
+        return Err(ParseFault::Memory);
+    }
+    assert!(rt; writer.written() == written.as_bytes(), "{text}");
+    Ok(())
+}
