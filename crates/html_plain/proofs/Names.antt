@@ -1,11 +1,11 @@
 -- The names of plain elements.
 use Rattle.std.proofs.Common.{length, slice_index_or, true≢false, sym}
 use Rattle.std.specs.Prelude.{map}
-use Rattle.std.specs.List.{list_any}
+use Rattle.std.specs.List.{list_all, list_any}
 use Rattle.std.proofs.Math.ListN.{get_or-map}
 use Rattle.markup.specs.KnownNames.{names}
 use Rattle.html_plain.specs.declared.known_elements.TheConstants.{ELEMENTS}
-use Rattle.std.proofs.Common.{◌≡◌, ◌∙◌, ℕ, Bool, true, false, List, [], ◌∷◌, Option, Some, None, refl, ap}
+use Rattle.std.proofs.Common.{◌≡◌, ◌∙◌, ℕ, Bool, true, false, List, [], ◌∷◌, Option, Some, None, refl, ap, subst}
 use Rattle.std.specs.Prelude.{◌&&◌, cond, is_none}
 use Rattle.std.specs.Str.{bytes_eq}
 use Rattle.std.proofs.lemmas.Bool.{and_parts}
@@ -88,35 +88,25 @@ pub named-element : (k : PlainElement) → element_of (html_name (spelled k)) �
 unfolding html_namespace
 named-element k = spelled-found k
 
+listed-by : (test : PlainElement → Bool) (j k : PlainElement) (o : Option PlainElement) (b : Bool) → test j ≡ true → (o ≡ Some k → test k ≡ true) → cond b (Some j) o ≡ Some k → test k ≡ true
+listed-by test j k o true h f e = let same : j ≡ k = cc in subst (λ x. test x ≡ true) same h
+listed-by test j k o false h f e = f e
+
+first-listed : (test : PlainElement → Bool) (ks : List PlainElement) (name : List ℕ) (k : PlainElement) → list_all test ks ≡ true → first_spelled ks name ≡ Some k → test k ≡ true
+first-listed test [] name k h e = absurd cc
+first-listed test (j ∷ ks) name k h e =
+    let parts = and_parts (test j) (list_all test ks) h in
+    listed-by test j k (first_spelled ks name) (bytes_eq name (spelled j)) parts.0 (first-listed test ks name k parts.1) e
+
+-- what all of the list of elements pass, which is computed, each passes
+pub each-element : (test : PlainElement → Bool) → list_all test elements ≡ true → (k : PlainElement) → test k ≡ true
+unfolding local_element
+each-element test h k = first-listed test elements (spelled k) k h (spelled-found k)
+
 -- each name is a known one
 spelled-known : (k : PlainElement) → list_any (bytes_eq (spelled k)) names ≡ true
 unfolding names
-spelled-known Html = refl
-spelled-known Head = refl
-spelled-known Title = refl
-spelled-known Body = refl
-spelled-known Paragraph = refl
-spelled-known (Heading One) = refl
-spelled-known (Heading Two) = refl
-spelled-known (Heading Three) = refl
-spelled-known (Heading Four) = refl
-spelled-known (Heading Five) = refl
-spelled-known (Heading Six) = refl
-spelled-known Division = refl
-spelled-known (ListElement Unordered) = refl
-spelled-known (ListElement Ordered) = refl
-spelled-known Item = refl
-spelled-known Table = refl
-spelled-known TableBody = refl
-spelled-known Row = refl
-spelled-known (Cell Data) = refl
-spelled-known (Cell Header) = refl
-spelled-known Break = refl
-spelled-known (Formatted Bold) = refl
-spelled-known (Formatted Italic) = refl
-spelled-known (Formatted Emphasis) = refl
-spelled-known (Formatted Code) = refl
-spelled-known Link = refl
+spelled-known k = each-element (λ k. list_any (bytes_eq (spelled k)) names) refl k
 
 unknown-by : (name : List ℕ) (o : Option PlainElement) → local_element name ≡ o → list_any (bytes_eq name) names ≡ false → o ≡ None
 unknown-by name None e h = refl

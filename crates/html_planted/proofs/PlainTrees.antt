@@ -1,6 +1,6 @@
 -- Plain documents, planted in a new forest.
 use Rattle.std.proofs.Common.{◌≡◌, ◌∙◌, Bool, true, false, [], refl, ap, codes, Some}
-use Rattle.std.specs.Prelude.{◌↔◌, ◌&&◌}
+use Rattle.std.specs.Prelude.{◌↔◌, ◌&&◌, not}
 use Rattle.std.specs.Str.{bytes_eq}
 use Rattle.markup.specs.Forest.{Forest, children_of, empty_forest, node_count}
 use Rattle.markup.specs.Named.{IsTree}
@@ -11,47 +11,22 @@ use Rattle.markup.proofs.PutTexts.{IsParent-document}
 use Rattle.markup.proofs.TemplateContents.{HasContents-empty}
 use Rattle.html_plain.specs.Elements.{behind_text, spelled}
 use Rattle.html_plain.specs.Grammar.{IsPlain, IsPlainDocument, is_plain_forest, is_plain_text}
-use Rattle.html_plain.specs.declared.elements.CellKind.TheVariants.{Data, Header}
-use Rattle.html_plain.specs.declared.elements.Format.TheVariants.{Bold, Italic, Emphasis, Code}
-use Rattle.html_plain.specs.declared.elements.Level.TheVariants.{One, Two, Three, Four, Five, Six}
-use Rattle.html_plain.specs.declared.elements.ListKind.TheVariants.{Unordered, Ordered}
 use Rattle.html_plain.specs.declared.elements.PlainElement.{PlainElement}
 use Rattle.html_plain.specs.declared.elements.PlainElement.TheVariants.{Html, Head, Title, Body, Paragraph, Heading, Division, List as ListElement, Item, Table, TableBody, Row, Cell, Break, Formatted, Link}
 use Rattle.html_plain.specs.declared.place.Place.{Place}
 use Rattle.html_plain.specs.declared.place.Place.TheVariants.{BeforeDoctype}
 use Rattle.html_plain.proofs.Agreement.{computed-cases, cases-computed}
+use Rattle.html_plain.proofs.Names.{each-element}
 use Rattle.html_planted.specs.Planted.{ArePlantable, planted}
 use Rattle.html_planted.proofs.Planting.{planted-alone, planted-keeps}
 use Rattle.html_planted.proofs.Shown.{shown-walked, without-templates}
 
 -- none is a template
 pub no-template : (k : PlainElement) → bytes_eq (spelled k) (codes "template") ≡ false
-no-template Html = refl
-no-template Head = refl
-no-template Title = refl
-no-template Body = refl
-no-template Paragraph = refl
-no-template (Heading One) = refl
-no-template (Heading Two) = refl
-no-template (Heading Three) = refl
-no-template (Heading Four) = refl
-no-template (Heading Five) = refl
-no-template (Heading Six) = refl
-no-template Division = refl
-no-template (ListElement Unordered) = refl
-no-template (ListElement Ordered) = refl
-no-template Item = refl
-no-template Table = refl
-no-template TableBody = refl
-no-template Row = refl
-no-template (Cell Data) = refl
-no-template (Cell Header) = refl
-no-template Break = refl
-no-template (Formatted Bold) = refl
-no-template (Formatted Italic) = refl
-no-template (Formatted Emphasis) = refl
-no-template (Formatted Code) = refl
-no-template Link = refl
+no-template k = by _ (each-element (λ k. not (bytes_eq (spelled k) (codes "template"))) refl k) where
+  by : (b : Bool) → not b ≡ true → b ≡ false
+  by false h = refl
+  by true h = absurd cc
 
 pub and-false : (b c : Bool) → c ≡ false → (b && c) ≡ false
 and-false true c h = h

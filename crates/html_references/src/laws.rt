@@ -26,4 +26,6 @@ pub fn escapes_are_read()
 /// The table of five names does.
 pub fn five_names_read_escapes()
     ensures { ReadsEscapes five_rows }
-{}
+{
+    html_tokens::laws::five_names_read_escapes();
+}

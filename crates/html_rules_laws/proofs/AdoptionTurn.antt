@@ -117,12 +117,13 @@ pub record Adopted (f g : Forest) (b : ℕ) (tag : Tag) : Type 0 where
   pub inner : (a k : ℕ) → k < node_count f → Above g a k → Above f a k ⊎ (Above f a b ⊎ (a ≡ node_count f))
   pub new : (a : ℕ) → Above g a (node_count f) → (a ≡ node_count f) ⊎ Above f a b
 
-only-itself : (f : Forest) (a n : ℕ) → above_of f n ≡ None → Above f a n → a ≡ n
+-- a node that stands under nothing has none above it but itself
+pub only-itself : (f : Forest) (a n : ℕ) → above_of f n ≡ None → Above f a n → a ≡ n
 only-itself f a n e Above.here = refl
 only-itself f a n e (Above.further is up) = absurd (cc)
 
 -- a child does not stand above its parent
-child-not_above : (f : Forest) (b c : ℕ) → IsForest f → is_among c (children_of f b) ≡ true → Above f c b → ⊥
+pub child-not_above : (f : Forest) (b c : ℕ) → IsForest f → is_among c (children_of f b) ≡ true → Above f c b → ⊥
 child-not_above f b c is e up = by (is_contents (data_of f c)) refl where
   parent : parent_of f c ≡ Some b
   parent = is.one_parent b c e

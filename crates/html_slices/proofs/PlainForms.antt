@@ -16,35 +16,11 @@ use Rattle.html_plain.specs.declared.elements.Level.TheVariants.{One, Two, Three
 use Rattle.html_plain.specs.declared.elements.ListKind.TheVariants.{Unordered, Ordered}
 use Rattle.html_plain.specs.declared.elements.PlainElement.{PlainElement}
 use Rattle.html_plain.specs.declared.elements.PlainElement.TheVariants.{Html, Head, Title, Body, Paragraph, Heading, Division, List as ListElement, Item, Table, TableBody, Row, Cell, Break, Formatted, Link}
+use Rattle.html_plain.proofs.Names.{each-element}
 use Rattle.html_slices.specs.Forms.{AreReadBack, has_no_return, is_attribute_name, is_no_text, is_read_attribute, is_tag_name}
 
 pub names-of_tags : (k : PlainElement) → is_tag_name (spelled k) ≡ true
-names-of_tags Html = refl
-names-of_tags Head = refl
-names-of_tags Title = refl
-names-of_tags Body = refl
-names-of_tags Paragraph = refl
-names-of_tags (Heading One) = refl
-names-of_tags (Heading Two) = refl
-names-of_tags (Heading Three) = refl
-names-of_tags (Heading Four) = refl
-names-of_tags (Heading Five) = refl
-names-of_tags (Heading Six) = refl
-names-of_tags Division = refl
-names-of_tags (ListElement Unordered) = refl
-names-of_tags (ListElement Ordered) = refl
-names-of_tags Item = refl
-names-of_tags Table = refl
-names-of_tags TableBody = refl
-names-of_tags Row = refl
-names-of_tags (Cell Data) = refl
-names-of_tags (Cell Header) = refl
-names-of_tags Break = refl
-names-of_tags (Formatted Bold) = refl
-names-of_tags (Formatted Italic) = refl
-names-of_tags (Formatted Emphasis) = refl
-names-of_tags (Formatted Code) = refl
-names-of_tags Link = refl
+names-of_tags k = each-element (λ k. is_tag_name (spelled k)) refl k
 
 no-null : (t : List ℕ) → list_all is_plain_character t ≡ true → has_no_null t ≡ true
 no-null [] h = refl

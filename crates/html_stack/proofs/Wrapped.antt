@@ -6,6 +6,7 @@ use Rattle.markup.proofs.Forests.{IsMade-create_element, IsRemoved-remove}
 use Rattle.markup.proofs.PutTexts.{IsParent-element, element-IsNode}
 use Rattle.markup.proofs.Reparented.{IsReparented-reparent_children}
 use Rattle.markup.proofs.Trees.{IsTree-remove, IsTree-reparent_children}
+use Rattle.html_rules_laws.proofs.AdoptionTurn.{child-not_above, only-itself}
 use Rattle.markup.proofs.Walks.{Above-IsNode, Above-child, Above-less, Above-moved, Above-moved_free}
 use Rattle.markup.specs.declared.names.QualName.{QualName}
 use Rattle.html_rules.specs.Names.{Html, element_name_of, flags_of, namespace_of}
@@ -18,9 +19,6 @@ use Rattle.html_stack.specs.Inserting.{LeavesStanding, with_made}
 use Rattle.html_stack.specs.declared.inserting.new_element.NewElement.{NewElement}
 use Rattle.html_stack.proofs.Points.{own-of}
 
-only-itself : (f : Forest) (a n : ℕ) → above_of f n ≡ None → Above f a n → a ≡ n
-only-itself f a n e Above.here = refl
-only-itself f a n e (Above.further is up) = absurd cc
 
 cases_false : (x : Bool) → (x ≡ true → ⊥) → x ≡ false
 cases_false true h = absurd (h refl)
@@ -117,16 +115,6 @@ pub record MayAdopt (f : Forest) (e : NewElement) (b : ℕ) : Type 0 where
   pub block : IsParent (reparent_children (with_made f e) b (node_count f)) b
   pub loose : IsLoose (reparent_children (with_made f e) b (node_count f)) b (node_count f)
   pub leaves : LeavesStanding f (reparent_children (with_made f e) b (node_count f))
-
--- a child does not stand above its parent
-child-not_above : (f : Forest) (b c : ℕ) → IsForest f → is_among c (children_of f b) ≡ true → Above f c b → ⊥
-child-not_above f b c is e up = by (is_contents (data_of f c)) refl where
-  parent : parent_of f c ≡ Some b
-  parent = is.one_parent b c e
-
-  by : (x : Bool) → is_contents (data_of f c) ≡ x → ⊥
-  by true contents = let stays = is.contents_stay c contents in let given = parent in cc
-  by false plain = let above : above_of f c ≡ Some b = rw plain parent in Above-child f is c b above up
 
 pub may-adopt : (f : Forest) (e : NewElement) (b : ℕ) → IsMovable f b → IsParent f b → MayAdopt f e b
 may-adopt f e b is block =

@@ -33,7 +33,7 @@ use Rattle.html_rules_laws.proofs.Settling.Kinds.{Kind, StartsBut, EndsBut, Text
 use Rattle.html_rules_laws.proofs.Soundness.Steps.{html-root}
 use Rattle.html_rules_laws.proofs.Upright.Heads.{root-clear}
 use Rattle.html_rules_laws.proofs.Upright.Poised.{Poised, act-poised}
-use Rattle.html_rules_laws.proofs.Upright.Turns.{poised-of}
+use Rattle.html_rules_laws.proofs.Upright.Turns.{is_pop, poised-of, popped-mode, popped-poised, popped-root}
 use Rattle.html_tree_builder.specs.Acting.{MayAct}
 use Rattle.html_tree_builder.specs.Turning.{MayConclude, MayTakeRow, MayTurn, MayUse}
 
@@ -213,11 +213,6 @@ mode-may n t m s h = by (is_after_head m) refl where
 
 -- foreign content
 
-abbrev is_pop : Action → Bool
-is_pop (Then ParseError PopForeign) = true
-is_pop ParseError = true
-is_pop a = false
-
 abbrev is_insert : Action → Bool
 is_insert InsertForeign = true
 is_insert a = false
@@ -228,38 +223,13 @@ foreign_ok a Acknowledged = is_insert a
 foreign_ok a UsingCurrentMode = is_pop a
 foreign_ok a e = false
 
--- the root stays
-root-stays : (xs : List Open) → is_at_root xs ≡ true → is_at_root (left_from ends_foreign xs) ≡ true
-root-stays [] h = h
-root-stays (x ∷ xs) h = by (is_html_element x) (html-root x h) where
-  by : (b : Bool) → b ≡ true → is_at_root (choose (b || is_in set.MathmlTextIntegrationPoint x || is_in set.SvgHtmlIntegrationPoint x) (λ _. x ∷ xs) (λ _. left_from ends_foreign xs)) ≡ true
-  by true e = h
-  by false e = no e
-
-popped-root : (a : Action) → is_pop a ≡ true → (t : Token) (s : State) → is_at_root s.open_elems ≡ true → is_at_root (act a t s).open_elems ≡ true
-unfolding pop_foreign pop_until_current parse_error
-popped-root (Then ParseError PopForeign) h t s root = root-stays s.open_elems root
-popped-root ParseError h t s root = root
-popped-root a h t s root = no h
-
-popped-mode : (a : Action) → is_pop a ≡ true → (t : Token) (s : State) → (act a t s).mode ≡ s.mode
-unfolding pop_foreign pop_until_current parse_error
-popped-mode (Then ParseError PopForeign) h t s = refl
-popped-mode ParseError h t s = refl
-popped-mode a h t s = no h
-
-popped-poised : (a : Action) → is_pop a ≡ true → (t : Token) (s : State) → Poised s → Poised (act a t s)
-popped-poised (Then ParseError PopForeign) h t s is = let kind = kind-of t in act-poised kind.0 (Then ParseError PopForeign) refl t kind.1 s is
-popped-poised ParseError h t s is = let kind = kind-of t in act-poised kind.0 ParseError refl t kind.1 s is
-popped-poised a h t s is = no h
-
 popped-free : (a : Action) → is_pop a ≡ true → is_free a ≡ true
 popped-free (Then ParseError PopForeign) h = refl
 popped-free ParseError h = refl
 popped-free a h = no h
 
 popped-over : (a : Action) → is_pop a ≡ true → (t : Token) (s : State) → IsOverRoot t s → IsOverRoot t (act a t s)
-popped-over a h t s is = record { poised = popped-poised a h t s is.poised; root = λ start. popped-root a h t s (is.root start) }
+popped-over a h t s is = record { poised = let kind = kind-of t in popped-poised a h t kind.0 kind.1 s is.poised; root = λ start. popped-root a h t s (is.root start) }
 
 inserted-may : (a : Action) → is_insert a ≡ true → (t : Token) (s : State) → Upright s → MayAct a t s
 inserted-may InsertForeign h t s is = is.context

@@ -148,7 +148,7 @@ impl<Sink: TreeSink> Construction<Sink> {
     pub(crate) fn has_open_template(&self) -> bool
         ensures { result ≡ has_open Template self.now.stack.open_elems }
     {
-        walks::is_any_in(self.stack.open_elems(), TagSet::Template)
+        self.stack.has_open(TagSet::Template)
     }
 
     /// Whether there is a template insertion mode.

@@ -2,7 +2,7 @@
 ghost use Rattle.std.specs.Prelude.{◌≡◌, ℕ, is_some, codes};
 ghost use Rattle.html_rules.specs.Adoption.{is_number};
 ghost use Rattle.html_rules.specs.Formatting.{last_named};
-ghost use Rattle.html_rules.specs.Stack.{has_open, in_scope};
+ghost use Rattle.html_rules.specs.Stack.{in_scope};
 ghost use Rattle.html_rules.specs.declared.tag_set.TagSet.TheVariants.{DefaultScope};
 ghost use Rattle.html_stack.specs.Stacks.{entries_of, opens_of};
 
@@ -27,20 +27,6 @@ pub(crate) fn is_node_in_scope<Sink: TreeSink>(
         }
         if element.name.is_in(TagSet::DefaultScope) {
             return false;
-        }
-    }
-    false
-}
-
-/// Whether an element of a set is open.
-pub(crate) fn is_any_in<Handle>(elements: &[OpenElement<Handle>], set: TagSet) -> bool
-    ensures { (node : Handle → ℕ) → result ≡ has_open set (opens_of node elements.now) }
-{
-    let mut i = elements.len();
-    while i > 0 {
-        i -= 1;
-        if elements[i].name.is_in(set) {
-            return true;
         }
     }
     false

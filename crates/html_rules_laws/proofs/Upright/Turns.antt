@@ -170,7 +170,8 @@ poised-of s held h e = record { upright = h; listed = held.listed; mode = e; ori
 
 -- foreign content
 
-abbrev is_pop : Action → Bool
+-- what pops the elements of foreign content, or only tells an error
+abbrev pub is_pop : Action → Bool
 is_pop (Then ParseError PopForeign) = true
 is_pop ParseError = true
 is_pop a = false
@@ -192,19 +193,19 @@ root-stays (x ∷ xs) h = by (is_html_element x) (html-root x h) where
   by true e = h
   by false e = no e
 
-popped-root : (a : Action) → is_pop a ≡ true → (t : Token) (s : State) → is_at_root s.open_elems ≡ true → is_at_root (act a t s).open_elems ≡ true
+pub popped-root : (a : Action) → is_pop a ≡ true → (t : Token) (s : State) → is_at_root s.open_elems ≡ true → is_at_root (act a t s).open_elems ≡ true
 unfolding pop_foreign pop_until_current parse_error
 popped-root (Then ParseError PopForeign) h t s root = root-stays s.open_elems root
 popped-root ParseError h t s root = root
 popped-root a h t s root = no h
 
-popped-mode : (a : Action) → is_pop a ≡ true → (t : Token) (s : State) → (act a t s).mode ≡ s.mode
+pub popped-mode : (a : Action) → is_pop a ≡ true → (t : Token) (s : State) → (act a t s).mode ≡ s.mode
 unfolding pop_foreign pop_until_current parse_error
 popped-mode (Then ParseError PopForeign) h t s = refl
 popped-mode ParseError h t s = refl
 popped-mode a h t s = no h
 
-popped-poised : (a : Action) → is_pop a ≡ true → (t : Token) (kind : Kind) → is_of kind t ≡ true → (s : State) → Poised s → Poised (act a t s)
+pub popped-poised : (a : Action) → is_pop a ≡ true → (t : Token) (kind : Kind) → is_of kind t ≡ true → (s : State) → Poised s → Poised (act a t s)
 popped-poised (Then ParseError PopForeign) h t kind f s is = act-poised kind (Then ParseError PopForeign) refl t f s is
 popped-poised ParseError h t kind f s is = act-poised kind ParseError refl t f s is
 popped-poised a h t kind f s is = no h
