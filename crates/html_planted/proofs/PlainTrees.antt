@@ -12,7 +12,6 @@ use Rattle.markup.proofs.TemplateContents.{HasContents-empty}
 use Rattle.html_plain.specs.Elements.{behind_text, spelled}
 use Rattle.html_plain.specs.Grammar.{IsPlain, IsPlainDocument, is_plain_forest, is_plain_text}
 use Rattle.html_plain.specs.declared.elements.PlainElement.{PlainElement}
-use Rattle.html_plain.specs.declared.elements.PlainElement.TheVariants.{Html, Head, Title, Body, Paragraph, Heading, Division, List as ListElement, Item, Table, TableBody, Row, Cell, Break, Formatted, Link}
 use Rattle.html_plain.specs.declared.place.Place.{Place}
 use Rattle.html_plain.specs.declared.place.Place.TheVariants.{BeforeDoctype}
 use Rattle.html_plain.proofs.Agreement.{computed-cases, cases-computed}

@@ -1,13 +1,13 @@
 -- Texts that names of a table begin with, and what no name begins with.
-use Rattle.std.proofs.Common.{◌≡◌, ◌∙◌, ℕ, ◌<◌, ◌≤◌, suc, zero, Bool, true, false, List, [], ◌∷◌, ◌++◌, length, Option, Some, None, refl, sym, ap, arith}
+use Rattle.std.proofs.Common.{◌≡◌, ◌∙◌, ℕ, ◌<◌, suc, zero, Bool, true, false, List, [], ◌∷◌, ◌++◌, length, Option, Some, None, refl, sym, ap, arith}
 use Rattle.std.specs.Prelude.{nat_eq, nat_lt, ◌&&◌, ◌||◌, IfSome, IfNone}
 use Rattle.std.specs.List.{starts_with}
 use Rattle.std.specs.Str.{bytes_eq, IsUtf8, chars}
-use Rattle.std.proofs.lemmas.Bool.{and_parts, lt-ltb, or_parts}
+use Rattle.std.proofs.lemmas.Bool.{lt-ltb, or_parts}
 use Rattle.std.proofs.lemmas.Bool.Decides.{nat_tests}
 use Rattle.markup.specs.Plain.{is_plain}
 use Rattle.html_references.specs.Order.{IsOrder, name_at}
-use Rattle.html_references.specs.References.{goes_on, goes_on_behind, is_front, is_named, is_reference_name, longest}
+use Rattle.html_references.specs.References.{goes_on, goes_on_behind, is_front, is_named, longest}
 use Rattle.html_references.proofs.Begins.{fitting-is}
 use Rattle.html_references.proofs.Longest.{named_at}
 use Rattle.html_references.proofs.Matches.{place_of_any}

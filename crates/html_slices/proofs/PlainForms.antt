@@ -10,12 +10,7 @@ use Rattle.markup.specs.declared.attributes.Attribute.{Attribute}
 use Rattle.html_tokens.specs.Laws.{are_distinct, has_no_null, is_not_null}
 use Rattle.html_plain.specs.Elements.{spelled}
 use Rattle.html_plain.specs.Grammar.{are_plain_attributes, is_empty, is_plain_attribute, is_plain_character, is_plain_name, is_plain_text, is_unprefixed}
-use Rattle.html_plain.specs.declared.elements.CellKind.TheVariants.{Data, Header}
-use Rattle.html_plain.specs.declared.elements.Format.TheVariants.{Bold, Italic, Emphasis, Code}
-use Rattle.html_plain.specs.declared.elements.Level.TheVariants.{One, Two, Three, Four, Five, Six}
-use Rattle.html_plain.specs.declared.elements.ListKind.TheVariants.{Unordered, Ordered}
 use Rattle.html_plain.specs.declared.elements.PlainElement.{PlainElement}
-use Rattle.html_plain.specs.declared.elements.PlainElement.TheVariants.{Html, Head, Title, Body, Paragraph, Heading, Division, List as ListElement, Item, Table, TableBody, Row, Cell, Break, Formatted, Link}
 use Rattle.html_plain.proofs.Names.{each-element}
 use Rattle.html_slices.specs.Forms.{AreReadBack, has_no_return, is_attribute_name, is_no_text, is_read_attribute, is_tag_name}
 
