@@ -1,3 +1,4 @@
+pub mod Again
 pub mod Decoding
 pub mod Meanings
 pub mod SameTrees

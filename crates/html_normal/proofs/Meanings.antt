@@ -34,6 +34,7 @@ use Rattle.html_normal.specs.Normal.{CountsReads, IsBegun, IsFailed, IsInputFaul
 use Rattle.html_normal.specs.declared.fault.NormalFault.{NormalFault}
 use Rattle.html_normal.specs.declared.fault.NormalFault.TheVariants.{NotUtf8, Read, Write, Memory, Refused}
 use Rattle.html_normal.specs.declared.report.Report.{Report}
+use Rattle.html_normal.proofs.Again.{plain-normal}
 use Rattle.html_normal.proofs.SameTrees.{bytes-same, plain-same}
 
 -- READING
@@ -134,6 +135,7 @@ module _ (opts : SerializeOpts) (f g : Forest) (id : ℕ) (opts_is : opts ≡ re
     output = ap (λ (t : Told). t.written) wrote ∙ ap (append_known old.written) given_bytes-are;
     plain = plain_is ∙ sym (plain-same 0 g);
     quirks = mode_is ∙ ap (λ (h : Forest). h.quirks) forest_is;
+    again = λ is other reads. plain-normal other reads (with_errors 0 g) (plain-same 0 g ∙ (sym plain_is ∙ is));
   }
 
   begun : (table : List Row) (whole : List ℕ) (left old new : Option (List ℕ)) (count : ℕ) → IsRead table whole left (with_errors 0 g) → count ≤ length (given_bytes opts f id) → new ≡ append_known old (take count (given_bytes opts f id)) → IsBegun table whole old new

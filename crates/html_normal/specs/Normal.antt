@@ -5,7 +5,9 @@ use Rattle.devices.specs.Devices.{count_after}
 use Rattle.markup.specs.Forest.{Forest}
 use Rattle.html_input.specs.Reading.{HasBegun, ShowsNotUtf8}
 use Rattle.html_plain.specs.Grammar.{is_plain_forest}
+use Rattle.html_tokens.specs.Laws.{ReadsEscapes}
 use Rattle.html_tokens.specs.Table.{Row}
+use Rattle.html_normal.specs.Again.{IsNormal}
 use Rattle.html_normal.specs.Document.{IsDocument, document_bytes}
 use Rattle.html_normal.specs.declared.fault.NormalFault.{NormalFault}
 use Rattle.html_normal.specs.declared.fault.NormalFault.TheVariants.{NotUtf8, Read, Write, Memory, Refused}
@@ -24,6 +26,8 @@ pub record IsNormalised (table : List Row) (whole : List ℕ) (left old new : Op
   pub output : new ≡ append_known old (document_bytes document)
   pub plain : report.plain ≡ is_plain_forest document
   pub quirks : report.quirks ≡ document.quirks
+  -- read again, by whatever table that reads what escaping writes, a plain document's text is that document, and is written the same
+  pub again : report.plain ≡ true → (other : List Row) → ReadsEscapes other → IsNormal other (document_bytes document)
 
 -- A beginning of the document was written.
 pub record IsBegun (table : List Row) (whole : List ℕ) (old new : Option (List ℕ)) : Type 0 where

@@ -3,6 +3,7 @@
 
 mod document;
 mod fault;
+pub mod laws;
 mod program;
 mod report;
 mod whole;
