@@ -19,7 +19,6 @@ use Rattle.html_stack.specs.Inserting.{LeavesStanding, with_made}
 use Rattle.html_stack.specs.declared.inserting.new_element.NewElement.{NewElement}
 use Rattle.html_stack.proofs.Points.{own-of}
 
-
 cases_false : (x : Bool) → (x ≡ true → ⊥) → x ≡ false
 cases_false true h = absurd (h refl)
 cases_false false h = refl
