@@ -17,6 +17,9 @@ use std::alloc::Global;
 use std::borrow::CowStr;
 use std::marker::Model;
 
+// So many attributes are found without an index.
+const FEW: usize = 16;
+
 /// A forest: the document, and what was put under it or made beside it. A contract sees the data and the children of each node, the quirks mode and the number of errors.
 #[derive(Debug, Drop)]
 pub struct Forest {
@@ -291,6 +294,19 @@ impl Forest {
     }
 }
 
+// Attributes of a new element, without room for more: of most elements none is added later. Many keep their room, and with it what
+// finds them by name.
+fn fitted(attributes: Attributes) -> Attributes
+    ensures { result ≡ attributes }
+{
+    if attributes.len() > FEW {
+        return attributes;
+    }
+    let mut list = attributes.into_vec();
+    list.shrink_to_fit();
+    Attributes::from_vec(list)
+}
+
 impl TreeSink for Forest {
     ghost use Rattle.std.specs.Prelude.{ℕ};
     ghost use Rattle.markup.specs.Forest.{IsNode, IsParent, MayPut, data_of, integration_point_of, node_count, parent_of, place_before, place_near, put_child};
@@ -348,12 +364,13 @@ impl TreeSink for Forest {
         flags: ElementFlags,
     ) -> Result<NodeId, ParseFault> {
         let integration_point = flags.mathml_annotation_xml_integration_point;
+        let attrs = fitted(attributes);
         if flags.template {
-            self.create_template(name, attributes, integration_point)
+            self.create_template(name, attrs, integration_point)
         } else {
             self.create(NodeData::Element {
                 name,
-                attrs: attributes,
+                attrs,
                 template_contents: None,
                 integration_point,
             })
