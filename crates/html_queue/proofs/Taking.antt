@@ -113,6 +113,23 @@ member_first bits (c ∷ cs) (b ∷ bs) e member =
     let is : c ≡ b = char_from_byte (b ∷ bs) (encode_utf8_all cs) c (sym e) low (omega arith) in
     rw is h
 
+-- a place before a byte of the set, or the end, is one where a text may be cut
+pub cut_before : (bits : ℕ) (bs : List ℕ) (w : ℕ) → w ≤ length bs → (w < length bs → has bits (slice_index bs w) ≡ true) → IsCharBoundary bs w
+cut_before bits bs w within at = (within, λ l h. absurd (omega (arith, has-below bits (slice_index bs w) (at l))))
+
+-- a front with no byte of the set has no character of it
+pub front_lacks : (bits : ℕ) (bs : List ℕ) (w : ℕ) → IsUtf8 bs → w ≤ length bs → ((k : ℕ) → k < w → has bits (slice_index bs k) ≡ false) → IsCharBoundary bs w → All (λ c. has bits c ≡ false) (chars (take w bs))
+front_lacks bits bs w u within lack cut =
+    let long : length (take w bs) ≡ w = length-take-le w bs within in
+    let back : encode_utf8_all (chars (take w bs)) ≡ take w bs = encodes-chars (take w bs) (IsUtf8-take bs w u cut) in
+    run_lacks bits (chars (take w bs)) (rw back (λ k l. rw (get_or-take w bs k 0 (omega (arith, l, long))) (lack k (omega (arith, l, long)))))
+
+-- what follows it begins with one
+pub rest_member : (bits : ℕ) (bs : List ℕ) (w : ℕ) → IsUtf8 bs → w ≤ length bs → (w < length bs → has bits (slice_index bs w) ≡ true) → IsCharBoundary bs w → IfSome (slice_get (chars (drop w bs)) 0) (λ c. has bits c ≡ true)
+rest_member bits bs w u within at cut =
+    let rest : encode_utf8_all (chars (drop w bs)) ≡ drop w bs = encodes-chars (drop w bs) (IsUtf8-drop bs w u cut) in
+    member_first bits (chars (drop w bs)) (drop w bs) rest (λ l. rw (get_or-drop w bs 0 0, add-zero) (at (omega (arith, l, length-drop w bs))))
+
 -- a front with no byte of the set, up to the first, is the longest run with no character of the set
 pub run_is : (bits : ℕ) (bs : List ℕ) (w : ℕ) → IsUtf8 bs → 0 < w → w ≤ length bs → ((k : ℕ) → k < w → has bits (slice_index bs k) ≡ false) → (w < length bs → has bits (slice_index bs w) ≡ true) → IsCharBoundary bs w → IsRun bits (chars (take w bs)) (chars (drop w bs))
 run_is bits bs w u some within lack at cut =
@@ -133,3 +150,16 @@ takes_run bits bs text more n m w u is some within lack at g e =
     let taken : m ≡ n + length (chars (take w bs)) = rw is at e in
     let run : IsRun bits (chars (take w bs)) (chars more) = rw g (run_is bits bs w u some within lack at cut) in
     rw is (run, takes_front bs more n m w u cut g taken)
+
+-- the bytes that wait are those that their characters are written with
+pub spelled : (bs text : List ℕ) → IsUtf8 bs → text ≡ bs → text ≡ encode_utf8_all (chars bs)
+spelled bs text u e = e ∙ sym (encodes-chars bs u)
+
+-- a beginning of them is taken
+pub takes_bytes : (bs more : List ℕ) (n m w : ℕ) → IsUtf8 bs → IsCharBoundary (encode_utf8_all (chars bs)) w → more ≡ drop w bs → m ≡ n + length (chars (take w bs))
+    → Takes (chars (take w (encode_utf8_all (chars bs)))) (record { characters = chars bs; taken = n }) (record { characters = chars more; taken = m })
+takes_bytes bs more n m w u b e f = rw (encodes-chars bs u) (takes_front bs more n m w u (rw (encodes-chars bs u) at b) e f)
+
+-- where they may be cut
+pub cut_at : (bs : List ℕ) (w : ℕ) → IsUtf8 bs → IsCharBoundary (encode_utf8_all (chars bs)) w → IsCharBoundary bs w
+cut_at bs w u b = rw (encodes-chars bs u) at b

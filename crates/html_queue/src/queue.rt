@@ -1,5 +1,5 @@
-ghost use Rattle.std.specs.Prelude.{◌≡◌, ◌+◌, ◌++◌, [], ◌∷◌, length, IfOk, OnOk, OnErr, IsOkUnless, MatchOption, slice_get, ◌==◌, ◌≢◌, ℕ, Bool, true, Some};
-ghost use Rattle.std.specs.Str.{chars, IsAscii};
+ghost use Rattle.std.specs.Prelude.{◌≡◌, ◌+◌, ◌++◌, [], ◌∷◌, length, IfOk, OnOk, OnErr, IsOkUnless, MatchOption, slice_get, ◌==◌, ◌≢◌, ℕ, Bool, true, Some, encode_utf8_all, take};
+ghost use Rattle.std.specs.Str.{chars, IsAscii, IsCharBoundary};
 ghost use Rattle.std.specs.String.{string_bytes};
 ghost use Rattle.markup.specs.declared.fault.ParseFault.TheVariants.{Memory};
 ghost use Rattle.html_queue.specs.Queue.{Takes, Passes, Pops};
@@ -61,6 +61,23 @@ impl BufferQueue {
         ensures { result ≡ slice_get self.now.characters 0 }
     {
         self.cursor.as_str().chars().next()
+    }
+
+    /// All that waits, lent, as one text.
+    pub fn as_str(&self) -> &str
+        ensures { result.now ≡ encode_utf8_all self.now.characters }
+    {
+        Cursor::as_str(&self.cursor)
+    }
+
+    /// Takes so many bytes of what waits, where a character ends.
+    pub fn skip(&mut self, width: usize)
+        requires { IsCharBoundary (encode_utf8_all self.old.characters) width }
+        ensures { Takes (chars (take width (encode_utf8_all self.old.characters))) self.old self.new }
+    {
+        let waiting = self.cursor.as_str();
+        self.taken.add(waiting[..width].as_bytes());
+        self.cursor.skip(width);
     }
 
     /// Takes the first character. `None` where the queue is empty.

@@ -1,4 +1,5 @@
-ghost use Rattle.std.specs.Prelude.{◌≡◌, ◌<◌, ◌≤◌, ℕ, true, false, length, slice_index};
+ghost use Rattle.std.specs.Prelude.{◌≡◌, ◌<◌, ◌≤◌, ◌++◌, ℕ, true, false, All, IfSome, length, slice_get, slice_index};
+ghost use Rattle.std.specs.Str.{IsUtf8, chars};
 ghost use Rattle.html_queue.specs.Set.{has};
 
 use markup::Text;
@@ -30,6 +31,17 @@ impl SmallCharSet {
             }
         }
         bytes.len()
+    }
+
+    /// The characters of a text before the first that is in the set, and what follows them.
+    pub fn split<'a>(&self, text: &'a str) -> (&'a str, &'a str)
+        ensures whole { text.now ≡ result.0.now ++ result.1.now }
+        ensures cut { IsUtf8 result.0.now }
+        ensures lacking { All (λ c. has self.now.bits c ≡ false) (chars result.0.now) }
+        ensures longest { IfSome (slice_get (chars result.1.now) 0) (λ c. has self.now.bits c ≡ true) }
+    {
+        let width = self.nonmember_prefix_len(text);
+        text.split_at(width)
     }
 }
 
