@@ -1,20 +1,18 @@
 -- A character reference is decided once what is held of it can't go on.
-use Rattle.std.proofs.Common.{◌≡◌, ◌∙◌, ℕ, zero, suc, ◌≤◌, ◌<◌, ◌+◌, ◌-◌, Bool, cond, true, false, List, [], ◌∷◌, ◌++◌, length, take, drop, Option, Some, None, refl, sym, ap, subst, arith, append-nil, append_assoc}
-use Rattle.std.specs.Prelude.{nat_eq, not, ◌&&◌, ◌||◌, ◌==◌, IsTrue, IfSome, All}
-use Rattle.std.specs.Char.{is_ascii_alphanumeric, is_ascii_digit, is_ascii_hexdigit}
-use Rattle.std.specs.List.{list_all, starts_with, ends_with}
+use Rattle.std.proofs.Common.{◌≡◌, ◌∙◌, ℕ, zero, suc, ◌≤◌, ◌<◌, ◌+◌, Bool, cond, true, false, List, [], ◌∷◌, ◌++◌, length, take, drop, Option, Some, None, refl, sym, ap, arith}
+use Rattle.std.specs.Prelude.{nat_eq, not, ◌&&◌, ◌||◌, IsTrue, IfSome, All}
+use Rattle.std.specs.Char.{is_ascii_digit, is_ascii_hexdigit}
+use Rattle.std.specs.List.{starts_with, ends_with}
 use Rattle.std.specs.Option.{is_some, option_map}
-use Rattle.std.proofs.lemmas.Bool.{and_parts, or_parts, cond-true, cond-false, eqb-true, false_from_ne_true, true≢false}
-use Rattle.std.proofs.lemmas.Bool.Decides.{Decides-eqb, nat_tests}
+use Rattle.std.proofs.lemmas.Bool.{and_parts, true≢false}
 use Rattle.std.proofs.lemmas.List.{take-append-le, drop-append-le}
 use Rattle.std.proofs.lemmas.List.Elements.{All-tail}
-use Rattle.std.proofs.lemmas.Slice.Eq.{ends_is}
 use Rattle.html_tokens.specs.Characters.{run, run_by}
 use Rattle.html_tokens.specs.Item.{Fault, Grave, Slight, grave_if, slight_if}
 use Rattle.html_tokens.specs.Reference.{goes_on_at, digits_at, ends_in_semicolon as has_semicolon, fault_of_number, fault_of_reference, fault_of_reference_by, is_no_character, is_text_in_value, named_row, named_by, number, numbered_reference, numeric, numeric_by, reference_at, reference_by, semicolon}
-use Rattle.html_tokens.specs.Table.{goes_on, longest}
+use Rattle.html_tokens.specs.Table.{longest}
 use Rattle.html_tokens.specs.declared.table.ReferenceRow.{ReferenceRow}
-use Rattle.html_references.specs.References.{IsCheckedTable, is_reference_name, stem}
+use Rattle.html_references.specs.References.{IsCheckedTable, is_reference_name}
 use Rattle.html_references.proofs.Begins.{fitting-is}
 use Rattle.html_references.proofs.Fronts.{longest-stop}
 use Rattle.html_references.proofs.Longest.{Within, longest-within}

@@ -1,7 +1,7 @@
 -- By which characters a reference that is held goes on.
 use Rattle.std.proofs.Common.{◌≡◌, ◌∙◌, ℕ, suc, ◌-◌, ◌==◌, Bool, true, false, cond, List, [], ◌∷◌, ◌++◌, length, take, refl, sym, ap, subst, append_assoc, inl, inr}
 use Rattle.std.specs.Prelude.{nat_eq, not, ◌&&◌, ◌||◌, ◌⊎◌, IsTrue, All}
-use Rattle.std.specs.Char.{is_ascii_alphanumeric, is_ascii_digit, is_ascii_hexdigit}
+use Rattle.std.specs.Char.{is_ascii_alphanumeric}
 use Rattle.std.specs.List.{list_all, starts_with, ends_with}
 use Rattle.std.proofs.Common.{arith}
 use Rattle.std.proofs.lemmas.Bool.{and_parts, cond-true, cond-false, eqb-true, false_from_ne_true, true≢false}
@@ -10,7 +10,7 @@ use Rattle.std.proofs.lemmas.List.Elements.{All-tail}
 use Rattle.std.proofs.lemmas.Slice.Eq.{ends_is}
 use Rattle.html_tokens.specs.declared.table.ReferenceRow.{ReferenceRow}
 use Rattle.html_references.specs.References.{IsCheckedTable, is_front, is_reference_name, stem}
-use Rattle.html_tokenizer.specs.CharRefs.{are_digits, is_front_by, is_held, is_held_front, is_named_with, is_no_text, is_number_by, is_number_front, may_go_on, stops}
+use Rattle.html_tokenizer.specs.CharRefs.{are_digits, is_front_by, is_held, is_named_with, is_no_text, is_number_by, is_number_front, may_go_on, stops}
 
 pub or-cases : {P : Type 0} (a b : Bool) → (a || b) ≡ true → (a ≡ true → P) → (b ≡ true → P) → P
 or-cases true b h f g = f refl

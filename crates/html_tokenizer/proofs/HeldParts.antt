@@ -1,16 +1,16 @@
 -- What is held of a reference is a part of one, which some further text makes.
-use Rattle.std.proofs.Common.{◌≡◌, ◌∙◌, ℕ, zero, suc, ◌≤◌, ◌<◌, ◌+◌, Bool, cond, true, false, List, [], ◌∷◌, ◌++◌, length, take, drop, Option, Some, None, refl, sym, ap, subst, arith, append-nil, length-append}
-use Rattle.std.specs.Prelude.{nat_eq, nat_le, not, ◌&&◌, ◌||◌}
+use Rattle.std.proofs.Common.{◌≡◌, ◌∙◌, ℕ, zero, suc, ◌≤◌, ◌<◌, ◌+◌, Bool, cond, true, false, List, [], ◌∷◌, ◌++◌, length, drop, Option, Some, None, refl, sym, ap, subst, arith, append-nil, length-append}
+use Rattle.std.specs.Prelude.{nat_eq, nat_le, ◌&&◌, ◌||◌}
 use Rattle.std.specs.List.{starts_with}
 use Rattle.std.specs.Str.{bytes_eq}
-use Rattle.std.proofs.lemmas.Bool.{and_parts, cond-true, eqb-true, true≢false}
+use Rattle.std.proofs.lemmas.Bool.{and_parts, true≢false}
 use Rattle.std.proofs.lemmas.Bool.Decides.{Decides-eqb, nat_tests}
 use Rattle.std.proofs.lemmas.List.{drop_all}
 use Rattle.std.proofs.lemmas.Slice.Eq.{bytes_eq-Decides, starts_is}
 use Rattle.html_tokens.specs.declared.states.State.{State}
 use Rattle.html_tokens.specs.declared.table.ReferenceRow.{ReferenceRow}
 use Rattle.html_tokens.specs.Characters.{run}
-use Rattle.html_tokens.specs.Reference.{Reference, digits_at, is_text_in_value, named_row, named_by, number, numbered, numbered_reference, numeric, reference_at, reference_by, semicolon}
+use Rattle.html_tokens.specs.Reference.{Reference, digits_at, is_text_in_value, named_row, numbered_reference, numeric, reference_by, semicolon}
 use Rattle.html_references.specs.References.{is_front, is_named, longer_of, longest}
 use Rattle.html_references.proofs.Begins.{fitting-is}
 use Rattle.html_tokenizer.specs.Calls.{HeldIn, is_value}

@@ -1,15 +1,14 @@
 -- What is held of a reference is of ASCII alone.
 use Rattle.std.proofs.Common.{◌≡◌, ℕ, zero, suc, true, List, [], ◌∷◌, drop, refl, arith}
-use Rattle.std.specs.Prelude.{nat_eq, nat_lt}
+use Rattle.std.specs.Prelude.{nat_lt}
 use Rattle.std.specs.List.{list_all}
 use Rattle.std.specs.Str.{IsUtf8, chars}
 use Rattle.std.proofs.lemmas.Bool.{and_parts, and_from}
 use Rattle.std.proofs.lemmas.Bool.Decides.{nat_tests}
 use Rattle.markup.specs.Plain.{is_plain}
 use Rattle.markup.proofs.Plain.{chars-plain}
-use Rattle.html_tokens.specs.Table.{Row}
 use Rattle.html_references.proofs.Names.{bytes_of_plain}
-use Rattle.html_tokenizer.specs.CharRefs.{is_held, is_named_with}
+use Rattle.html_tokenizer.specs.CharRefs.{is_held}
 
 held-below : (c : ℕ) → is_held c ≡ true → nat_lt c 128 ≡ true
 held-below c h = grind (arith, nat_tests)

@@ -6,6 +6,8 @@ use Rattle.html_queue.specs.Queue.{Queue, Takes, IsRun}
 use Rattle.html_queue.specs.Set.{has}
 use Rattle.html_tokens.specs.NormalText.{newline_by, newlines_behind, without_mark}
 use Rattle.html_tokenizer.specs.declared.tokenizer.Stream.{Stream}
+use Rattle.html_tokenizer.specs.Fronts.{IsUnbroken}
+use Rattle.html_tokenizer.specs.Input.{coming_in}
 use Rattle.html_tokenizer.specs.Pieces.{ComesAsRun}
 use Rattle.html_tokenizer.proofs.Sets.{not-member}
 
@@ -51,3 +53,28 @@ module _ (bits : ℕ) (line_feed : has bits 10 ≡ true) (carriage_return : has 
         filled = taken.0.filled;
         lacking = taken.0.lacking;
       })
+
+-- a character that is no line end comes as it is, and so does a text of them
+unbroken-first : (cr : Bool) (c : ℕ) (t : List ℕ) → nat_eq c 10 ≡ false → nat_eq c 13 ≡ false → newlines_behind cr (c ∷ t) ≡ c ∷ newlines_behind false t
+unbroken-first cr c t n r = newline_by-plain (nat_eq c 13) cr (nat_eq c 10) c (λ b. newlines_behind b t) r n
+
+unbroken-rest : (run t : List ℕ) → IsUnbroken run → newlines_behind false (run ++ t) ≡ run ++ newlines_behind false t
+unbroken-rest [] t u = refl
+unbroken-rest (c ∷ run) t u =
+    let first = All-head (λ c. (nat_eq c 10 ≡ false) × (nat_eq c 13 ≡ false)) c run u in
+    unbroken-first false c (run ++ t) first.0 first.1 ∙ ap (λ u. c ∷ u) (unbroken-rest run t (All-tail (λ c. (nat_eq c 10 ≡ false) × (nat_eq c 13 ≡ false)) c run u))
+
+unbroken-run : (cr : Bool) (run t : List ℕ) → 0 < length run → IsUnbroken run → newlines_behind cr (run ++ t) ≡ run ++ newlines_behind false t
+unbroken-run cr [] t filled u = absurd (omega arith)
+unbroken-run cr (c ∷ run) t filled u =
+    let first = All-head (λ c. (nat_eq c 10 ≡ false) × (nat_eq c 13 ≡ false)) c run u in
+    unbroken-first cr c (run ++ t) first.0 first.1 ∙ ap (λ u. c ∷ u) (unbroken-rest run t (All-tail (λ c. (nat_eq c 10 ≡ false) × (nat_eq c 13 ≡ false)) c run u))
+
+-- a front without line ends comes as it is, where no byte order mark may come
+pub front-comes : (old : Stream) (run t : List ℕ) → old.discard_bom ≡ false → 0 < length run → IsUnbroken run → coming_in old (run ++ t) ≡ run ++ coming_in (record old { ignore_lf = false }) t
+front-comes old run t unmarked filled u =
+    ap (λ mark. newlines_behind old.ignore_lf (without_mark mark (run ++ t))) unmarked
+    ∙ ap (newlines_behind old.ignore_lf) (without_none (run ++ t))
+    ∙ unbroken-run old.ignore_lf run t filled u
+    ∙ ap (λ u. run ++ newlines_behind false u) (sym (without_none t))
+    ∙ ap (λ mark. run ++ newlines_behind false (without_mark mark t)) (sym unmarked)

@@ -21,6 +21,9 @@ pub mod Erring
 pub mod Errors
 pub mod Feeding
 pub mod Finished
+pub mod FrontTags
+pub mod FrontTexts
+pub mod Fronts
 pub mod Glue
 pub mod HeldFronts
 pub mod HeldGlue

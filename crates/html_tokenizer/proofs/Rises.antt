@@ -4,7 +4,7 @@ use Rattle.std.specs.Prelude.{◌&&◌, min}
 use Rattle.std.proofs.lemmas.Bool.{and_parts, and_from}
 use Rattle.std.proofs.lemmas.Bool.Decides.{nat_tests}
 use Rattle.html_tokens.specs.Item.{Fault, Grave, Slight, grave_if, slight_if, and_slight_if}
-use Rattle.html_tokens.specs.Notes.{Notes, one_if, heard, wronged}
+use Rattle.html_tokens.specs.Notes.{Notes, one_if, heard}
 use Rattle.html_tokens.specs.Sink.{one_more, Counts, CountsOwn}
 use Rattle.html_tokens.specs.declared.token.Token.{Token}
 use Rattle.html_tokens.specs.declared.token.Token.TheVariants.{ParseError}

@@ -166,7 +166,7 @@ module _ {K H : Type 0} (Sink : Ghosts K H) where
   )
 
   -- A character was taken, and then a run.
-  took-then : (old mid new : Tokenizer K) (c : ℕ) (run : List ℕ) → nat_eq c 10 ≡ false → Took Sink old mid c flow.Continue → TookRun Sink mid new run → TookRun Sink old new (c ∷ run)
+  pub took-then : (old mid new : Tokenizer K) (c : ℕ) (run : List ℕ) → nat_eq c 10 ≡ false → Took Sink old mid c flow.Continue → TookRun Sink mid new run → TookRun Sink old new (c ∷ run)
   took-then old mid new c run unbroken first rest = record {
     owed = together rest.owed first.owed;
     rises = rises-then Sink.errors old.sink mid.sink new.sink first.rises rest.rises;
@@ -214,7 +214,7 @@ module _ {K H : Type 0} (Sink : Ghosts K H) where
         rw (append_assoc front (c ∷ []) run) at both
 
   -- The same, where nothing is said of what is odd.
-  run-held : (machine : List ℕ → Tokenizer K) (bits : ℕ) → has bits 10 ≡ true → ((front : List ℕ) → Sink.is_sound (Sink.view (machine front).sink)) → ((front : List ℕ) → fits_in (rows_of (machine front)) (machine front).char_ref (machine front).state ≡ true)
+  pub run-held : (machine : List ℕ → Tokenizer K) (bits : ℕ) → has bits 10 ≡ true → ((front : List ℕ) → Sink.is_sound (Sink.view (machine front).sink)) → ((front : List ℕ) → fits_in (rows_of (machine front)) (machine front).char_ref (machine front).state ≡ true)
       → ((front : List ℕ) (c : ℕ) → has bits c ≡ false → Took Sink (machine front) (machine (front ++ c ∷ [])) c flow.Continue)
       → (front run : List ℕ) → All (λ c. has bits c ≡ false) run → TookRun Sink (machine front) (machine (front ++ run)) run
   run-held machine bits unbroken ok fits each front run lacking = (run-noted machine bits (λ c. false) unbroken ok fits (λ front c lacks. (each front c lacks, λ h. refl)) front run lacking).0
@@ -234,7 +234,7 @@ module _ {K H : Type 0} (Sink : Ghosts K H) where
       old.attribute_value run lacking
 
   -- a run of a value in quotes
-  value-run : (old : Tokenizer K) (kind : AttrValueKind) (run : List ℕ) → kind ≢ value.Unquoted → IsAt old (state.AttributeValue kind) → Sink.is_sound (Sink.view old.sink) → (set : SmallCharSet) → Some (value_stops kind) ≡ Some set → All (λ c. has set.bits c ≡ false) run
+  pub value-run : (old : Tokenizer K) (kind : AttrValueKind) (run : List ℕ) → kind ≢ value.Unquoted → IsAt old (state.AttributeValue kind) → Sink.is_sound (Sink.view old.sink) → (set : SmallCharSet) → Some (value_stops kind) ≡ Some set → All (λ c. has set.bits c ≡ false) run
       → TookRun Sink old (record old { attribute_value = old.attribute_value ++ run }) run
   value-run old value.Unquoted run quoted from ok set are lacking = absurd (quoted refl)
   value-run old value.SingleQuoted run quoted from ok set are lacking =

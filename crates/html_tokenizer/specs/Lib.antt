@@ -3,6 +3,7 @@ pub mod CharRefs
 pub mod EndStates
 pub mod EndText
 pub mod Forbidden
+pub mod Fronts
 pub mod Input
 pub mod Keywords
 pub mod Laws

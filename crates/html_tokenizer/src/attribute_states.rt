@@ -65,7 +65,7 @@ fn unquoted_fault(c: char) -> Option<&'static str>
 
 impl<Sink: TokenSink> Tokenizer<Sink> {
     /// Adds the attribute that was read to the tag, or drops it where the tag has one of its name.
-    fn finish_attribute(&mut self) -> Result<(), ParseFault>
+    pub(crate) fn finish_attribute(&mut self) -> Result<(), ParseFault>
         ensures ok { OnOk result (self.new ≡ record self.old { tag = with_attribute self.old.tag self.old.attribute_name self.old.attribute_value; attribute_name = []; attribute_value = [] }) }
         ensures fault { IfErr result (λ fault. fault ≡ Memory) }
         ensures sink { self.new.sink ≡ self.old.sink }

@@ -2,8 +2,10 @@
 ghost use Rattle.std.specs.Prelude.{◌≡◌, IfOk, IfErr, OnErr};
 ghost use Rattle.markup.specs.declared.fault.ParseFault.TheVariants.{Memory};
 ghost use Rattle.html_tokenizer.specs.Calls.{IsReady, KeepsText, Moves, NextsAt, Runs};
+ghost use Rattle.html_tokenizer.specs.Fronts.{ReadsTags};
 ghost use Rattle.html_tokenizer.specs.Stops.{IsRunAt};
 
+use crate::front_tags::opening_of;
 use crate::piece::Piece;
 use crate::tokenizer::Tokenizer;
 use html_queue::BufferQueue;
@@ -35,8 +37,8 @@ impl<Sink: TokenSink> Tokenizer<Sink> {
         Ok(ProcessResult::Continue)
     }
 
-    /// Takes what comes next of the input.
-    fn move_on(
+    /// Takes what comes next of the input: a character, or a run of text.
+    fn move_by_piece(
         &mut self,
         input: &mut BufferQueue,
     ) -> Result<ProcessResult<Sink::Handle>, ParseFault>
@@ -48,6 +50,40 @@ impl<Sink: TokenSink> Tokenizer<Sink> {
             Piece::Char(c) => self.take(c),
             Piece::Run(run) => self.take_text(run),
         }
+    }
+
+    /// Takes the beginning of a tag from the front of the input at once, or else what comes next.
+    fn move_by_tag(
+        &mut self,
+        input: &mut BufferQueue,
+    ) -> Result<ProcessResult<Sink::Handle>, ParseFault>
+        requires ready { IsReady Sink.TokenSink self.old }
+        requires tags { ReadsTags self.old }
+        ensures { Moves Sink.TokenSink self.old self.new input.old input.new result }
+    {
+        let text = input.as_str();
+        let Some(opening) = opening_of(text) else {
+            return self.move_by_piece(input);
+        };
+        self.stream.ignore_lf = false;
+        let rest = self.take_opening(opening)?;
+        let width = text.len() - rest.len();
+        input.skip(width);
+        Ok(ProcessResult::Continue)
+    }
+
+    /// Takes what comes next of the input.
+    fn move_on(
+        &mut self,
+        input: &mut BufferQueue,
+    ) -> Result<ProcessResult<Sink::Handle>, ParseFault>
+        requires ready { IsReady Sink.TokenSink self.old }
+        ensures { Moves Sink.TokenSink self.old self.new input.old input.new result }
+    {
+        if self.reads_tags() {
+            return self.move_by_tag(input);
+        }
+        self.move_by_piece(input)
     }
 
     /// Takes all of the input, or what stands before a pause.

@@ -12,6 +12,7 @@ mod doctype_states;
 mod end_markup_states;
 mod end_states;
 mod feed;
+mod front_tags;
 mod held_reference;
 mod input;
 mod keyword;

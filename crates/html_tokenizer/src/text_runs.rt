@@ -12,7 +12,7 @@ use html_tokens::states::{AttrValueKind, RawKind, State};
 use markup::{ParseFault, Text};
 
 /// NUL, line feed and carriage return.
-const BREAKS: u64 = 1 << 0 | 1 << 10 | 1 << 13;
+pub(crate) const BREAKS: u64 = 1 << 0 | 1 << 10 | 1 << 13;
 
 /// The characters of raw text of this kind that are no plain text.
 fn raw_stops(kind: RawKind) -> SmallCharSet
@@ -32,7 +32,7 @@ fn raw_stops(kind: RawKind) -> SmallCharSet
 }
 
 /// The characters of a value that end it or do not stand for themselves.
-fn value_stops(kind: AttrValueKind) -> SmallCharSet
+pub(crate) fn value_stops(kind: AttrValueKind) -> SmallCharSet
     ensures { result ≡ stops.value_stops kind }
 {
     match kind {

@@ -1,6 +1,4 @@
-use Rattle.std.proofs.Common.{◌≡◌, ◌∙◌, ap, arith}
-use Rattle.std.specs.Char.{is_ascii_alphabetic}
-use Rattle.std.specs.List.{list_all}
+use Rattle.std.proofs.Common.{◌∙◌, arith}
 use Rattle.html_tokenizer.proofs.Words.{own-letters, next-none, next-some}
 use Rattle.html_tokenizer.proofs.letters.Letters.is_next_in.Goals as goal
 

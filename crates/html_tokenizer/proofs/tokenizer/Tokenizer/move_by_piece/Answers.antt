@@ -1,5 +1,5 @@
 use Rattle.html_tokenizer.proofs.Feeding.{not-moved, moved-nowhere, moved-one, moved-run}
-use Rattle.html_tokenizer.proofs.tokenizer.Tokenizer.move_on.Goals as goal
+use Rattle.html_tokenizer.proofs.tokenizer.Tokenizer.move_by_piece.Goals as goal
 
 pub returns-in-Nothing : goal.returns-in-Nothing
 returns-in-Nothing g c =

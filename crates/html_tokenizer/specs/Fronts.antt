@@ -1,0 +1,119 @@
+-- What is taken of tags from the front of a text at once.
+use Rattle.std.specs.Prelude.{◌≡◌, ℕ, true, false, nat_eq, List, [], ◌∷◌, ◌++◌, All, Some, map}
+use Rattle.std.specs.Char.{is_ascii_alphabetic, to_ascii_lowercase}
+use Rattle.std.specs.Str.{IsUtf8, chars}
+use Rattle.html_queue.specs.Set.{has}
+use Rattle.html_queue.specs.declared.set.SmallCharSet.{SmallCharSet}
+use Rattle.html_tokens.specs.declared.sink.TokenSink.{Ghosts}
+use Rattle.html_tokens.specs.declared.states.AttrValueKind.{AttrValueKind}
+use Rattle.html_tokens.specs.declared.states.State.TheVariants as state
+use Rattle.html_tokens.specs.declared.tags.TagKind.{TagKind}
+use Rattle.html_tokens.specs.declared.tags.TagKind.TheVariants.{StartTag, EndTag}
+use Rattle.html_tokens.specs.Tags.{named, with_attribute}
+use Rattle.html_tokenizer.specs.Calls.{TookRun}
+use Rattle.html_tokenizer.specs.declared.tokenizer.Tokenizer.{Tokenizer}
+use Rattle.html_tokenizer.specs.Quotes.{quote_of}
+use Rattle.html_tokenizer.specs.Steps.{IsAt}
+use Rattle.html_tokenizer.specs.Stops.{with_breaks, value_stops}
+
+-- the characters at which a tag's name, and that of an attribute, is taken no further at once
+abbrev pub name_stops : SmallCharSet
+name_stops = with_breaks (9 ∷ 12 ∷ 32 ∷ 47 ∷ 62 ∷ [])
+
+abbrev pub attribute_stops : SmallCharSet
+attribute_stops = with_breaks (9 ∷ 12 ∷ 32 ∷ 34 ∷ 39 ∷ 47 ∷ 60 ∷ 61 ∷ 62 ∷ [])
+
+-- no character of a text is in a set
+abbrev pub Lacks : SmallCharSet → List ℕ → Type 0
+Lacks set cs = All (λ c. has set.bits c ≡ false) cs
+
+-- no character of a text is a line end
+abbrev pub IsUnbroken : List ℕ → Type 0
+IsUnbroken cs = All (λ c. (nat_eq c 10 ≡ false) × (nat_eq c 13 ≡ false)) cs
+
+-- a letter stands at the front of a text
+pub record BeginsWithLetter (cs : List ℕ) : Type 0 where
+  pub first : ℕ
+  pub more : List ℕ
+  pub split : cs ≡ first ∷ more
+  pub letter : is_ascii_alphabetic first ≡ true
+
+-- a character stands at the front of a text
+pub record IsFilled (cs : List ℕ) : Type 0 where
+  pub first : ℕ
+  pub more : List ℕ
+  pub split : cs ≡ first ∷ more
+
+-- a tag's name that is taken at once
+pub record IsTagName (name : List ℕ) : Type 0 where
+  pub begins : BeginsWithLetter name
+  pub lacking : Lacks name_stops name
+
+-- what stands before the name of a tag of this kind
+abbrev pub mark : TagKind → List ℕ
+mark StartTag = 60 ∷ []
+mark EndTag = 60 ∷ 47 ∷ []
+
+-- the bytes of a text are those of a tag's name, and what follows them
+pub record IsNamed (name rest text : List ℕ) : Type 0 where
+  pub whole : text ≡ name ++ rest
+  pub utf8 : IsUtf8 name
+  pub named : IsTagName (chars name)
+
+-- the same behind what stands before the name
+abbrev pub IsOpening : TagKind → List ℕ → List ℕ → List ℕ → Type 0
+IsOpening kind name rest text = (text ≡ mark kind ++ (name ++ rest)) × IsUtf8 name × IsTagName (chars name)
+
+-- the bytes of a text are those of a value, its quote, and what follows them
+pub record IsQuotedBehind (kind : AttrValueKind) (quote : ℕ) (value rest text : List ℕ) : Type 0 where
+  pub whole : text ≡ value ++ quote ∷ rest
+  pub utf8 : IsUtf8 value
+  pub rest_utf8 : IsUtf8 rest
+  pub lacking : Lacks (value_stops kind) (chars value)
+
+-- the same with the quote before the value
+pub record IsQuoted (value rest text : List ℕ) : Type 0 where
+  pub kind : AttrValueKind
+  pub quote : ℕ
+  pub is : quote_of kind ≡ Some quote
+  pub whole : text ≡ quote ∷ (value ++ quote ∷ rest)
+  pub utf8 : IsUtf8 value
+  pub rest_utf8 : IsUtf8 rest
+  pub lacking : Lacks (value_stops kind) (chars value)
+
+-- the bytes of a text are those of a space and an attribute with a value in quotes, and what follows them
+pub record IsAttribute (name value rest text : List ℕ) : Type 0 where
+  pub behind : List ℕ
+  pub whole : text ≡ 32 ∷ (name ++ 61 ∷ behind)
+  pub utf8 : IsUtf8 name
+  pub filled : IsFilled (chars name)
+  pub lacking : Lacks attribute_stops (chars name)
+  pub quoted : IsQuoted value rest behind
+
+-- the machine in a tag of this name
+abbrev pub opened_tag : {K : Type 0} → Tokenizer K → TagKind → List ℕ → Tokenizer K
+opened_tag k kind name = record k { tag = named kind (map to_ascii_lowercase name); state = state.TagName }
+
+-- the machine behind an attribute with a value in quotes
+abbrev pub with_quoted : {K : Type 0} → Tokenizer K → List ℕ → List ℕ → Tokenizer K
+with_quoted k name value = record k { tag = with_attribute k.tag (map to_ascii_lowercase name) value; attribute_name = []; attribute_value = []; state = state.AfterAttributeValueQuoted }
+
+-- the machine stands behind a tag's name, or behind a value in quotes
+pub data IsInTag {K : Type 0} (k : Tokenizer K) : Type 0 where
+  after_name : IsAt k state.TagName → IsInTag k
+  after_value : IsAt k state.AfterAttributeValueQuoted → IsInTag k
+
+-- the machine is in data and holds nothing, no byte order mark may come, and errors of single characters are not told
+pub record ReadsTags {K : Type 0} (k : Tokenizer K) : Type 0 where
+  pub at : IsAt k state.Data
+  pub plain : k.stream.exact_errors ≡ false
+  pub unmarked : k.stream.discard_bom ≡ false
+
+module _ {K H : Type 0} (Sink : Ghosts K H) where
+  -- Of a text's bytes a front was taken, with no line end in it.
+  pub record TakesFront (old new : Tokenizer K) (text rest : List ℕ) : Type 0 where
+    pub front : List ℕ
+    pub whole : text ≡ front ++ rest
+    pub utf8 : IsUtf8 front
+    pub unbroken : IsUnbroken (chars front)
+    pub took : TookRun Sink old new (chars front)
