@@ -2,7 +2,7 @@
 
     normal.py PROGRAM MEGABYTES [OTHER]
 
-PROGRAM is the built html_normal; OTHER a program that reads a page and writes its normal text too, to be timed beside it.
+PROGRAM is the built html_normal, which gets the Standard's table of references; OTHER a program that reads a page and writes its normal text too, to be timed beside it.
 """
 
 import os
@@ -128,14 +128,14 @@ SHAPES = [
 def run(program, page):
     """Runs a program on the file of a page: its processor seconds, and the most kilobytes that it held; nothing after 20 seconds."""
     with open(page, "rb") as source:
-        command = ["timeout", "20", program]
+        command = ["timeout", "20", *program]
         child = subprocess.Popen(command, stdin=source, stdout=subprocess.DEVNULL, stderr=subprocess.DEVNULL)
         _, status, usage = os.wait4(child.pid, 0)
         child.returncode = os.waitstatus_to_exitcode(status)
     if child.returncode == 124:
         return None
     if child.returncode != 0:
-        sys.exit(f"{program}: status {child.returncode} on {page}")
+        sys.exit(f"{program[0]}: status {child.returncode} on {page}")
     return usage.ru_utime + usage.ru_stime, usage.ru_maxrss
 
 
@@ -155,7 +155,7 @@ def whole(programs, folder, megabytes):
     for place, program in enumerate(programs):
         seconds = statistics.median(r[place][0] for r in rounds)
         kilobytes = max(r[place][1] for r in rounds)
-        print(f"{os.path.basename(program)}: {size} bytes in {seconds:.2f} s, {size / seconds / 1e6:.1f} MB a second, {kilobytes / 1000:.0f} MB held")
+        print(f"{os.path.basename(program[0])}: {size} bytes in {seconds:.2f} s, {size / seconds / 1e6:.1f} MB a second, {kilobytes / 1000:.0f} MB held")
     if len(programs) == 2:
         ratio = statistics.median(r[0][0] / r[1][0] for r in rounds)
         print(f"ratio of the times in one round: {ratio:.2f}")
@@ -167,7 +167,7 @@ def layers(program, folder):
         return
     data = os.path.join(folder, "perf.data")
     page = os.path.join(folder, "page.html")
-    command = ["perf", "record", "-q", "-o", data, program]
+    command = ["perf", "record", "-q", "-o", data, *program]
     with open(page, "rb") as source:
         subprocess.run(command, stdin=source, stdout=subprocess.DEVNULL, stderr=subprocess.DEVNULL, check=True)
     command = ["perf", "report", "-q", "-i", data, "--sort", "symbol,dso", "-t", "|"]
@@ -197,15 +197,16 @@ def growth(programs, folder):
                     break
                 seconds.append(seen[0])
             told = "  ".join(f"{second:.3f}" for second in seconds)
-            print(f"{label}, {least:,} and 2, 4, 8 times as many, {os.path.basename(program)}: {told} s")
+            print(f"{label}, {least:,} and 2, 4, 8 times as many, {os.path.basename(program[0])}: {told} s")
 
 
 def main():
     program, megabytes, *other = sys.argv[1:]
-    programs = [program, *other]
+    table = os.path.join(os.path.dirname(os.path.abspath(__file__)), "../crates/table_check/data/named_references.table")
+    programs = [[program, table], *([name] for name in other)]
     with tempfile.TemporaryDirectory() as folder:
         whole(programs, folder, int(megabytes))
-        layers(program, folder)
+        layers(programs[0], folder)
         growth(programs, folder)
 
 
