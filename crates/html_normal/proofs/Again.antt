@@ -24,6 +24,7 @@ plain-normal table reads f plain = let r = bytes-again table reads true around f
   plain = r.plain;
   no_quirks = r.read.told_no_quirks;
   same = r.written;
+  quiet = r.read.noted_quiet;
 }
 
 abbrev state-in : State → Result State Refusal → State

@@ -3,6 +3,7 @@ use Rattle.std.proofs.Common.{◌≡◌, ◌∙◌, ℕ, ◌≤◌, Bool, true, 
 use Rattle.std.specs.Prelude.{IsErr, IsOk}
 use Rattle.std.specs.Io.KnownBytes.{IsAtEnd, append_known, prepend_known}
 use Rattle.std.specs.Str.{chars}
+use Rattle.std.proofs.lemmas.Bool.{and_from}
 use Rattle.std.proofs.lemmas.List.{append-nil}
 use Rattle.devices.specs.Devices.{count_after}
 use Rattle.markup.specs.Forest.{Forest, children_of, data_of, empty_forest, template_of}
@@ -15,12 +16,13 @@ use Rattle.markup.specs.declared.quirks.QuirksMode.{QuirksMode}
 use Rattle.markup.specs.declared.serializer.SerializeFault.{SerializeFault}
 use Rattle.markup.specs.declared.serializer.SerializeFault.TheVariants as serial
 use Rattle.markup.specs.declared.serializer.TraversalScope.TheVariants.{ChildrenOnly}
+use Rattle.markup.specs.declared.tree_sink.TreeSink.{Ghosts as TreeGhosts}
 use Rattle.html_forest.specs.Walk.{walked}
 use Rattle.html_input.proofs.Whole.{all-read}
-use Rattle.html_parser.specs.Read.{Beginning, FailsBehind, HasRead, IsRefusedBehind, IsTaken, read_whole}
+use Rattle.html_parser.specs.Documents.{IsBuilt, builder, of_document}
+use Rattle.html_parser.specs.Read.{Beginning, FailsBehind, HasRead, IsRefusedBehind, IsTaken, RisesTo, owed_by, read_whole}
 use Rattle.html_plain.specs.Grammar.{is_plain_forest}
-use Rattle.html_rules.specs.Documents.{Setting, document}
-use Rattle.html_rules.specs.State.{State}
+use Rattle.html_rules.specs.Documents.{Setting}
 use Rattle.html_serialize.specs.Puts.{Told, with_bytes}
 use Rattle.html_serialize.specs.Serializing.{Writes, bytes_in}
 use Rattle.html_serialize.specs.declared.opts.SerializeOpts.{SerializeOpts}
@@ -28,7 +30,7 @@ use Rattle.html_tokens.specs.Table.{Row}
 use Rattle.html_tokens.specs.declared.options.TokenizerOpts.{TokenizerOpts}
 use Rattle.html_tokens.specs.declared.sink.TokenSink.{Ghosts}
 use Rattle.html_tokenizer.specs.declared.tokenizer.Tokenizer.{Tokenizer}
-use Rattle.html_normal.specs.Document.{default_opts, default_setting, document_bytes, document_of}
+use Rattle.html_normal.specs.Document.{CountsErrors, default_opts, default_setting, document_bytes, is_free_of_told, is_quiet_document}
 use Rattle.html_normal.specs.Faults.{fault_of, write_fault_of}
 use Rattle.html_normal.specs.Normal.{CountsReads, IsBegun, IsFailed, IsInputFault, IsNormalised, IsRead, is_write_fault}
 use Rattle.html_normal.specs.declared.fault.NormalFault.{NormalFault}
@@ -73,29 +75,44 @@ counts-any T U Write left left' failures failures' is = is
 counts-any T U Memory left left' failures failures' is = is
 counts-any T U Refused left left' failures failures' is = is
 
--- the document of a text that was read with options that are the default ones but for the errors that are told
-pub document-same : (table : List Row) (opts : TokenizerOpts) (setting : Setting) (f : Forest) (text waits : List ℕ) → record opts { exact_errors = false } ≡ default_opts → setting ≡ default_setting → f ≡ empty_forest → waits ≡ []
-    → document table opts setting f (text ++ waits) ≡ document_of table text
-document-same table opts setting f text waits opts_is setting_is forest_is none =
-    ap (λ cs. document table opts setting f (text ++ cs)) none ∙ ap (λ cs. document table opts setting f cs) (append-nil text)
-    ∙ ap (λ (o : TokenizerOpts). document table o setting f text) opts_is
-    ∙ ap (λ (s : Setting). document table default_opts s f text) setting_is
-    ∙ ap (λ (g : Forest). document table default_opts default_setting g text) forest_is
+-- options that are the default ones but for whether characters are told
+abbrev opts_with : Bool → TokenizerOpts
+opts_with exact = record default_opts { exact_errors = exact }
 
--- what was built of all that a reader had is its document
-pub document-made : (table : List Row) (opts : TokenizerOpts) (setting : Setting) (f : Forest) (old new : Option (List ℕ)) (bytes waits : List ℕ) (out sink : Forest) (state : State)
-    → record opts { exact_errors = false } ≡ default_opts → setting ≡ default_setting → f ≡ empty_forest → waits ≡ []
-    → IsUtf8 bytes → old ≡ prepend_known bytes new → IsAtEnd new
-    → document table opts setting f (chars bytes ++ waits) ≡ Ok state → out ≡ sink → with_errors 0 sink ≡ state.forest
-    → (whole : List ℕ) → old ≡ Some whole → IsRead table whole new (with_errors 0 out)
-document-made table opts setting f old new bytes waits out sink state opts_is setting_is forest_is none text moved end made gives same whole told =
-    let every = all-read old new bytes whole moved end told in
-    let meant : document table opts setting f (chars bytes ++ waits) ≡ document_of table (chars whole) =
-    document-same table opts setting f (chars bytes) waits opts_is setting_is forest_is none ∙ ap (λ (bs : List ℕ). document_of table (chars bs)) every.same in
-    record {
-      input = record { text = subst IsUtf8 every.same text; state = state; read = sym meant ∙ made; tree = ap (with_errors 0) gives ∙ same };
-      taken = every.taken;
-    }
+-- the errors of a forest that was built count what its text owes
+built-counts : {K H : Type 0} (Sink : TreeGhosts K H Forest) (table : List Row) (exact : Bool) (text : List ℕ) (errors : ℕ) → RisesTo (owed_by (builder Sink) (of_document table (opts_with exact) default_setting empty_forest) text) 0 errors → CountsErrors table exact text errors
+built-counts Sink table exact text errors r = record {
+  enough = r.enough;
+  none = λ quiet free. r.stays (and_from (is_quiet_document table text) (is_free_of_told exact text) quiet free);
+}
+
+module _ {K H : Type 0} (Sink : TreeGhosts K H Forest) where
+  -- how a document begins does not depend on how the parts of its beginning are named
+  built-same : (table : List Row) (exact : Bool) (opts : TokenizerOpts) (setting : Setting) (f : Forest) (text waits : List ℕ) (out : Forest) → opts ≡ opts_with exact → setting ≡ default_setting → f ≡ empty_forest → waits ≡ []
+      → IsBuilt Sink (of_document table opts setting f) (text ++ waits) out → IsBuilt Sink (of_document table (opts_with exact) default_setting empty_forest) text out
+  built-same table exact opts setting f text waits out opts_is setting_is forest_is none built =
+      subst (λ (g : Forest). IsBuilt Sink (of_document table (opts_with exact) default_setting g) text out) forest_is
+      (subst (λ (s : Setting). IsBuilt Sink (of_document table (opts_with exact) s f) text out) setting_is
+      (subst (λ (o : TokenizerOpts). IsBuilt Sink (of_document table o setting f) text out) opts_is
+      (subst (λ (cs : List ℕ). IsBuilt Sink (of_document table opts setting f) cs out) (append-nil text)
+      (subst (λ (cs : List ℕ). IsBuilt Sink (of_document table opts setting f) (text ++ cs) out) none built))))
+
+  -- what was built of all that a reader had is its document
+  pub document-made : (table : List Row) (exact : Bool) (opts : TokenizerOpts) (setting : Setting) (f : Forest) (old new : Option (List ℕ)) (bytes waits : List ℕ) (out : Forest)
+      → ((sink : K) → Sink.finish_gives sink out → out ≡ Sink.forest sink) → opts ≡ opts_with exact → setting ≡ default_setting → f ≡ empty_forest → waits ≡ []
+      → IsUtf8 bytes → old ≡ prepend_known bytes new → IsAtEnd new
+      → IsBuilt Sink (of_document table opts setting f) (chars bytes ++ waits) out
+      → (whole : List ℕ) → old ≡ Some whole → IsRead table exact whole new (with_errors 0 out) out.errors
+  document-made table exact opts setting f old new bytes waits out gives opts_is setting_is forest_is none text moved end built whole told =
+      let every = all-read old new bytes whole moved end told in
+      let made = built-same table exact opts setting f (chars bytes) waits out opts_is setting_is forest_is none built in
+      let of_all = subst (λ (bs : List ℕ). IsBuilt Sink (of_document table (opts_with exact) default_setting empty_forest) (chars bs) out) every.same made in
+      let is = gives of_all.sink of_all.gives in
+      record {
+        input = record { text = subst IsUtf8 every.same text; state = of_all.state; read = of_all.is; tree = ap (with_errors 0) is ∙ of_all.same };
+        taken = every.taken;
+        counts = built-counts Sink table exact (chars whole) out.errors (subst (λ (g : Forest). RisesTo (owed_by (builder Sink) (of_document table (opts_with exact) default_setting empty_forest) (chars whole)) 0 g.errors) (sym is) of_all.rises);
+      }
 
 -- WRITING
 
@@ -125,21 +142,22 @@ module _ (opts : SerializeOpts) (f g : Forest) (id : ℕ) (opts_is : opts ≡ re
       ∙ bytes-walked f top ∙ ap document_bytes forest_is ∙ sym (bytes-same 0 g)
 
   -- the document was written, and the report is of it
-  pub normalised : (table : List Row) (whole : List ℕ) (left : Option (List ℕ)) (old new : Told) (plain : Bool) (mode : QuirksMode) (errors : ℕ)
-      → IsRead table whole left (with_errors 0 g) → new ≡ with_bytes old (given_bytes opts f id) → plain ≡ is_plain_forest g → mode ≡ f.quirks
-      → IsNormalised table whole left old.written new.written (report_with plain mode errors)
-  normalised table whole left old new plain mode errors read wrote plain_is mode_is = record {
+  pub normalised : (table : List Row) (exact : Bool) (whole : List ℕ) (left : Option (List ℕ)) (old new : Told) (plain : Bool) (mode : QuirksMode) (errors : ℕ)
+      → IsRead table exact whole left (with_errors 0 g) g.errors → new ≡ with_bytes old (given_bytes opts f id) → plain ≡ is_plain_forest g → mode ≡ f.quirks → errors ≡ f.errors
+      → IsNormalised table exact whole left old.written new.written (report_with plain mode errors)
+  normalised table exact whole left old new plain mode errors read wrote plain_is mode_is errors_is = record {
     document = with_errors 0 g;
     input = read.input;
     taken = read.taken;
     output = ap (λ (t : Told). t.written) wrote ∙ ap (append_known old.written) given_bytes-are;
     plain = plain_is ∙ sym (plain-same 0 g);
     quirks = mode_is ∙ ap (λ (h : Forest). h.quirks) forest_is;
+    errors = subst (λ (n : ℕ). CountsErrors table exact (chars whole) n) (sym (errors_is ∙ ap (λ (h : Forest). h.errors) forest_is)) read.counts;
     again = λ is other reads. plain-normal other reads (with_errors 0 g) (plain-same 0 g ∙ (sym plain_is ∙ is));
   }
 
-  begun : (table : List Row) (whole : List ℕ) (left old new : Option (List ℕ)) (count : ℕ) → IsRead table whole left (with_errors 0 g) → count ≤ length (given_bytes opts f id) → new ≡ append_known old (take count (given_bytes opts f id)) → IsBegun table whole old new
-  begun table whole left old new count read within moved = record {
+  begun : (table : List Row) (exact : Bool) (whole : List ℕ) (left old new : Option (List ℕ)) (count : ℕ) → IsRead table exact whole left (with_errors 0 g) g.errors → count ≤ length (given_bytes opts f id) → new ≡ append_known old (take count (given_bytes opts f id)) → IsBegun table whole old new
+  begun table exact whole left old new count read within moved = record {
     document = with_errors 0 g;
     input = read.input;
     count = count;
@@ -148,14 +166,14 @@ module _ (opts : SerializeOpts) (f g : Forest) (id : ℕ) (opts_is : opts ≡ re
   }
 
   -- a fault of the serializer
-  pub write-failed : (table : List Row) (fault : SerializeFault) (left left' : Option (List ℕ)) (old new : Told)
-      → ((whole : List ℕ) → left ≡ Some whole → IsRead table whole left' (with_errors 0 g)) → Writes {R = Unit {0}} (given_bytes opts f id) old (Err fault) new
+  pub write-failed : (table : List Row) (exact : Bool) (fault : SerializeFault) (left left' : Option (List ℕ)) (old new : Told)
+      → ((whole : List ℕ) → left ≡ Some whole → IsRead table exact whole left' (with_errors 0 g) g.errors) → Writes {R = Unit {0}} (given_bytes opts f id) old (Err fault) new
       → IsFailed table left left' old.written new.written (write_fault_of fault)
-  write-failed table serial.Write left left' old new read wrote = λ whole told. begun table whole left' old.written new.written wrote.count (read whole told) wrote.within wrote.written
-  write-failed table serial.NoParent left left' old new read wrote = absurd wrote
-  write-failed table serial.NoElemInfo left left' old new read wrote = absurd wrote
-  write-failed table serial.Memory left left' old new read wrote = inr (λ whole told. begun table whole left' old.written new.written wrote.count (read whole told) wrote.within (ap (λ (t : Told). t.written) wrote.told))
-  write-failed table serial.Failed left left' old new read wrote = absurd wrote
+  write-failed table exact serial.Write left left' old new read wrote = λ whole told. begun table exact whole left' old.written new.written wrote.count (read whole told) wrote.within wrote.written
+  write-failed table exact serial.NoParent left left' old new read wrote = absurd wrote
+  write-failed table exact serial.NoElemInfo left left' old new read wrote = absurd wrote
+  write-failed table exact serial.Memory left left' old new read wrote = inr (λ whole told. begun table exact whole left' old.written new.written wrote.count (read whole told) wrote.within (ap (λ (t : Told). t.written) wrote.told))
+  write-failed table exact serial.Failed left left' old new read wrote = absurd wrote
 
 -- how often the writer failed, where a serializer did
 pub writes-counted : (T : Type 0) (fault : SerializeFault) (bytes : List ℕ) (old new : Told) → Writes {R = Unit {0}} bytes old (Err fault) new → new.failures ≡ count_after (is_write_fault {T = T} (Err (write_fault_of fault))) old.failures

@@ -1,14 +1,19 @@
 -- The document of a text, and the text that a document is written as.
-use Rattle.std.specs.Prelude.{◌≡◌, ℕ, true, false, List, None, Result, Ok, IsUtf8, encode_utf8_all}
+use Rattle.std.specs.Prelude.{◌≡◌, ℕ, ◌+◌, ◌≤◌, min, Bool, true, false, List, None, Result, Ok, IsUtf8, encode_utf8_all}
 use Rattle.std.specs.Str.{chars}
 use Rattle.markup.specs.Forest.{Forest, children_of, data_of, empty_forest, integration_point_of}
 use Rattle.markup.specs.Trees.{Trees, default_entry, trees_of, written}
 use Rattle.markup.specs.declared.quirks.QuirksMode.TheVariants.{NoQuirks}
+use Rattle.html_tokens.specs.Notes.{is_quiet_reading, owed}
+use Rattle.html_tokens.specs.NormalText.{normal_text}
 use Rattle.html_tokens.specs.Sink.{Refusal}
 use Rattle.html_tokens.specs.Table.{Row}
 use Rattle.html_tokens.specs.declared.options.TokenizerOpts.{TokenizerOpts}
-use Rattle.html_rules.specs.Documents.{Setting, document}
-use Rattle.html_rules.specs.State.{Answers, State}
+use Rattle.html_rules.specs.Documents.{Setting, before_document, document, stand_of}
+use Rattle.html_rules.specs.ForeignContent.{asks_cdata}
+use Rattle.html_rules.specs.State.{Answers, State, hushed}
+use Rattle.html_rules.specs.Step.{ended, is_quiet, step}
+use Rattle.html_tokenizer.specs.Calls.{owed_for_text}
 
 -- what is not asked for otherwise: a byte order mark is dropped, and reading begins in data
 abbrev pub default_opts : TokenizerOpts
@@ -36,6 +41,27 @@ pub record IsDocument (table : List Row) (bytes : List ℕ) (f : Forest) : Type 
   pub state : State
   pub read : document_of table (chars bytes) ≡ Ok state
   pub tree : f ≡ state.forest
+
+-- how many faulty items a text has as a document
+abbrev pub faults_of : List Row → List ℕ → ℕ
+faults_of table text = owed step is_quiet asks_cdata ended table (stand_of default_opts) 0 (hushed (before_document default_setting empty_forest)) (normal_text true text)
+
+-- whether no item of a text has a fault and the rules find no error in a token
+abbrev pub is_quiet_document : List Row → List ℕ → Bool
+is_quiet_document table text = is_quiet_reading step is_quiet asks_cdata ended table (stand_of default_opts) 0 (hushed (before_document default_setting empty_forest)) (normal_text true text)
+
+-- how many characters of a text are errors on their own: control characters and noncharacters, where these are told
+abbrev pub told_characters : Bool → List ℕ → ℕ
+told_characters exact text = (owed_for_text exact (normal_text true text)).faults
+
+-- whether a text has none of these
+abbrev pub is_free_of_told : Bool → List ℕ → Bool
+is_free_of_told exact text = (owed_for_text exact (normal_text true text)).is_quiet
+
+-- A number of errors counts each faulty item of a text and each character that is told, and maybe more; of a text without any it is 0.
+pub record CountsErrors (table : List Row) (exact : Bool) (text : List ℕ) (errors : ℕ) : Type 0 where
+  pub enough : min (faults_of table text + told_characters exact text) 0xffff_ffff_ffff_ffff ≤ errors
+  pub none : is_quiet_document table text ≡ true → is_free_of_told exact text ≡ true → errors ≡ 0
 
 -- the trees that stand in a document
 abbrev pub document_trees : Forest → Trees

@@ -1,18 +1,22 @@
 -- What calls of `normalise` come to, by what they promise alone.
-use Rattle.std.specs.Prelude.{◌≡◌, ℕ, true, List, Option}
+use Rattle.std.specs.Prelude.{◌≡◌, ℕ, Bool, true, List, Option}
 use Rattle.std.specs.Io.KnownBytes.{append_known}
+use Rattle.std.specs.Str.{chars}
 use Rattle.markup.specs.declared.quirks.QuirksMode.TheVariants.{NoQuirks}
 use Rattle.html_tokens.specs.Table.{Row}
 use Rattle.html_normal.specs.Again.{IsNormal}
+use Rattle.html_normal.specs.Document.{is_free_of_told}
 use Rattle.html_normal.specs.Normal.{IsNormalised}
 use Rattle.html_normal.specs.declared.report.Report.{Report}
 
--- a report of a plain document that is not in quirks mode, which was written as these bytes behind what was written before
-pub record IsWritten (bytes : List ℕ) (old new : Option (List ℕ)) (report : Report) : Type 0 where
+-- a report of a plain document that is not in quirks mode, which was written as these bytes behind what was written before; no error was
+-- counted, unless they have control characters or noncharacters and these are told
+pub record IsWritten (exact : Bool) (bytes : List ℕ) (old new : Option (List ℕ)) (report : Report) : Type 0 where
   pub plain : report.plain ≡ true
   pub no_quirks : report.quirks ≡ NoQuirks
   pub output : new ≡ append_known old bytes
+  pub no_error : is_free_of_told exact (chars bytes) ≡ true → report.errors ≡ 0
 
--- Normal bytes are written as they are, however they are read.
+-- Normal bytes are written as they are, however they are read, and without an error.
 abbrev pub AreNormalBytesKept : Type 0
-AreNormalBytesKept = (table : List Row) (bytes : List ℕ) (left old new : Option (List ℕ)) (report : Report) → IsNormal table bytes → IsNormalised table bytes left old new report → IsWritten bytes old new report
+AreNormalBytesKept = (table : List Row) (exact : Bool) (bytes : List ℕ) (left old new : Option (List ℕ)) (report : Report) → IsNormal table bytes → IsNormalised table exact bytes left old new report → IsWritten exact bytes old new report

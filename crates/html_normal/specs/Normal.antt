@@ -1,6 +1,7 @@
 -- What a normalisation writes and tells.
 use Rattle.std.specs.Prelude.{◌≡◌, ℕ, ◌≤◌, ◌^◌, Bool, true, false, List, [], ◌++◌, length, take, Option, Some, Result, Err, ◌⊎◌}
 use Rattle.std.specs.Io.KnownBytes.{append_known}
+use Rattle.std.specs.Str.{chars}
 use Rattle.devices.specs.Devices.{count_after}
 use Rattle.markup.specs.Forest.{Forest}
 use Rattle.html_input.specs.Reading.{HasBegun, ShowsNotUtf8}
@@ -8,24 +9,27 @@ use Rattle.html_plain.specs.Grammar.{is_plain_forest}
 use Rattle.html_tokens.specs.Laws.{ReadsEscapes}
 use Rattle.html_tokens.specs.Table.{Row}
 use Rattle.html_normal.specs.Again.{IsNormal}
-use Rattle.html_normal.specs.Document.{IsDocument, document_bytes}
+use Rattle.html_normal.specs.Document.{CountsErrors, IsDocument, document_bytes}
 use Rattle.html_normal.specs.declared.fault.NormalFault.{NormalFault}
 use Rattle.html_normal.specs.declared.fault.NormalFault.TheVariants.{NotUtf8, Read, Write, Memory, Refused}
 use Rattle.html_normal.specs.declared.report.Report.{Report}
 
--- All of the input was read, and this is its document.
-pub record IsRead (table : List Row) (whole : List ℕ) (left : Option (List ℕ)) (document : Forest) : Type 0 where
+-- All of the input was read, this is its document, and so many errors were counted.
+pub record IsRead (table : List Row) (exact : Bool) (whole : List ℕ) (left : Option (List ℕ)) (document : Forest) (errors : ℕ) : Type 0 where
   pub input : IsDocument table whole document
   pub taken : left ≡ Some []
+  pub counts : CountsErrors table exact (chars whole) errors
 
--- All of the input was read, its document was written behind what was written before, and the report is of that document.
-pub record IsNormalised (table : List Row) (whole : List ℕ) (left old new : Option (List ℕ)) (report : Report) : Type 0 where
+-- All of the input was read, its document was written behind what was written before, and the report is of that document, and of the
+-- errors that were counted. `exact` is whether the tokenizer tells characters.
+pub record IsNormalised (table : List Row) (exact : Bool) (whole : List ℕ) (left old new : Option (List ℕ)) (report : Report) : Type 0 where
   pub document : Forest
   pub input : IsDocument table whole document
   pub taken : left ≡ Some []
   pub output : new ≡ append_known old (document_bytes document)
   pub plain : report.plain ≡ is_plain_forest document
   pub quirks : report.quirks ≡ document.quirks
+  pub errors : CountsErrors table exact (chars whole) report.errors
   -- read again, by whatever table that reads what escaping writes, a plain document's text is that document, and is written the same
   pub again : report.plain ≡ true → (other : List Row) → ReadsEscapes other → IsNormal other (document_bytes document)
 

@@ -59,7 +59,7 @@ fn read_into<R: Source, Sink: TreeSink>(
 
 /// How a document is parsed: with default options, but for the errors that are told.
 fn options(exact: Exact) -> ParseOpts
-    ensures tokenizer { record result.tokenizer { exact_errors = false } ≡ default_opts }
+    ensures tokenizer { result.tokenizer ≡ record default_opts { exact_errors = exact.tokenizer } }
     ensures tree_builder { setting_of forest_answers result.tree_builder ≡ default_setting }
 {
     ParseOpts {
@@ -81,7 +81,7 @@ pub(crate) fn read_document<R: Source>(
     references: References,
     exact: Exact,
 ) -> Result<Forest, NormalFault>
-    ensures ok { IfOk result (λ forest. (whole : List ℕ) → R.left reader.old ≡ Some whole → IsRead references whole (R.left reader.new) (with_errors 0 forest)) }
+    ensures ok { IfOk result (λ forest. (whole : List ℕ) → R.left reader.old ≡ Some whole → IsRead references exact.tokenizer whole (R.left reader.new) (with_errors 0 forest) forest.errors) }
     ensures err { IfErr result (IsInputFault ⊥ (R.left reader.old) (R.left reader.new)) }
     ensures counted { CountsReads result (R.left reader.old) (R.left reader.new) (R.failures reader.old) (R.failures reader.new) }
     ensures same_references { R.references reader.new ≡ R.references reader.old }

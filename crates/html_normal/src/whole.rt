@@ -25,7 +25,7 @@ pub fn normalise<R: Source, W: Target>(
     exact: Exact,
 ) -> Result<Report, NormalFault>
     ensures ok { IfOk result (λ report. (whole : List ℕ) → R.left reader.old ≡ Some whole
-        → IsNormalised references whole (R.left reader.new) (W.written writer.old) (W.written writer.new) report) }
+        → IsNormalised references exact.tokenizer whole (R.left reader.new) (W.written writer.old) (W.written writer.new) report) }
     ensures err { IfErr result (IsFailed references (R.left reader.old) (R.left reader.new) (W.written writer.old) (W.written writer.new)) }
     ensures read_failures { CountsReads result (R.left reader.old) (R.left reader.new) (R.failures reader.old) (R.failures reader.new) }
     ensures write_failures { W.failures writer.new ≡ count_after (is_write_fault result) (W.failures writer.old) }

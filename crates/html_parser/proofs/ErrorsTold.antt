@@ -14,6 +14,7 @@ use Rattle.html_tree_builder.specs.States.{built}
 use Rattle.html_tree_builder.specs.declared.builder.TreeBuilder.{TreeBuilder}
 use Rattle.html_parser.specs.Documents.{TellsError, builder}
 use Rattle.html_parser.specs.Read.{KeepsRead}
+use Rattle.html_parser.proofs.Rising.{rises-behind}
 
 module _ {K H O : Type 0} (Sink : TreeGhosts K H O) where
   -- the state that a builder stands for doesn't see errors
@@ -30,6 +31,14 @@ module _ {K H O : Type 0} (Sink : TreeGhosts K H O) where
         ap (λ v. without_notes (rest (noting b.step b.is_quiet) noting_error (noting_cdata b.asks_cdata) (noting_end b.ended) (with_sink k sink) (v, r.notes) t)) (view-counted k.sink sink e)
         ∙ ap without_notes (held-other (noting b.step b.is_quiet) noting_error (noting_cdata b.asks_cdata) (noting_end b.ended) k.state k (record k.sink { sink = sink }) k.stream k.stream.breaks (b.view k.sink, r.notes) (pending k.char_ref ++ coming k t) refl)
         ∙ r.same t;
+    noted = λ t.
+        ap (λ v. rest (noting b.step b.is_quiet) noting_error (noting_cdata b.asks_cdata) (noting_end b.ended) (with_sink k sink) (v, r.notes) t) (view-counted k.sink sink e)
+        ∙ held-other (noting b.step b.is_quiet) noting_error (noting_cdata b.asks_cdata) (noting_end b.ended) k.state k (record k.sink { sink = sink }) k.stream k.stream.breaks (b.view k.sink, r.notes) (pending k.char_ref ++ coming k t) refl
+        ∙ r.noted t;
+    came = r.came;
+    comes = r.comes;
+    exact = r.exact;
+    rises = rises-behind begin.errors (Sink.forest k.sink.sink).errors (Sink.forest sink).errors (ap (λ (f : Forest). f.errors) e) r.rises;
   }
 
   ready-counted : (k : Tokenizer (TreeBuilder K H O)) (sink : K) → Sink.forest sink ≡ add_error (Sink.forest k.sink.sink) → (refused : Option ParseFault) → IsReadyIf (builder Sink) refused k → IsReadyIf (builder Sink) refused (with_sink k sink)

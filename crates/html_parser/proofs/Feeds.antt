@@ -15,11 +15,13 @@ use Rattle.html_tokens.specs.Table.{Row}
 use Rattle.html_tokens.specs.declared.options.TokenizerOpts.{TokenizerOpts}
 use Rattle.html_tokens.specs.declared.sink.TokenSink.{Ghosts}
 use Rattle.html_tokens.specs.declared.token.Token.{Token}
-use Rattle.html_tokenizer.specs.Calls.{EndGives, FailsToEnd, Fed, FeedGives, HasEnded, HasFailed, HasMoved, IsNew, refusal_of}
+use Rattle.html_tokenizer.specs.Calls.{EndGives, FailsToEnd, Fed, FeedGives, HasEnded, HasFailed, HasMoved, IsNew, owed_for_text, refusal_of}
 use Rattle.html_tokenizer.specs.Input.{last_of}
-use Rattle.html_tokenizer.specs.Steps.{FailsAmong}
+use Rattle.html_tokenizer.specs.Rest.{coming}
+use Rattle.html_tokenizer.specs.Steps.{FailsAmong, more, together}
 use Rattle.html_tokenizer.specs.declared.tokenizer.Tokenizer.{Tokenizer}
-use Rattle.html_parser.specs.Read.{Beginning, EndsAll, FailsBehind, FeedsAll, HasRead, IsRefusedBehind, ReadsOn, TakesText, beginning, read_whole}
+use Rattle.html_parser.specs.Read.{Beginning, EndsAll, FailsBehind, FeedsAll, HasRead, IsLeft, IsRefusedBehind, ReadsOn, RisesTo, TakesText, beginning, note_whole, read_whole}
+use Rattle.html_parser.proofs.Rising.{by-number, nothing-comes, rises-ended, rises-moved, rises-new}
 
 -- what is refused is refused also where what is noted is left out
 still-refused : {S F : Type 0} (r : Result (S × Notes ℕ) (F × ℕ)) → IsErr r → IsErr (without_notes r)
@@ -61,17 +63,29 @@ module _ {K H : Type 0} (Sink : Ghosts K H) where
 
   -- a tokenizer that is new has read nothing
   pub read-nothing : (k : Tokenizer K) (sink : K) (opts : TokenizerOpts) (table : List Row) → IsNotedReadAlike Sink.step Sink.is_quiet Sink.asks_cdata Sink.ended → IsNew Sink k sink opts table
-      → HasRead Sink (beginning table opts (Sink.view sink)) [] k
+      → HasRead Sink (beginning table opts (Sink.view sink) (Sink.errors sink)) [] k
   read-nothing k sink opts table alike new = record {
     notes = no_notes;
     same = λ t. ap without_notes (new.same no_notes t) ∙ alike table (first_stand opts.initial_state opts.last_start_tag_name) 0 (Sink.view sink) no_notes (normal_text opts.discard_bom t);
+    noted = λ t. new.same no_notes t;
+    came = [];
+    comes = λ t. sym (new.comes t);
+    exact = new.exact;
+    rises = rises-new opts.exact_errors (Sink.errors sink) (Sink.errors k.sink) (ap Sink.errors new.over);
   }
 
   -- what a call took was read
   read-moved : {pauses : List Reply → List Reply} {leaves : List ℕ → Type 0} (old new : Tokenizer K) (from to : Queue) → (moved : HasMoved Sink pauses leaves old new from to) → ReadsOn Sink old new moved.taken
   read-moved {pauses} old new from to moved begin before r = record {
-    notes = _;
+    notes = record (more moved.owed r.notes) { pauses = pauses r.notes.pauses };
     same = λ t. ap without_notes (sym (moved.same r.notes t)) ∙ (r.same (moved.taken ++ t) ∙ ap (read_whole Sink begin) (sym (append_assoc before moved.taken t)));
+    noted = λ t. sym (moved.same r.notes t) ∙ (r.noted (moved.taken ++ t) ∙ ap (note_whole Sink begin) (sym (append_assoc before moved.taken t)));
+    came = r.came ++ moved.came;
+    comes = λ t.
+        ap (normal_text begin.discard_bom) (append_assoc before moved.taken t)
+        ∙ (r.comes (moved.taken ++ t) ∙ (ap (λ u. r.came ++ u) (moved.comes t) ∙ sym (append_assoc r.came moved.came (coming new t))));
+    exact = moved.exact ∙ r.exact;
+    rises = rises-moved begin.exact_errors moved.owed r.notes (pauses r.notes.pauses) r.came moved.came begin.errors (Sink.errors old.sink) (Sink.errors new.sink) r.rises (subst (λ b. RisesTo (together moved.owed (owed_for_text b moved.came)) (Sink.errors old.sink) (Sink.errors new.sink)) r.exact (by-number Sink.errors old.sink new.sink moved.rises));
   }
 
   -- where a call fails by a refusal, what it was to take is refused
@@ -182,8 +196,16 @@ module _ {K H : Type 0} (Sink : Ghosts K H) where
       by (Some fault) same = absurd (let e = same.0 in cc)
 
   -- where the input was read, the end leaves what the whole text does
-  ended-whole : (k new : Tokenizer K) (begin : Beginning Sink.State) (text : List ℕ) → HasRead Sink begin text k → HasEnded Sink k new → read_whole Sink begin text ≡ Ok (Sink.view new.sink)
-  ended-whole k new begin text r e = ap (read_whole Sink begin) (sym (append-nil text)) ∙ (sym (r.same []) ∙ ap without_notes (e.same r.notes))
+  ended-whole : (k new : Tokenizer K) (begin : Beginning Sink.State) (text : List ℕ) → HasRead Sink begin text k → HasEnded Sink k new → IsLeft Sink begin text new.sink
+  ended-whole k new begin text r e =
+      let noted : note_whole Sink begin text ≡ Ok (Sink.view new.sink, more e.owed r.notes) = ap (note_whole Sink begin) (sym (append-nil text)) ∙ (sym (r.noted []) ∙ e.same r.notes) in
+      let came : normal_text begin.discard_bom text ≡ r.came = ap (normal_text begin.discard_bom) (sym (append-nil text)) ∙ (r.comes [] ∙ (ap (λ u. r.came ++ u) (nothing-comes k) ∙ append-nil r.came)) in
+      record {
+        is = ap (read_whole Sink begin) (sym (append-nil text)) ∙ (sym (r.same []) ∙ ap without_notes (e.same r.notes));
+        told = e.told;
+        rises = rises-ended begin.exact_errors e.owed r.notes (note_whole Sink begin text) (Sink.view new.sink) (normal_text begin.discard_bom text) r.came begin.errors (Sink.errors k.sink) (Sink.errors e.told) noted came r.rises (by-number Sink.errors k.sink e.told e.rises);
+        counts = e.counts;
+      }
 
   -- input was fed, and then the end was told, or something failed
   pub end-given : (refused : Option ParseFault) (k mid new : Tokenizer K) (from to : Queue) → FeedsAll Sink refused k mid from to (Ok tt) → EndGives Sink (refusal_of mid) mid new (Ok tt) → EndsAll Sink refused k from.characters (Ok new.sink)

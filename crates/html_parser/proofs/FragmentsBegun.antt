@@ -18,7 +18,7 @@ use Rattle.html_tokens.specs.declared.states.State.TheVariants.{Data, Plaintext,
 use Rattle.html_rules.specs.Choice.{choose}
 use Rattle.html_rules.specs.Documents.{Setting, before_document, before_fragment, modes_of_context, tokenizer_state}
 use Rattle.html_rules.specs.Names.{Html, element_name_of, flags_of, namespace_of}
-use Rattle.html_rules.specs.State.{Open, State, hushed, is_in}
+use Rattle.html_rules.specs.State.{Open, State, is_in}
 use Rattle.html_rules.specs.declared.tag_set.TagSet.TheVariants as set
 use Rattle.html_rules_laws.specs.EachText.{IsEachTextTaken}
 use Rattle.html_builder_laws.proofs.Larger.{root-larger}
@@ -26,8 +26,7 @@ use Rattle.html_tokenizer.specs.declared.tokenizer.Tokenizer.{Tokenizer}
 use Rattle.html_tree_builder.specs.States.{context_in, named_open}
 use Rattle.html_tree_builder.specs.declared.builder.TreeBuilder.{TreeBuilder}
 use Rattle.html_tree_builder.proofs.BuildersBegun.{named-own}
-use Rattle.html_parser.specs.Documents.{Begins, Starts, of_fragment, of_new_context}
-use Rattle.html_parser.specs.Read.{beginning}
+use Rattle.html_parser.specs.Documents.{Begins, Starts, from_state, of_fragment, of_new_context}
 
 -- the state in which a fragment's text is read first is one of text
 pub state-text : (context : Open) (scripting : Bool) → is_text_state (tokenizer_state context scripting) ≡ true
@@ -56,15 +55,15 @@ module _ {K H O : Type 0} (Sink : TreeGhosts K H O) where
   pub fragment-begins : (table : List Row) (opts : TokenizerOpts) (setting : Setting) (n : ℕ) (form : Option ℕ) (scripting : Bool) (f g : Forest) (s : State) (state : TokenizerState) (has_failed : Bool) (k : Tokenizer (TreeBuilder K H O)) (input : Queue)
       → IsEachTextTaken → g ≡ f → IsTree g → above_of f 0 ≡ None → IfSome form (λ n. element_name (data_of f n) ≡ Some (element_name_of Html (codes "form")))
       → s ≡ before_fragment setting (context_in g n) form g → state ≡ tokenizer_state (context_in g n) scripting
-      → Starts Sink (beginning table (record opts { initial_state = Some state }) (hushed s)) has_failed k input
+      → Starts Sink (from_state table (record opts { initial_state = Some state }) s) has_failed k input
       → Begins Sink (of_fragment table opts setting (context_in f n) form scripting f) has_failed k input
   fragment-begins table opts setting n form scripting f g s state has_failed k input taken e tree top named is is_state starts =
       let begun : s ≡ before_fragment setting (context_in f n) form f = is ∙ ap (λ x. before_fragment setting (context_in x n) form x) e in
       let stated : state ≡ tokenizer_state (context_in f n) scripting = is_state ∙ ap (λ x. tokenizer_state (context_in x n) scripting) e in
       record {
         starts =
-            subst (λ x. Starts Sink (beginning table (record opts { initial_state = Some x }) (hushed (before_fragment setting (context_in f n) form f))) has_failed k input) stated
-            (subst (λ x. Starts Sink (beginning table (record opts { initial_state = Some state }) (hushed x)) has_failed k input) begun starts);
+            subst (λ x. Starts Sink (from_state table (record opts { initial_state = Some x }) (before_fragment setting (context_in f n) form f)) has_failed k input) stated
+            (subst (λ x. Starts Sink (from_state table (record opts { initial_state = Some state }) x) has_failed k input) begun starts);
         taken = λ text. taken.fragment table opts setting (context_in f n) form scripting f (subst IsTree e tree) top (named-own n (element_name (data_of f n))) named text;
       }
 

@@ -1,3 +1,4 @@
+mod Rising
 pub mod Feeds
 pub mod CutAnywhere
 mod Parsers

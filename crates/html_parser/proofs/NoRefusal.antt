@@ -12,7 +12,7 @@ use Rattle.html_tokenizer.specs.declared.tokenizer.Tokenizer.{Tokenizer}
 use Rattle.html_tree_builder.specs.declared.builder.TreeBuilder.{TreeBuilder}
 use Rattle.html_parser.specs.Documents.{Begins, Finishes, TellsError, builder}
 use Rattle.html_parser.specs.Laws.{HasReadTaken, IsNoRefusal, IsNoTextRefused, TakesEach}
-use Rattle.html_parser.specs.Read.{Beginning, FailsBehind, TakesText, stopped_by}
+use Rattle.html_parser.specs.Read.{Beginning, FailsBehind, TakesText, behind_error, stopped_by}
 
 not-both : {A F : Type 0} (r : Result A F) → IsErr r → IsOk r → ⊥
 not-both (Ok x) h k = absurd cc
@@ -72,7 +72,7 @@ module _ {K H O : Type 0} (Sink : TreeGhosts K H O) where
       ap (λ b. stopped_by b (refusal_of new)) k ∙ (ap (λ (x : Tokenizer (TreeBuilder K H O)). stopped_by failed (refusal_of x)) same ∙ e)
 
   errs : (stopped : Option ParseFault) (old new : Tokenizer (TreeBuilder K H O)) → TakesEach Sink stopped old → TellsError Sink old new → TakesEach Sink stopped new
-  errs None old new h t = record { begin = h.begin; before = h.before; read = t.read h.begin h.before h.read; taken = h.taken }
+  errs None old new h t = record { begin = behind_error h.begin; before = h.before; read = t.read h.begin h.before h.read; taken = h.taken }
   errs (Some fault) old new h t = tt
 
   pub no-refusal : IsNoTextRefused Sink

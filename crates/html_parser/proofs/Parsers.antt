@@ -1,12 +1,12 @@
 -- What the calls of a parser come to.
-use Rattle.std.proofs.Common.{ℕ, List, [], ◌++◌, Option, Some, None, Result, Ok, Err, append-nil, refl, ap, subst}
+use Rattle.std.proofs.Common.{ℕ, List, [], ◌++◌, Option, Some, None, Result, Ok, Err, append-nil, refl, ap, subst, sym}
 use Rattle.markup.specs.declared.fault.ParseFault.{ParseFault}
 use Rattle.markup.specs.declared.tree_sink.TreeSink.{Ghosts as TreeGhosts}
 use Rattle.html_tokenizer.specs.declared.tokenizer.Tokenizer.{Tokenizer}
 use Rattle.html_tree_builder.specs.declared.builder.TreeBuilder.{TreeBuilder}
 use Rattle.html_queue.specs.Queue.{Queue}
 use Rattle.html_parser.specs.Documents.{Finishes, IsBuilt, builder}
-use Rattle.html_parser.specs.Read.{EndsAll, ReadsOn, TakesText, read_whole}
+use Rattle.html_parser.specs.Read.{EndsAll, ReadsOn, RisesTo, TakesText, owed_by}
 use Rattle.html_parser.proofs.Feeds.{fails-on}
 
 abbrev fault_of : {A : Type 0} → ParseFault → Result A ParseFault → ParseFault
@@ -16,7 +16,14 @@ fault_of other (Err fault) = fault
 module _ {K H O : Type 0} (Sink : TreeGhosts K H O) where
   -- what was built is what the whole text makes
   pub finished : (stopped : Option ParseFault) (k : Tokenizer (TreeBuilder K H O)) (text : List ℕ) (b : TreeBuilder K H O) (out : O) → EndsAll (builder Sink) stopped k text (Ok b) → Sink.finish_gives b.sink out → Finishes Sink stopped k text (Ok out)
-  finished None k text b out ends gives = λ begin before read. record { sink = b.sink; gives = gives; state = (builder Sink).view b; is = ends begin before read; same = refl }
+  finished None k text b out ends gives = λ begin before read. let left = ends begin before read in record {
+    sink = b.sink;
+    gives = gives;
+    state = (builder Sink).view b;
+    is = left.is;
+    same = refl;
+    rises = subst (λ n. RisesTo (owed_by (builder Sink) begin (before ++ text)) begin.errors n) (sym left.counts) left.rises;
+  }
   finished (Some fault) k text b out ends gives = absurd (let e = ends in cc)
 
   -- a fault of the end is one of the parser
@@ -26,7 +33,7 @@ module _ {K H O : Type 0} (Sink : TreeGhosts K H O) where
 
   -- where nothing waits, what ends a text behind what was read ends all of it
   ends-both : (old new : Tokenizer (TreeBuilder K H O)) (text : List ℕ) (result : Result O ParseFault) → ReadsOn (builder Sink) old new text → Finishes Sink None new [] result → Finishes Sink None old text result
-  ends-both old new text (Ok out) reads ends = λ begin before read. subst (λ whole. IsBuilt Sink (read_whole (builder Sink) begin whole) out) (append-nil (before ++ text)) (ends begin (before ++ text) (reads begin before read))
+  ends-both old new text (Ok out) reads ends = λ begin before read. subst (λ whole. IsBuilt Sink begin whole out) (append-nil (before ++ text)) (ends begin (before ++ text) (reads begin before read))
   ends-both old new text (Err fault) reads ends = fails-on (builder Sink) old new text fault reads ends
 
   -- a last text is taken, and then the end

@@ -13,7 +13,6 @@ use Rattle.html_rules.specs.ForeignContent.{asks_cdata}
 use Rattle.html_rules.specs.Names.{flags_of, namespace_of}
 use Rattle.html_rules.specs.State.{Open, State, hushed}
 use Rattle.html_rules.specs.Step.{ended, is_quiet, step}
-use Rattle.html_tokens.specs.Sink.{Refusal}
 use Rattle.html_tokens.specs.Table.{Row}
 use Rattle.html_tokens.specs.declared.options.TokenizerOpts.{TokenizerOpts}
 use Rattle.html_tokens.specs.declared.sink.TokenSink.{Ghosts}
@@ -21,7 +20,7 @@ use Rattle.html_tokenizer.specs.Calls.{IsReadyIf, refusal_of}
 use Rattle.html_tokenizer.specs.declared.tokenizer.Tokenizer.{Tokenizer}
 use Rattle.html_tree_builder.specs.States.{built}
 use Rattle.html_tree_builder.specs.declared.builder.TreeBuilder.{TreeBuilder}
-use Rattle.html_parser.specs.Read.{Beginning, FailsBehind, HasRead, IsTaken, KeepsRead, beginning, read_whole, stopped_by}
+use Rattle.html_parser.specs.Read.{Beginning, FailsBehind, HasRead, IsTaken, KeepsRead, RisesTo, beginning, owed_by, read_whole, stopped_by}
 
 -- a tree builder, as what takes tokens
 abbrev pub builder : {K H O : Type 0} → TreeGhosts K H O → Ghosts (TreeBuilder K H O) H
@@ -40,25 +39,31 @@ builder Sink = record {
   number = Sink.node;
 }
 
+-- before a text that is read from a state of the rules on
+abbrev pub from_state : List Row → TokenizerOpts → State → Beginning State
+from_state table opts s = beginning table opts (hushed s) s.forest.errors
+
 -- before the text of a document
 abbrev pub of_document : List Row → TokenizerOpts → Setting → Forest → Beginning State
-of_document table opts setting f = beginning table opts (hushed (before_document setting f))
+of_document table opts setting f = from_state table opts (before_document setting f)
 
 -- before the text of a fragment; `scripting` says how the context was scripted
 abbrev pub of_fragment : List Row → TokenizerOpts → Setting → Open → Option ℕ → Bool → Forest → Beginning State
-of_fragment table opts setting context form scripting f = beginning table (record opts { initial_state = Some (tokenizer_state context scripting) }) (hushed (before_fragment setting context form f))
+of_fragment table opts setting context form scripting f = from_state table (record opts { initial_state = Some (tokenizer_state context scripting) }) (before_fragment setting context form f)
 
--- What a sink of trees gives at its end, whose tree and quirks mode are those that a reading leaves.
-pub record IsBuilt {K H O : Type 0} (Sink : TreeGhosts K H O) (given : Result State Refusal) (built : O) : Type 0 where
+-- What a sink of trees gives at its end, whose tree and quirks mode are those that a text leaves, and whose number of errors rose by
+-- what the text owes.
+pub record IsBuilt {K H O : Type 0} (Sink : TreeGhosts K H O) (begin : Beginning State) (text : List ℕ) (built : O) : Type 0 where
   pub sink : K
   pub gives : Sink.finish_gives sink built
   pub state : State
-  pub is : given ≡ Ok state
+  pub is : read_whole (builder Sink) begin text ≡ Ok state
   pub same : with_errors 0 (Sink.forest sink) ≡ state.forest
+  pub rises : RisesTo (owed_by (builder Sink) begin text) begin.errors (Sink.forest sink).errors
 
 -- What waited was read, and a text, and its end: what was built is what the whole text makes.
 abbrev pub Finishes : {K H O : Type 0} → TreeGhosts K H O → Option ParseFault → Tokenizer (TreeBuilder K H O) → List ℕ → Result O ParseFault → Type 0
-Finishes Sink None k text (Ok output) = (begin : Beginning State) (before : List ℕ) → HasRead (builder Sink) begin before k → IsBuilt Sink (read_whole (builder Sink) begin (before ++ text)) output
+Finishes Sink None k text (Ok output) = (begin : Beginning State) (before : List ℕ) → HasRead (builder Sink) begin before k → IsBuilt Sink begin (before ++ text) output
 Finishes Sink None k text (Err fault) = FailsBehind (builder Sink) k fault
 Finishes Sink (Some fault) k text result = result ≡ Err fault
 
@@ -79,7 +84,8 @@ abbrev pub of_new_context : List Row → TokenizerOpts → Setting → QualName 
 of_new_context table opts setting name attributes scripting f =
     of_fragment table opts setting (record { number = node_count f; namespace = namespace_of name.ns; name = name.local }) None scripting (create_element f name attributes (flags_of (namespace_of name.ns) name.local attributes false))
 
--- An error was told: it is counted, and all else stands. What was read still was, and what could be called still can.
+-- An error was told: it is counted, and all else stands. What was read still was, behind one error more, and what could be called still
+-- can.
 pub record TellsError {K H O : Type 0} (Sink : TreeGhosts K H O) (old new : Tokenizer (TreeBuilder K H O)) : Type 0 where
   pub counts : Sink.forest new.sink.sink ≡ add_error (Sink.forest old.sink.sink)
   pub same : new ≡ record old { sink = record old.sink { sink = new.sink.sink } }

@@ -7,23 +7,47 @@ use Rattle.html_tokens.specs.declared.options.TokenizerOpts.{TokenizerOpts}
 use Rattle.html_tokens.specs.declared.sink.TokenSink.{Ghosts}
 use Rattle.html_tokens.specs.Item.{Stand}
 use Rattle.html_tokens.specs.NormalText.{normal_text}
-use Rattle.html_tokens.specs.Notes.{Notes, without_notes}
+use Rattle.html_tokens.specs.Notes.{Notes, errors_of, no_notes, noted_reading, was_quiet, without_notes}
 use Rattle.html_tokens.specs.Reading.{first_stand, reading}
-use Rattle.html_tokens.specs.Sink.{IsRefusal, Refusal}
+use Rattle.html_tokens.specs.Sink.{IsRefusal, Refusal, one_more}
 use Rattle.html_tokens.specs.Table.{Row}
-use Rattle.html_tokenizer.specs.Calls.{refusal_of, to_come}
+use Rattle.html_tokenizer.specs.Calls.{owed_for_text, refusal_of, to_come}
+use Rattle.html_tokenizer.specs.Rest.{coming}
+use Rattle.html_tokenizer.specs.Steps.{Owed, Rises, together}
 use Rattle.html_tokenizer.specs.declared.tokenizer.Tokenizer.{Tokenizer}
 
--- how a reading begins: with which references, whether a byte order mark is dropped, where it stands, and in which state of the sink
+-- how a reading begins: with which references, whether a byte order mark is dropped, where it stands, in which state of the sink,
+-- whether control characters and noncharacters are told as errors, and how many errors were counted before
 pub record Beginning (S : Type 0) : Type 0 where
   pub table : List Row
   pub discard_bom : Bool
   pub stand : Stand
   pub state : S
+  pub exact_errors : Bool
+  pub errors : ℕ
 
--- a beginning by the options of a tokenizer
-abbrev pub beginning : {S : Type 0} → List Row → TokenizerOpts → S → Beginning S
-beginning table opts s = record { table = table; discard_bom = opts.discard_bom; stand = first_stand opts.initial_state opts.last_start_tag_name; state = s }
+-- a beginning by the options of a tokenizer, behind so many errors
+abbrev pub beginning : {S : Type 0} → List Row → TokenizerOpts → S → ℕ → Beginning S
+beginning table opts s errors = record {
+  table = table;
+  discard_bom = opts.discard_bom;
+  stand = first_stand opts.initial_state opts.last_start_tag_name;
+  state = s;
+  exact_errors = opts.exact_errors;
+  errors = errors;
+}
+
+-- the same beginning where one error more was counted before
+abbrev pub behind_error : {S : Type 0} → Beginning S → Beginning S
+behind_error begin = record begin { errors = one_more begin.errors }
+
+-- what is owed for what was noted
+abbrev pub owed_in : Notes ℕ → Owed
+owed_in notes = record { faults = notes.errors; is_quiet = notes.is_quiet }
+
+-- a number of errors that was m and rose by what is owed is n
+abbrev pub RisesTo : Owed → ℕ → ℕ → Type 0
+RisesTo owed m n = Rises (λ (errors : ℕ). errors) owed m n
 
 -- what stands against a call: a text that could not be kept, or what stands against the tokenizer
 abbrev pub stopped_by : Bool → Option ParseFault → Option ParseFault
@@ -35,18 +59,36 @@ module _ {K H : Type 0} (Sink : Ghosts K H) where
   abbrev pub read_whole : Beginning Sink.State → List ℕ → Result Sink.State Refusal
   read_whole begin text = reading Sink.step (λ fault s. s) Sink.asks_cdata Sink.ended begin.table begin.stand 0 begin.state (normal_text begin.discard_bom text)
 
-  -- A text was read: of whatever follows the tokenizer makes, what is noted aside, what the beginning makes of both.
+  -- the same, with what is noted of the text
+  abbrev pub note_whole : Beginning Sink.State → List ℕ → Result (Sink.State × Notes ℕ) (Refusal × ℕ)
+  note_whole begin text = noted_reading Sink.step Sink.is_quiet Sink.asks_cdata Sink.ended begin.table begin.stand 0 (begin.state, no_notes) (normal_text begin.discard_bom text)
+
+  -- what a whole text owes of errors: one for each faulty item, and, where these are told, for each control character and
+  -- noncharacter; none where it is quiet
+  abbrev pub owed_by : Beginning Sink.State → List ℕ → Owed
+  owed_by begin text =
+      together (record { faults = errors_of (note_whole begin text); is_quiet = was_quiet (note_whole begin text) })
+      (owed_for_text begin.exact_errors (normal_text begin.discard_bom text))
+
+  -- A text was read: of whatever follows the tokenizer makes, what is noted aside, what the beginning makes of both; and the number
+  -- of errors rose by what was owed for what was noted.
   pub record HasRead (begin : Beginning Sink.State) (text : List ℕ) (k : Tokenizer K) : Type 0 where
     pub notes : Notes ℕ
     pub same : (t : List ℕ) → without_notes (to_come Sink k notes t) ≡ read_whole begin (text ++ t)
+    pub noted : (t : List ℕ) → to_come Sink k notes t ≡ note_whole begin (text ++ t)
+    -- the characters that came of the text
+    pub came : List ℕ
+    pub comes : (t : List ℕ) → normal_text begin.discard_bom (text ++ t) ≡ came ++ coming k t
+    pub exact : k.stream.exact_errors ≡ begin.exact_errors
+    pub rises : RisesTo (together (owed_in notes) (owed_for_text begin.exact_errors came)) begin.errors (Sink.errors k.sink)
 
   -- behind whatever was read, this text was read too
   abbrev pub ReadsOn : Tokenizer K → Tokenizer K → List ℕ → Type 0
   ReadsOn old new text = (begin : Beginning Sink.State) (before : List ℕ) → HasRead begin before old → HasRead begin (before ++ text) new
 
-  -- whatever was read still was
+  -- whatever was read still was, behind one error more
   abbrev pub KeepsRead : Tokenizer K → Tokenizer K → Type 0
-  KeepsRead old new = (begin : Beginning Sink.State) (before : List ℕ) → HasRead begin before old → HasRead begin before new
+  KeepsRead old new = (begin : Beginning Sink.State) (before : List ℕ) → HasRead begin before old → HasRead (behind_error begin) before new
 
   -- no token of a text is refused
   abbrev pub IsTaken : Beginning Sink.State → Type 0
@@ -67,9 +109,16 @@ module _ {K H : Type 0} (Sink : Ghosts K H) where
   FeedsAll None old new from to (Err fault) = (new.stream.has_failed ≡ true) × FailsBehind old fault
   FeedsAll (Some fault) old new from to result = (result ≡ Err fault) × (new ≡ old) × (to ≡ from)
 
+  -- A sink is left as the whole text leaves it; its number of errors is what its end made of it, which had risen by what the text owes.
+  pub record IsLeft (begin : Beginning Sink.State) (text : List ℕ) (left : K) : Type 0 where
+    pub is : read_whole begin text ≡ Ok (Sink.view left)
+    pub told : K
+    pub rises : RisesTo (owed_by begin text) begin.errors (Sink.errors told)
+    pub counts : Sink.errors left ≡ Sink.errors_ended (Sink.view told) (Sink.errors told)
+
   -- All of a text was read, and its end: the sink is left as the whole text leaves it.
   abbrev pub EndsAll : Option ParseFault → Tokenizer K → List ℕ → Result K ParseFault → Type 0
-  EndsAll None k text (Ok sink) = (begin : Beginning Sink.State) (before : List ℕ) → HasRead begin before k → read_whole begin (before ++ text) ≡ Ok (Sink.view sink)
+  EndsAll None k text (Ok sink) = (begin : Beginning Sink.State) (before : List ℕ) → HasRead begin before k → IsLeft begin (before ++ text) sink
   EndsAll None k text (Err fault) = FailsBehind k fault
   EndsAll (Some fault) k text result = result ≡ Err fault
 

@@ -5,8 +5,7 @@ ghost use Rattle.html_builder_laws.specs.Usable.{Usable};
 ghost use Rattle.html_rules.specs.State.{hushed};
 ghost use Rattle.html_tokens.specs.TextState.{is_text_state};
 ghost use Rattle.html_tree_builder.specs.States.{answers_of, built, setting_of};
-ghost use Rattle.html_parser.specs.Documents.{Begins, Starts, of_document};
-ghost use Rattle.html_parser.specs.Read.{beginning};
+ghost use Rattle.html_parser.specs.Documents.{Begins, Starts, from_state, of_document};
 
 use crate::feeding::begin;
 use crate::options::ParseOpts;
@@ -26,7 +25,7 @@ pub(crate) fn over<Sink: TreeSink>(
 ) -> Parser<Sink>
     requires text { IfSome opts.initial_state (λ st. is_text_state st ≡ true) }
     requires usable { Usable (hushed (built Sink.TreeSink builder.construction (Sink.forest builder.sink))) }
-    ensures { Starts Sink.TreeSink (beginning table opts (hushed (built Sink.TreeSink builder.construction (Sink.forest builder.sink)))) result.has_failed result.tokenizer result.input_buffer }
+    ensures { Starts Sink.TreeSink (from_state table opts (built Sink.TreeSink builder.construction (Sink.forest builder.sink))) result.has_failed result.tokenizer result.input_buffer }
 {
     Parser {
         tokenizer: begin(alloc, builder, opts, table),

@@ -31,7 +31,6 @@ returns-clause-ok g c =
     let all = c.in_ok-read_into.ensures.ok in
     let read = all.reads _ [] begins.starts.read in
     let gives = rw c.in_ok-read_into.ensures.rest.free at c.in_ok-finish.ensures.gives in
-    let made = gives _ _ read in
-    document-made _ c.options.result.tokenizer (setting_of forest_answers c.options.result.tree_builder) c.in_ok-forest.forest _ _ all.bytes
-    c.read_into.new.parser.input_buffer.characters _ made.sink made.state c.options.ensures.tokenizer c.options.ensures.tree_builder c.in_ok-forest.ensures.ok
-    c.in_ok-read_into.ensures.rest.empty all.text all.moved all.end made.is made.gives made.same
+    document-made _ _ c.args.exact.tokenizer c.options.result.tokenizer (setting_of forest_answers c.options.result.tree_builder) c.in_ok-forest.forest _ _ all.bytes
+    c.read_into.new.parser.input_buffer.characters _ (λ sink is. is) c.options.ensures.tokenizer c.options.ensures.tree_builder c.in_ok-forest.ensures.ok
+    c.in_ok-read_into.ensures.rest.empty all.text all.moved all.end (gives _ _ read)

@@ -7,10 +7,11 @@ use Rattle.html_normal.proofs.Again.{same-document}
 use Rattle.html_normal.proofs.laws.normal_bytes_are_kept.Goals as goal
 
 pub returns : goal.returns
-returns c table bytes left old new report normal given =
+returns c table exact bytes left old new report normal given =
     let same = same-document table bytes given.document normal.document given.input normal.input in
     record {
       plain = given.plain ∙ (ap is_plain_forest same ∙ normal.plain);
       no_quirks = given.quirks ∙ (ap (λ (f : Forest). f.quirks) same ∙ normal.no_quirks);
       output = given.output ∙ (ap (λ f. append_known old (document_bytes f)) same ∙ ap (append_known old) normal.same);
+      no_error = λ free. given.errors.none normal.quiet free;
     }

@@ -1,7 +1,10 @@
 use Rattle.std.proofs.lemmas.Result.{err_from_is_err_and}
-use Rattle.html_parser.proofs.Feeds.{feeding-done, feeding-failed, feeding-fed, hinted-shorter, paused-shorter}
+use Rattle.html_parser.proofs.Feeds.{feeding-done, feeding-failed, feeding-fed, feeding-starts, hinted-shorter, paused-shorter}
 use Rattle.html_parser.proofs.feeding.feed_all.Goals as goal
 use Rattle.html_parser.proofs.feeding.feed_all.Goals.{in-Script, in-EncodingIndicator}
+
+pub loop-init : goal.loop-init
+loop-init g c = (feeding-starts g.Sink.TokenSink c.args.tokenizer.now c.args.input.now, c.requires.ready)
 
 pub returns-in_err-feed-clause-gives : goal.returns-in_err-feed-clause-gives
 returns-in_err-feed-clause-gives g c =
