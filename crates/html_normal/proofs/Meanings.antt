@@ -1,6 +1,6 @@
 -- What was read, parsed and written, as one.
-use Rattle.std.proofs.Common.{◌≡◌, ◌∙◌, ℕ, ◌≤◌, Bool, true, false, cond, List, [], ◌++◌, length, take, rules, sym, ap, subst, Option, Some, None, Result, Ok, Err, inl, inr, IsUtf8, encode_utf8_all}
-use Rattle.std.specs.Prelude.{IsErr, IsOk}
+use Rattle.std.proofs.Common.{◌≡◌, ◌∙◌, ℕ, ◌+◌, ◌≤◌, Bool, true, false, cond, List, [], ◌++◌, length, take, arith, rules, sym, ap, subst, Option, Some, None, Result, Ok, Err, inl, inr, IsUtf8, encode_utf8_all}
+use Rattle.std.specs.Prelude.{IsErr, IsOk, min}
 use Rattle.std.specs.Io.KnownBytes.{IsAtEnd, append_known, prepend_known}
 use Rattle.std.specs.Str.{chars}
 use Rattle.std.proofs.lemmas.Bool.{and_from}
@@ -30,7 +30,7 @@ use Rattle.html_tokens.specs.Table.{Row}
 use Rattle.html_tokens.specs.declared.options.TokenizerOpts.{TokenizerOpts}
 use Rattle.html_tokens.specs.declared.sink.TokenSink.{Ghosts}
 use Rattle.html_tokenizer.specs.declared.tokenizer.Tokenizer.{Tokenizer}
-use Rattle.html_normal.specs.Document.{CountsErrors, default_opts, default_setting, document_bytes, is_free_of_told, is_quiet_document}
+use Rattle.html_normal.specs.Document.{CountsErrors, default_opts, default_setting, document_bytes, faults_of, is_free_of_told, is_quiet_document, told_characters}
 use Rattle.html_normal.specs.Faults.{fault_of, write_fault_of}
 use Rattle.html_normal.specs.Normal.{CountsReads, IsBegun, IsFailed, IsInputFault, IsNormalised, IsRead, is_write_fault}
 use Rattle.html_normal.specs.declared.fault.NormalFault.{NormalFault}
@@ -79,10 +79,13 @@ counts-any T U Refused left left' failures failures' is = is
 abbrev opts_with : Bool → TokenizerOpts
 opts_with exact = record default_opts { exact_errors = exact }
 
+from-none : (m errors : ℕ) → min (0 + m) 0xffff_ffff_ffff_ffff ≤ errors → min m 0xffff_ffff_ffff_ffff ≤ errors
+from-none m errors h = omega arith
+
 -- the errors of a forest that was built count what its text owes
 built-counts : {K H : Type 0} (Sink : TreeGhosts K H Forest) (table : List Row) (exact : Bool) (text : List ℕ) (errors : ℕ) → RisesTo (owed_by (builder Sink) (of_document table (opts_with exact) default_setting empty_forest) text) 0 errors → CountsErrors table exact text errors
 built-counts Sink table exact text errors r = record {
-  enough = r.enough;
+  enough = from-none (faults_of table text + told_characters exact text) errors r.enough;
   none = λ quiet free. r.stays (and_from (is_quiet_document table text) (is_free_of_told exact text) quiet free);
 }
 
