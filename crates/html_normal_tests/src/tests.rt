@@ -13,16 +13,16 @@ use std::test::Fail;
 
 // How a document is read and written.
 #[derive(Clone, Copy)]
-struct Devices {
-    read: usize,
-    write: usize,
-    read_fails: Option<u64>,
-    write_fails: Option<u64>,
-    zero: bool,
-    room: usize,
+pub(crate) struct Devices {
+    pub(crate) read: usize,
+    pub(crate) write: usize,
+    pub(crate) read_fails: Option<u64>,
+    pub(crate) write_fails: Option<u64>,
+    pub(crate) zero: bool,
+    pub(crate) room: usize,
 }
 
-const WHOLE: Devices = Devices {
+pub(crate) const WHOLE: Devices = Devices {
     read: 4096,
     write: 4096,
     read_fails: None,
@@ -55,12 +55,17 @@ const BACK: &str = "</body></html>";
 
 // What a normalisation answers, and what it wrote.
 #[derive(Drop)]
-struct Outcome {
-    answer: Result<Report, NormalFault>,
-    written: Vec<u8>,
+pub(crate) struct Outcome {
+    pub(crate) answer: Result<Report, NormalFault>,
+    pub(crate) written: Vec<u8>,
 }
 
-fn normal(alloc: Global, bytes: &[u8], on: &Devices, exact: Exact) -> Result<Outcome, AllocError> {
+pub(crate) fn normal(
+    alloc: Global,
+    bytes: &[u8],
+    on: &Devices,
+    exact: Exact,
+) -> Result<Outcome, AllocError> {
     let mut reader = MemReader::new(
         Vec::from_slice(alloc, bytes)?,
         on.read.max(1),
@@ -91,7 +96,23 @@ const PLAIN_NOT_BAD: Told = (false, QuirksMode::NoQuirks, true);
 
 const QUIRKS: Told = (false, QuirksMode::Quirks, true);
 
-/// Sees that a document is written so, in whatever pieces it comes, and with whatever errors are told.
+/// Sees that a document that was written is plain and written so again, in whatever pieces it comes, and that no error is told.
+fn assert_again(rt: &impl Abort, alloc: Global, written: &str) -> Result<(), AllocError> {
+    for on in [WHOLE, BY_BYTE] {
+        for &(tokenizer, tree_builder) in SWITCHES {
+            let exact = Exact {
+                tokenizer,
+                tree_builder,
+            };
+            let seen = normal(alloc, written.as_bytes(), &on, exact)?;
+            assert!(rt; seen.written.as_slice() == written.as_bytes(), "{written}");
+            assert!(rt; seen.answer == plain(0), "{written}");
+        }
+    }
+    Ok(())
+}
+
+/// Sees that a document is written so, in whatever pieces it comes, and with whatever errors are told; and again, if it is plain.
 fn assert_row(
     rt: &impl Abort,
     alloc: Global,
@@ -99,7 +120,7 @@ fn assert_row(
     written: &str,
     told: Told,
 ) -> Result<(), AllocError> {
-    let (plain, quirks, errors) = told;
+    let (is_plain, quirks, errors) = told;
     for on in [WHOLE, BY_BYTE, BY_SEVENS] {
         for &(tokenizer, tree_builder) in SWITCHES {
             let exact = Exact {
@@ -111,10 +132,13 @@ fn assert_row(
             let Ok(report) = seen.answer else {
                 return Err(AllocError);
             };
-            assert_eq!(rt; report.plain, plain, "{input}");
+            assert_eq!(rt; report.plain, is_plain, "{input}");
             assert_eq!(rt; report.quirks, quirks, "{input}");
             assert_eq!(rt; report.errors > 0, errors, "{input}");
         }
+    }
+    if is_plain {
+        assert_again(rt, alloc, written)?;
     }
     Ok(())
 }
@@ -216,7 +240,7 @@ fn bodies(rt: HostRuntime) -> Result<(), Fail> {
     Ok(())
 }
 
-fn plain(errors: u64) -> Result<Report, NormalFault> {
+pub(crate) fn plain(errors: u64) -> Result<Report, NormalFault> {
     Ok(Report {
         plain: true,
         quirks: QuirksMode::NoQuirks,

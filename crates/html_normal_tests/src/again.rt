@@ -1,0 +1,290 @@
+//! Plain documents of every form, made by chance: each is read as it is written, without an error.
+
+use crate::tests::{Devices, WHOLE, normal, plain};
+use html_normal::Exact;
+use std::alloc::{AllocError, Global};
+use std::test::Fail;
+
+/// Numbers that only look like chance: the same in each run.
+#[derive(Drop)]
+struct Dice {
+    state: usize,
+}
+
+impl Dice {
+    /// A number below `sides`, or 0 where there is no side.
+    fn roll(&mut self, sides: usize) -> usize {
+        self.state = self
+            .state
+            .wrapping_mul(6_364_136_223_846_793_005)
+            .wrapping_add(1_442_695_040_888_963_407);
+        (self.state >> 33) % sides.max(1)
+    }
+
+    /// One time in so many.
+    fn once_in(&mut self, times: usize) -> bool {
+        self.roll(times) == 0
+    }
+}
+
+/// What may stand where: a name, and what may stand inside it.
+#[derive(Clone, Copy)]
+enum Room {
+    Flow,
+    Line,
+    Link,
+    List,
+    Table,
+    Rows,
+    Cells,
+}
+
+type Forms = &'static [(&'static str, Room)];
+
+const FLOW: Forms = &[
+    ("p", Room::Line),
+    ("h1", Room::Line),
+    ("h2", Room::Line),
+    ("h3", Room::Line),
+    ("h4", Room::Line),
+    ("h5", Room::Line),
+    ("h6", Room::Line),
+    ("div", Room::Flow),
+    ("ul", Room::List),
+    ("ol", Room::List),
+    ("table", Room::Table),
+    ("div", Room::Flow),
+    ("ul", Room::List),
+    ("table", Room::Table),
+    ("b", Room::Line),
+    ("i", Room::Line),
+    ("em", Room::Line),
+    ("code", Room::Line),
+    ("a", Room::Link),
+];
+
+const LINE: Forms = &[
+    ("b", Room::Line),
+    ("i", Room::Line),
+    ("em", Room::Line),
+    ("code", Room::Line),
+    ("a", Room::Link),
+];
+
+const LINK: Forms = &[
+    ("b", Room::Link),
+    ("i", Room::Link),
+    ("em", Room::Link),
+    ("code", Room::Link),
+];
+
+impl Room {
+    fn forms(self) -> Forms {
+        match self {
+            Room::Flow => FLOW,
+            Room::Line => LINE,
+            Room::Link => LINK,
+            Room::List => &[("li", Room::Flow)],
+            Room::Table => &[("tbody", Room::Rows)],
+            Room::Rows => &[("tr", Room::Cells)],
+            Room::Cells => &[("td", Room::Flow), ("th", Room::Flow)],
+        }
+    }
+
+    /// Whether any text may stand here, and `br`; else white space alone.
+    fn takes_text(self) -> bool {
+        matches!(self, Room::Flow | Room::Line | Room::Link)
+    }
+}
+
+/// Parts of texts, as they are written.
+const TEXT: &[&str] = &[
+    "a",
+    "word ",
+    "\n",
+    "\t",
+    "\u{c}",
+    " ",
+    "é",
+    "€",
+    "😀",
+    "&amp;",
+    "&lt;",
+    "&gt;",
+    "&nbsp;",
+    "&amp;amp;",
+    "&amp;lt;p&gt;",
+    "&amp;#0;",
+    "'",
+    "--&gt;",
+    "]]&gt;",
+    "&lt;/title&gt;",
+    "\u{1}",
+    "\u{7f}",
+    "\u{85}",
+    "\u{feff}",
+    "\u{fffd}",
+    "\u{fffe}",
+    "\u{10ffff}",
+    "=/`",
+];
+
+const WHITE: &[&str] = &["\n", "\t", "\u{c}", " ", "  ", "\n    "];
+
+const NAMES: &[&str] = &["a", "class", "href", "data-x", "x1", "-", "7", "xmlns"];
+
+/// A character of any kind that is written as itself.
+fn character(dice: &mut Dice) -> char {
+    let number = u32::try_from(dice.roll(0x11_0000)).unwrap_or(0);
+    match char::from_u32(number) {
+        None | Some('\0' | '\r' | '&' | '<' | '>' | '"' | '\u{a0}') => '.',
+        Some(c) => c,
+    }
+}
+
+/// Adds a text of some parts, as it is written.
+fn add_text(dice: &mut Dice, page: &mut String, parts: &[&str]) -> Result<(), AllocError> {
+    for _ in 0..=dice.roll(6) {
+        match parts.get(dice.roll(parts.len())) {
+            Some(part) => page.push_str(part)?,
+            None => page.push('.')?,
+        }
+    }
+    Ok(())
+}
+
+/// The same, and some characters of any kind, where any text may stand.
+fn add_any_text(dice: &mut Dice, page: &mut String) -> Result<(), AllocError> {
+    add_text(dice, page, TEXT)?;
+    for _ in 0..dice.roll(4) {
+        page.push(character(dice))?;
+    }
+    Ok(())
+}
+
+fn add_start(dice: &mut Dice, page: &mut String, name: &str) -> Result<(), AllocError> {
+    page.push('<')?;
+    page.push_str(name)?;
+    for name in NAMES {
+        if dice.once_in(16) {
+            page.push(' ')?;
+            page.push_str(name)?;
+            page.push_str("=\"")?;
+            if dice.once_in(2) {
+                page.push_str("&quot;")?;
+                add_any_text(dice, page)?;
+            }
+            page.push('"')?;
+        }
+    }
+    page.push('>')
+}
+
+fn add_end(page: &mut String, name: &str) -> Result<(), AllocError> {
+    page.push_str("</")?;
+    page.push_str(name)?;
+    page.push('>')
+}
+
+/// Adds what stands in a body, in so many steps, and no deeper than 40 elements.
+fn add_body(
+    alloc: Global,
+    dice: &mut Dice,
+    page: &mut String,
+    steps: usize,
+) -> Result<(), AllocError> {
+    let mut open = Vec::new(alloc);
+    let mut room = Room::Flow;
+    let mut after_text = false;
+    let opens = dice.roll(8).max(2);
+    for _ in 0..steps {
+        if dice.roll(10) < opens && open.len() < 38 {
+            let forms = room.forms();
+            if let Some(&(name, inside)) = forms.get(dice.roll(forms.len())) {
+                add_start(dice, page, name)?;
+                open.push((name, room))?;
+                room = inside;
+                after_text = false;
+            }
+        } else if !after_text && dice.once_in(2) {
+            if room.takes_text() {
+                add_any_text(dice, page)?;
+            } else {
+                add_text(dice, page, WHITE)?;
+            }
+            after_text = true;
+        } else if room.takes_text() && dice.once_in(4) {
+            add_start(dice, page, "br")?;
+            after_text = false;
+        } else if let Some((name, around)) = open.pop() {
+            add_end(page, name)?;
+            room = around;
+            after_text = false;
+        }
+    }
+    for _ in 0..open.len() {
+        if let Some((name, _)) = open.pop() {
+            add_end(page, name)?;
+        }
+    }
+    Ok(())
+}
+
+/// A plain document, as it is written.
+fn page(alloc: Global, dice: &mut Dice, steps: usize) -> Result<String, AllocError> {
+    let mut page = String::new(alloc);
+    page.push_str("<!DOCTYPE html>")?;
+    add_start(dice, &mut page, "html")?;
+    add_start(dice, &mut page, "head")?;
+    if dice.once_in(2) {
+        add_text(dice, &mut page, WHITE)?;
+    }
+    if dice.once_in(2) {
+        add_start(dice, &mut page, "title")?;
+        if dice.once_in(2) {
+            add_any_text(dice, &mut page)?;
+        }
+        add_end(&mut page, "title")?;
+        if dice.once_in(2) {
+            add_text(dice, &mut page, WHITE)?;
+        }
+    }
+    add_end(&mut page, "head")?;
+    if dice.once_in(2) {
+        add_text(dice, &mut page, WHITE)?;
+    }
+    add_start(dice, &mut page, "body")?;
+    add_body(alloc, dice, &mut page, steps)?;
+    add_end(&mut page, "body")?;
+    add_end(&mut page, "html")?;
+    Ok(page)
+}
+
+#[test]
+fn plain_documents(rt: HostRuntime) -> Result<(), Fail> {
+    let mut dice = Dice { state: 7 };
+    let mut longest = 0;
+    for n in 0..2000u64 {
+        let steps = if n % 500 == 499 {
+            100_000
+        } else {
+            dice.roll(200)
+        };
+        let page = page(rt.alloc(), &mut dice, steps)?;
+        longest = page.len().max(longest);
+        let on = Devices {
+            read: dice.roll(4096),
+            room: page.len(),
+            ..WHOLE
+        };
+        let exact = Exact {
+            tokenizer: false,
+            tree_builder: dice.once_in(2),
+        };
+        let seen = normal(rt.alloc(), page.as_bytes(), &on, exact)?;
+        assert_eq!(&rt; seen.answer, plain(0), "{n}");
+        assert!(&rt; seen.written.as_slice() == page.as_bytes(), "{n}");
+    }
+    assert!(&rt; longest > 1_000_000, "{longest}");
+    Ok(())
+}
