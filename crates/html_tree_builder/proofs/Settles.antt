@@ -1,5 +1,5 @@
 -- The turns that settle a token, one after the other.
-use Rattle.std.proofs.Common.{◌≡◌, ◌∙◌, ℕ, zero, suc, ◌<◌, Bool, true, false, List, [], ◌∷◌, refl, sym, ap, subst, arith}
+use Rattle.std.proofs.Common.{◌≡◌, ◌∙◌, ℕ, zero, suc, ◌+◌, ◌*◌, ◌<◌, ◌≤◌, Bool, true, false, List, [], ◌∷◌, length, refl, sym, ap, subst, arith}
 use Rattle.html_tokens.specs.Sink.{Reply}
 use Rattle.html_tokens.specs.declared.replies.TokenSinkResult.TheVariants.{Continue}
 use Rattle.html_tokens.specs.declared.token.Token.{Token}
@@ -8,6 +8,7 @@ use Rattle.html_rules.specs.State.{Open, State}
 use Rattle.html_rules_laws.specs.Upright.{MayCome}
 use Rattle.html_rules_laws.proofs.Bools.{no}
 use Rattle.html_rules_laws.proofs.Upright.Turns.{turn-again}
+use Rattle.html_tree_builder.specs.Turns.{most_turns}
 
 -- no turn is left
 abbrev pub run_out : State → Settled
@@ -96,13 +97,16 @@ goes-on (suc n) t end s r on made =
       reply = ap (λ x. x.reply) same ∙ ap (λ x. x.reply) first ∙ on.reply;
     }
 
-pub fewer : (n : ℕ) (t : Token) (end : Settled) (s r : State) → IsOnWay n t end s → turn_of r Again ≡ turn t s → (leads n t r).turns < (leads n t s).turns
+pub one-turn-less : (n : ℕ) (t : Token) (end : Settled) (s r : State) → IsOnWay n t end s → turn_of r Again ≡ turn t s → (leads n t s).turns ≡ suc (leads n t r).turns
 unfolding within
-fewer zero t end s r on made = no on.settled
-fewer (suc n) t end s r on made =
+one-turn-less zero t end s r on made = no on.settled
+one-turn-less (suc n) t end s r on made =
     let same : (leads (suc n) t r).turns ≡ (leads n t r).turns = ap (λ x. x.turns) (again-settled n t s r made on.settled) in
     let first : (leads (suc n) t s).turns ≡ suc (leads n t r).turns = ap (λ x. x.turns) (first-turn n t s r Again made) in
     omega (arith, same, first)
+
+pub fewer : (n : ℕ) (t : Token) (end : Settled) (s r : State) → IsOnWay n t end s → turn_of r Again ≡ turn t s → (leads n t r).turns < (leads n t s).turns
+fewer n t end s r on made = let less = one-turn-less n t end s r on made in omega (arith, less)
 
 -- and may be taken again
 pub comes-again : (t : Token) (s r : State) → MayCome t s → turn_of r Again ≡ turn t s → MayCome t r
@@ -123,3 +127,98 @@ replies zero t end s r reply on made = no on.settled
 replies (suc n) t end s r reply on made =
     let first = sym (first-turn n t s r (Replied reply) made) in
     (ap (λ x. x.state) first ∙ on.state, ap (λ x. x.reply) first ∙ on.reply)
+
+-- turns that are counted: those before, and those that are left, come to the same
+
+pub counted-begins : (t : Token) (s : State) (count : ℕ) → count + (leads (all_turns s.open_elems) t s).turns ≡ count + (settle t s).turns
+counted-begins t s count = ap (λ x. count + x.turns) (sym (settle-leads t s))
+
+pub counted-again : (n : ℕ) (t : Token) (end : Settled) (s r : State) (all before now : ℕ) → IsOnWay n t end s → turn_of r Again ≡ turn t s → before + (leads n t s).turns ≡ all → now ≡ suc before → now + (leads n t r).turns ≡ all
+counted-again n t end s r all before now on made h one =
+    let less = one-turn-less n t end s r on made in
+    omega (arith, less, h, one)
+
+last-turn : (n : ℕ) (t : Token) (s : State) → (leads n t s).is_settled ≡ true → 0 < (leads n t s).turns
+unfolding within
+last-turn zero t s h = no h
+last-turn (suc n) t s h = by (turn t s).ends where
+  one : 0 < 1
+  one = omega arith
+
+  more-than-none : (m : ℕ) → 0 < suc m
+  more-than-none m = omega arith
+
+  by : (e : Ending) → 0 < (settled_by (leads n t) e t (turn t s).state).turns
+  by (Finished acknowledged) = one
+  by Again = more-than-none (leads n t (turn t s).state).turns
+  by (Replied reply) = one
+
+-- one turn more is no more than all
+pub counted-most : (n : ℕ) (t : Token) (end : Settled) (s : State) (all before now : ℕ) → IsOnWay n t end s → before + (leads n t s).turns ≡ all → now ≡ suc before → now ≤ all
+counted-most n t end s all before now on h one =
+    let some = last-turn n t s on.settled in
+    omega (arith, some, h, one)
+
+finished-turn : (n : ℕ) (t : Token) (end : Settled) (s r : State) (acknowledged : Bool) → IsOnWay n t end s → turn_of r (Finished acknowledged) ≡ turn t s → (leads n t s).turns ≡ 1
+unfolding within
+finished-turn zero t end s r acknowledged on made = no on.settled
+finished-turn (suc n) t end s r acknowledged on made = ap (λ x. x.turns) (first-turn n t s r (Finished acknowledged) made)
+
+replied-turn : (n : ℕ) (t : Token) (end : Settled) (s r : State) (reply : Reply) → IsOnWay n t end s → turn_of r (Replied reply) ≡ turn t s → (leads n t s).turns ≡ 1
+unfolding within
+replied-turn zero t end s r reply on made = no on.settled
+replied-turn (suc n) t end s r reply on made = ap (λ x. x.turns) (first-turn n t s r (Replied reply) made)
+
+-- the last turn is counted
+
+pub counted-finishes : (n : ℕ) (t : Token) (end : Settled) (s r : State) (acknowledged : Bool) (all before now : ℕ) → IsOnWay n t end s → turn_of r (Finished acknowledged) ≡ turn t s → before + (leads n t s).turns ≡ all → now ≡ suc before → now ≡ all
+counted-finishes n t end s r acknowledged all before now on made h one =
+    let last = finished-turn n t end s r acknowledged on made in
+    omega (arith, last, h, one)
+
+pub counted-replies : (n : ℕ) (t : Token) (end : Settled) (s r : State) (reply : Reply) (all before now : ℕ) → IsOnWay n t end s → turn_of r (Replied reply) ≡ turn t s → before + (leads n t s).turns ≡ all → now ≡ suc before → now ≡ all
+counted-replies n t end s r reply all before now on made h one =
+    let last = replied-turn n t end s r reply on made in
+    omega (arith, last, h, one)
+
+-- no more than sixteen turns, and four for each open element
+
+leads-most : (n : ℕ) (t : Token) (s : State) → (leads n t s).turns ≤ n
+unfolding within
+leads-most zero t s = none where
+  none : 0 ≤ 0
+  none = omega arith
+leads-most (suc n) t s = by (turn t s).ends (leads-most n t (turn t s).state) where
+  one : 1 ≤ suc n
+  one = omega arith
+
+  one-more : (m : ℕ) → m ≤ n → suc m ≤ suc n
+  one-more m h = omega (arith, h)
+
+  by : (e : Ending) → (leads n t (turn t s).state).turns ≤ n → (settled_by (leads n t) e t (turn t s).state).turns ≤ suc n
+  by (Finished acknowledged) h = one
+  by Again h = one-more (leads n t (turn t s).state).turns h
+  by (Replied reply) h = one
+
+more-adds : (k n : ℕ) → more k n ≡ k + n
+more-adds zero n = same where
+  same : n ≡ 0 + n
+  same = omega arith
+more-adds (suc k) n = one-more (more k n) (more-adds k n) where
+  one-more : (m : ℕ) → m ≡ k + n → suc m ≡ suc k + n
+  one-more m h = omega (arith, h)
+
+four-turns : (xs : List Open) → four_turns xs ≡ 4 * length xs
+four-turns [] = refl
+four-turns (x ∷ xs) = let adds = more-adds 4 (four_turns xs) in let rest = four-turns xs in omega (arith, adds, rest)
+
+pub settle-most : (t : Token) (s : State) → (settle t s).turns ≤ most_turns s.open_elems
+settle-most t s =
+    let same = ap (λ x. x.turns) (settle-leads t s) in
+    let most = leads-most (all_turns s.open_elems) t s in
+    let adds = more-adds 16 (four_turns s.open_elems) in
+    let four = four-turns s.open_elems in
+    omega (arith, same, most, adds, four)
+
+pub at-most : (t : Token) (s : State) (before now : ℕ) → now ≤ before + (settle t s).turns → now ≤ before + most_turns s.open_elems
+at-most t s before now h = let most = settle-most t s in omega (arith, most, h)

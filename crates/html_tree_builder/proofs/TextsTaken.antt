@@ -54,6 +54,10 @@ unlined-state s r e h = subst Usable (sym e) (unlined-usable s h)
 pub unlined-ended : (s r : State) → r ≡ set_ignore_lf false s → s.has_ended ≡ false → r.has_ended ≡ false
 unlined-ended s r e going = ap (λ x. x.has_ended) e ∙ unlined-going s going
 
+pub unlined-open : (s r : State) → r ≡ set_ignore_lf false s → r.open_elems ≡ s.open_elems
+unfolding set_ignore_lf
+unlined-open s r e = ap (λ x. x.open_elems) e
+
 -- characters
 
 pub no-characters : (text : List ℕ) (s : State) → length text ≡ 0 → s ≡ (came_of (CharacterTokens (chars text)) s).state

@@ -5,3 +5,4 @@ pub mod Rows
 pub mod Turning
 pub mod Running
 pub mod Texts
+pub mod Turns

@@ -11,6 +11,7 @@ ghost use Rattle.html_tree_builder.specs.States.{answers_of, built, context_in, 
 
 use crate::beginnings::tokenizer_state;
 use crate::construction::Construction;
+use crate::counted::Turns;
 use crate::options::TreeBuilderOpts;
 use html_names::ElementName;
 use html_stack::OpenElement;
@@ -21,6 +22,9 @@ use std::alloc::Global;
 /// Builds a tree of the tokens that it is told (HTML Standard, section 13.2.6): a sink of tokens over a sink that builds trees.
 ///
 /// After [`ParseFault::Memory`] it answers [`ParseFault::Failed`] to every token.
+///
+/// `turns` has how many turns its tokens took, of all that are no text: one for each row that was chosen for a token, at first
+/// and each time that the token was taken again. Contracts alone see the number.
 #[derive(Drop)]
 pub struct TreeBuilder<Sink: TreeSink> {
     /// Who builds the tree.
@@ -28,6 +32,7 @@ pub struct TreeBuilder<Sink: TreeSink> {
     pub(crate) construction: Construction<Sink>,
     pub(crate) current_line: u64,
     pub(crate) has_failed: bool,
+    pub(crate) turns: Turns,
 }
 
 /// The context of a fragment, with the name that its sink says it has.
@@ -55,6 +60,7 @@ impl<Sink: TreeSink> TreeBuilder<Sink> {
         ensures begun { built Sink.TreeSink result.construction (Sink.forest result.sink) ≡ before_document (setting_of (answers_of Sink.integration_point Sink.allows_shadow_roots Sink.attaches_shadow) opts) (Sink.forest sink) }
         ensures usable { Usable (hushed (built Sink.TreeSink result.construction (Sink.forest result.sink))) }
         ensures works { result.has_failed ≡ false }
+        ensures turns { result.turns.count ≡ 0 }
     {
         let mut sink = sink;
         let _ = sink.get_document();
@@ -63,6 +69,7 @@ impl<Sink: TreeSink> TreeBuilder<Sink> {
             construction: Construction::new(alloc, opts),
             current_line: 1,
             has_failed: false,
+            turns: Turns::none(),
         }
     }
 
@@ -83,6 +90,7 @@ impl<Sink: TreeSink> TreeBuilder<Sink> {
         ensures begun { IfOk result (λ builder. built Sink.TreeSink builder.construction (Sink.forest builder.sink) ≡ before_fragment (setting_of (answers_of Sink.integration_point Sink.allows_shadow_roots Sink.attaches_shadow) opts) (context_in (Sink.forest sink) (Sink.node context)) (number_if Sink.node form) (Sink.forest sink)) }
         ensures usable { IfOk result (λ builder. Usable (hushed (built Sink.TreeSink builder.construction (Sink.forest builder.sink)))) }
         ensures works { IfOk result (λ builder. builder.has_failed ≡ false) }
+        ensures turns { IfOk result (λ builder. builder.turns.count ≡ 0) }
         ensures fault { IfErr result (λ fault. fault ≡ Memory) }
     {
         let mut sink = sink;
@@ -94,6 +102,7 @@ impl<Sink: TreeSink> TreeBuilder<Sink> {
             construction,
             current_line: 1,
             has_failed: false,
+            turns: Turns::none(),
         })
     }
 

@@ -7,6 +7,7 @@ pub mod builder;
 mod conclusions;
 mod conditions;
 mod construction;
+pub mod counted;
 mod errors;
 pub mod options;
 mod rows;

@@ -1,5 +1,5 @@
 //! A token is taken in turns, until it is done with (HTML Standard, section 13.2.6).
-ghost use Rattle.std.specs.Prelude.{◌≡◌, true, IfErr, IfOk, OnOk};
+ghost use Rattle.std.specs.Prelude.{◌≡◌, ◌≤◌, ◌+◌, true, IfErr, IfOk, OnOk};
 ghost use Rattle.markup.specs.declared.fault.ParseFault.TheVariants.{Memory};
 ghost use Rattle.html_tokens.specs.Sink.{numbered};
 ghost use Rattle.html_rules.specs.Rules.{check_acknowledged, is_self_closing, settle};
@@ -10,6 +10,7 @@ ghost use Rattle.html_tree_builder.specs.Told.{IsTold, token_of};
 
 use crate::conclusions::Ending;
 use crate::construction::Construction;
+use crate::counted::Turns;
 use crate::errors;
 use crate::told::{Content, Told};
 use html_tokens::{TagKind, TokenSinkResult};
@@ -39,11 +40,12 @@ impl<Sink: TreeSink> Construction<Sink> {
         }
     }
 
-    /// What a token comes to, turn by turn. It takes no more turns than sixteen, and four for each open element.
+    /// What a token comes to, turn by turn. Each is counted, and they are no more than sixteen, and four for each open element.
     pub(crate) fn settle(
         &mut self,
         sink: &mut Sink,
         told: Told<'_>,
+        turns: &mut Turns,
     ) -> Result<TokenSinkResult<Sink::Handle>, ParseFault>
         requires told { IsTold told }
         requires stands { Stands (Sink.forest sink.old) self.old }
@@ -52,9 +54,12 @@ impl<Sink: TreeSink> Construction<Sink> {
         ensures state { OnOk result (built Sink.TreeSink self.new (Sink.forest sink.new) ≡ (settle (token_of told.entry.content) (built Sink.TreeSink self.old (Sink.forest sink.old))).state) }
         ensures reply { IfOk result (λ reply. numbered Sink.node reply ≡ (settle (token_of told.entry.content) (built Sink.TreeSink self.old (Sink.forest sink.old))).reply) }
         ensures stands { OnOk result (Stands (Sink.forest sink.new) self.new) }
+        ensures counted { OnOk result (turns.new.count ≡ turns.old.count + (settle (token_of told.entry.content) (built Sink.TreeSink self.old (Sink.forest sink.old))).turns) }
+        ensures most { turns.new.count ≤ turns.old.count + (settle (token_of told.entry.content) (built Sink.TreeSink self.old (Sink.forest sink.old))).turns }
         ensures fault { IfErr result (λ fault. fault ≡ Memory) }
     {
         loop {
+            turns.add_one();
             match self.turn(sink, told)? {
                 Ending::Again => {}
                 Ending::Finished(acknowledged) => {

@@ -1,13 +1,14 @@
 //! The tree builder takes tokens (HTML Standard, section 13.2.6).
-ghost use Rattle.std.specs.Prelude.{◌≡◌, [], false, true, IfErr};
+ghost use Rattle.std.specs.Prelude.{◌≡◌, ◌≤◌, ◌+◌, [], false, true, IfErr, OnOk};
 ghost use Rattle.markup.specs.declared.fault.ParseFault.TheVariants.{Memory};
-ghost use Rattle.html_tokens.specs.Sink.{fails};
+ghost use Rattle.html_tokens.specs.Sink.{Counts, Gives, OnRefused, fails, tells_failed};
 ghost use Rattle.html_builder_laws.specs.Coming.{IsTaken};
 ghost use Rattle.html_builder_laws.specs.Usable.{Usable};
 ghost use Rattle.html_rules.specs.State.{hushed};
-ghost use Rattle.html_rules.specs.Step.{is_barred, is_barred_in_text};
+ghost use Rattle.html_rules.specs.Step.{is_barred, is_barred_in_text, is_quiet, step};
 ghost use Rattle.html_rules_laws.specs.Soundness.{AreOpened};
 ghost use Rattle.html_tree_builder.specs.States.{built};
+ghost use Rattle.html_tree_builder.specs.Turns.{most_turns, turns_of};
 
 use crate::builder::TreeBuilder;
 use crate::construction::Construction;
@@ -76,6 +77,8 @@ impl<Sink: TreeSink> TreeBuilder<Sink> {
     fn tell_line(&mut self, line: u64)
         ensures same { built Sink.TreeSink self.new.construction (Sink.forest self.new.sink) ≡ built Sink.TreeSink self.old.construction (Sink.forest self.old.sink) }
         ensures works { self.new.has_failed ≡ self.old.has_failed }
+        ensures turns { self.new.turns.count ≡ self.old.turns.count }
+        ensures open { self.new.construction.stack.open_elems ≡ self.old.construction.stack.open_elems }
     {
         if line != self.current_line {
             self.current_line = line;
@@ -94,10 +97,15 @@ impl<Sink: TreeSink> TreeBuilder<Sink> {
         requires works { self.old.has_failed ≡ false }
         ensures taken { IsTaken Sink.node token (built Sink.TreeSink self.old.construction (Sink.forest self.old.sink)) (built Sink.TreeSink self.new.construction (Sink.forest self.new.sink)) result }
         ensures failed { self.new.has_failed ≡ fails result }
+        ensures counted { OnOk result (self.new.turns.count ≡ self.old.turns.count + turns_of token (built Sink.TreeSink self.old.construction (Sink.forest self.old.sink))) }
+        ensures most { self.new.turns.count ≤ self.old.turns.count + most_turns self.old.construction.stack.open_elems }
         ensures fault { IfErr result (λ fault. fault ≡ Memory) }
     {
         self.tell_line(line);
-        match self.construction.take(&mut self.sink, token) {
+        match self
+            .construction
+            .take(&mut self.sink, token, &mut self.turns)
+        {
             Ok(reply) => Ok(reply),
             Err(fault) => {
                 self.has_failed = true;
@@ -145,7 +153,18 @@ impl<Sink: TreeSink> TokenSink for TreeBuilder<Sink> {
         &mut self,
         token: Token,
         line_number: u64,
-    ) -> Result<TokenSinkResult<Sink::Handle>, ParseFault> {
+    ) -> Result<TokenSinkResult<Sink::Handle>, ParseFault>
+        requires { self.old.has_failed ≡ false → Usable (hushed (built Sink.TreeSink self.old.construction (Sink.forest self.old.sink))) }
+        ensures gives { Gives Sink.node (step (hushed (built Sink.TreeSink self.old.construction (Sink.forest self.old.sink))) token line_number) result (hushed (built Sink.TreeSink self.new.construction (Sink.forest self.new.sink))) }
+        ensures failed_before { tells_failed result ≡ self.old.has_failed }
+        ensures failed_after { self.new.has_failed ≡ fails result }
+        ensures unchanged { OnRefused result (hushed (built Sink.TreeSink self.new.construction (Sink.forest self.new.sink)) ≡ hushed (built Sink.TreeSink self.old.construction (Sink.forest self.old.sink))) }
+        ensures same_errors { OnRefused result ((Sink.forest self.new.sink).errors ≡ (Sink.forest self.old.sink).errors) }
+        ensures counts { Counts (is_quiet (hushed (built Sink.TreeSink self.old.construction (Sink.forest self.old.sink))) token) token result (Sink.forest self.old.sink).errors (Sink.forest self.new.sink).errors }
+        ensures sound { self.new.has_failed ≡ false → Usable (hushed (built Sink.TreeSink self.new.construction (Sink.forest self.new.sink))) }
+        ensures counted { OnOk result (self.new.turns.count ≡ self.old.turns.count + turns_of token (built Sink.TreeSink self.old.construction (Sink.forest self.old.sink))) }
+        ensures most { self.new.turns.count ≤ self.old.turns.count + most_turns self.old.construction.stack.open_elems }
+    {
         if self.has_failed {
             return Err(ParseFault::Failed);
         }

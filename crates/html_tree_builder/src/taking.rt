@@ -1,5 +1,5 @@
 //! A token that is told is taken as a whole (HTML Standard, section 13.2.6).
-ghost use Rattle.std.specs.Prelude.{◌≡◌, [], false, IfErr, IfOk, OnOk};
+ghost use Rattle.std.specs.Prelude.{◌≡◌, ◌≤◌, ◌+◌, [], false, IfErr, IfOk, OnOk};
 ghost use Rattle.std.specs.Str.{chars};
 ghost use Rattle.markup.specs.declared.fault.ParseFault.TheVariants.{Memory};
 ghost use Rattle.html_builder_laws.specs.Coming.{came_of};
@@ -15,8 +15,10 @@ ghost use Rattle.html_rules.specs.Step.{doctype_taken, first_doctype_taken, if_k
 ghost use Rattle.html_rules.specs.Tokens.{name_of};
 ghost use Rattle.html_tree_builder.specs.States.{Stands, built, state_of};
 ghost use Rattle.html_tree_builder.specs.Told.{IsTold, token_of};
+ghost use Rattle.html_tree_builder.specs.Turns.{most_turns, turns_of};
 
 use crate::construction::Construction;
+use crate::counted::Turns;
 use crate::errors;
 use crate::texts::{behind_line_feed, split_first};
 use crate::told::{Content, Told};
@@ -58,18 +60,21 @@ impl<Sink: TreeSink> Construction<Sink> {
         &mut self,
         sink: &mut Sink,
         told: Told<'_>,
+        turns: &mut Turns,
     ) -> Result<TokenSinkResult<Sink::Handle>, ParseFault>
         requires told { IsTold told }
         requires usable { Usable (built Sink.TreeSink self.old (Sink.forest sink.old)) }
         requires going { self.old.has_ended ≡ false }
         ensures state { OnOk result (built Sink.TreeSink self.new (Sink.forest sink.new) ≡ (settle (token_of told.entry.content) (built Sink.TreeSink self.old (Sink.forest sink.old))).state) }
         ensures reply { IfOk result (λ reply. numbered Sink.node reply ≡ (settle (token_of told.entry.content) (built Sink.TreeSink self.old (Sink.forest sink.old))).reply) }
+        ensures counted { OnOk result (turns.new.count ≡ turns.old.count + (settle (token_of told.entry.content) (built Sink.TreeSink self.old (Sink.forest sink.old))).turns) }
+        ensures most { turns.new.count ≤ turns.old.count + most_turns self.old.stack.open_elems }
         ensures fault { IfErr result (λ fault. fault ≡ Memory) }
     {
-        self.settle(sink, told)
+        self.settle(sink, told, turns)
     }
 
-    /// Takes one character.
+    /// Takes one character. Its turns are not counted.
     fn take_character(&mut self, sink: &mut Sink, character: &str) -> Result<(), ParseFault>
         requires usable { Usable (built Sink.TreeSink self.old (Sink.forest sink.old)) }
         requires going { self.old.has_ended ≡ false }
@@ -78,7 +83,7 @@ impl<Sink: TreeSink> Construction<Sink> {
     {
         let name = LocalName::empty(self.alloc);
         let told = Told::of(Content::Characters(character), &name);
-        drop(self.settle_told(sink, told)?);
+        drop(self.settle_told(sink, told, &mut Turns::none())?);
         Ok(())
     }
 
@@ -175,29 +180,35 @@ impl<Sink: TreeSink> Construction<Sink> {
         &mut self,
         sink: &mut Sink,
         told: Told<'_>,
+        turns: &mut Turns,
     ) -> Result<TokenSinkResult<Sink::Handle>, ParseFault>
         requires told { IsTold told }
         requires usable { Usable (built Sink.TreeSink self.old (Sink.forest sink.old)) }
         requires going { self.old.has_ended ≡ false }
         ensures state { OnOk result (built Sink.TreeSink self.new (Sink.forest sink.new) ≡ (settle (token_of told.entry.content) (set_ignore_lf false (built Sink.TreeSink self.old (Sink.forest sink.old)))).state) }
         ensures reply { IfOk result (λ reply. numbered Sink.node reply ≡ (settle (token_of told.entry.content) (set_ignore_lf false (built Sink.TreeSink self.old (Sink.forest sink.old)))).reply) }
+        ensures counted { OnOk result (turns.new.count ≡ turns.old.count + (settle (token_of told.entry.content) (set_ignore_lf false (built Sink.TreeSink self.old (Sink.forest sink.old)))).turns) }
+        ensures most { turns.new.count ≤ turns.old.count + most_turns self.old.stack.open_elems }
         ensures fault { IfErr result (λ fault. fault ≡ Memory) }
     {
         self.set_ignore_lf(false);
-        self.settle_told(sink, told)
+        self.settle_told(sink, told, turns)
     }
 
-    /// Takes a token. An error is told on, and an empty text changes nothing.
+    /// Takes a token. An error is told on, and an empty text changes nothing. Its turns are counted, unless it is text.
     #[tactic(auto, unfolding(html_rules::specs::Step::taken, html_rules::specs::Stack::parse_error))]
     pub(crate) fn take(
         &mut self,
         sink: &mut Sink,
         token: Token,
+        turns: &mut Turns,
     ) -> Result<TokenSinkResult<Sink::Handle>, ParseFault>
         requires usable { Usable (built Sink.TreeSink self.old (Sink.forest sink.old)) }
         requires going { self.old.has_ended ≡ false }
         ensures state { OnOk result (built Sink.TreeSink self.new (Sink.forest sink.new) ≡ (came_of token (built Sink.TreeSink self.old (Sink.forest sink.old))).state) }
         ensures reply { IfOk result (λ reply. numbered Sink.node reply ≡ (came_of token (built Sink.TreeSink self.old (Sink.forest sink.old))).reply) }
+        ensures counted { OnOk result (turns.new.count ≡ turns.old.count + turns_of token (built Sink.TreeSink self.old (Sink.forest sink.old))) }
+        ensures most { turns.new.count ≤ turns.old.count + most_turns self.old.stack.open_elems }
         ensures fault { IfErr result (λ fault. fault ≡ Memory) }
     {
         match token {
@@ -214,10 +225,10 @@ impl<Sink: TreeSink> Construction<Sink> {
                 self.take_doctype(sink, doctype)?;
                 Ok(TokenSinkResult::Continue)
             }
-            Token::TagToken(tag) => self.take_told(sink, Told::of_tag(&tag)),
-            Token::CommentToken(text) => self.take_nameless(sink, Content::Comment(&text)),
-            Token::NullCharacterToken => self.take_nameless(sink, Content::Null),
-            Token::EOFToken => self.take_nameless(sink, Content::EndOfFile),
+            Token::TagToken(tag) => self.take_told(sink, Told::of_tag(&tag), turns),
+            Token::CommentToken(text) => self.take_nameless(sink, Content::Comment(&text), turns),
+            Token::NullCharacterToken => self.take_nameless(sink, Content::Null, turns),
+            Token::EOFToken => self.take_nameless(sink, Content::EndOfFile, turns),
         }
     }
 
@@ -226,15 +237,18 @@ impl<Sink: TreeSink> Construction<Sink> {
         &mut self,
         sink: &mut Sink,
         content: Content<'_>,
+        turns: &mut Turns,
     ) -> Result<TokenSinkResult<Sink::Handle>, ParseFault>
         requires nameless { [] ≡ name_of (token_of content) }
         requires usable { Usable (built Sink.TreeSink self.old (Sink.forest sink.old)) }
         requires going { self.old.has_ended ≡ false }
         ensures state { OnOk result (built Sink.TreeSink self.new (Sink.forest sink.new) ≡ (settle (token_of content.entry) (set_ignore_lf false (built Sink.TreeSink self.old (Sink.forest sink.old)))).state) }
         ensures reply { IfOk result (λ reply. numbered Sink.node reply ≡ (settle (token_of content.entry) (set_ignore_lf false (built Sink.TreeSink self.old (Sink.forest sink.old)))).reply) }
+        ensures counted { OnOk result (turns.new.count ≡ turns.old.count + (settle (token_of content.entry) (set_ignore_lf false (built Sink.TreeSink self.old (Sink.forest sink.old)))).turns) }
+        ensures most { turns.new.count ≤ turns.old.count + most_turns self.old.stack.open_elems }
         ensures fault { IfErr result (λ fault. fault ≡ Memory) }
     {
         let name = LocalName::empty(self.alloc);
-        self.take_told(sink, Told::of(content, &name))
+        self.take_told(sink, Told::of(content, &name), turns)
     }
 }

@@ -4,7 +4,7 @@ use Rattle.html_rules.specs.Rules.{Again, Finished, Replied, settle, turn, turn_
 use Rattle.html_tree_builder.specs.States.{answers_of, built}
 use Rattle.html_tree_builder.specs.Told.{token_of}
 use Rattle.html_tree_builder.proofs.MayTurns.{may-turn}
-use Rattle.html_tree_builder.proofs.Settles.{all_turns, begins, comes-again, fewer, finishes, goes-on, replies}
+use Rattle.html_tree_builder.proofs.Settles.{all_turns, begins, comes-again, counted-again, counted-begins, counted-finishes, counted-most, counted-replies, fewer, finishes, goes-on, replies}
 use Rattle.html_tree_builder.proofs.construction.Construction.settle.Goals as goal
 
 pub loop-acknowledged-init : goal.loop-acknowledged-init
@@ -14,6 +14,7 @@ loop-acknowledged-init g c =
       stands = c.requires.stands;
       may = c.requires.may;
       on = begins t (built g.Sink.TreeSink c.args.self.now (g.Sink.TreeSink.forest c.args.sink.now)) c.requires.settled;
+      counted = counted-begins t (built g.Sink.TreeSink c.args.self.now (g.Sink.TreeSink.forest c.args.sink.now)) c.args.turns.now.count;
     }
 
 pub turn-requires-clause-stands : goal.turn-requires-clause-stands
@@ -42,6 +43,7 @@ loop-acknowledged-preserved g c =
       stands = c.in_ok-turn.ensures.stands;
       may = comes-again t s r c.loop-acknowledged.invariant.may made;
       on = goes-on (all_turns c.args.self.now.stack.open_elems) t (settle t (built sink c.args.self.now (sink.forest c.args.sink.now))) s r c.loop-acknowledged.invariant.on made;
+      counted = counted-again (all_turns c.args.self.now.stack.open_elems) t (settle t (built sink c.args.self.now (sink.forest c.args.sink.now))) s r _ c.loop-acknowledged.turns.count _ c.loop-acknowledged.invariant.on made c.loop-acknowledged.invariant.counted c.add_one.ensures;
     }
 
 pub returns-in-Finished-clause-state : goal.returns-in-Finished-clause-state
@@ -81,3 +83,42 @@ returns-in-Replied-clause-reply g c =
     let r = built sink c.turn.new.self (sink.forest c.turn.new.sink) in
     let made : turn_of r (Replied (numbered sink.node c.in-Replied.reply)) ≡ turn t s = rw c.in-Replied.is at c.in_ok-turn.ensures.ok in
     (replies (all_turns c.args.self.now.stack.open_elems) t (settle t (built sink c.args.self.now (sink.forest c.args.sink.now))) s r (numbered sink.node c.in-Replied.reply) c.loop-acknowledged.invariant.on made).1
+
+pub returns-in-Finished-clause-counted : goal.returns-in-Finished-clause-counted
+returns-in-Finished-clause-counted g c =
+    let sink = g.Sink.TreeSink in
+    let t = token_of c.args.told.content in
+    let s = built sink c.loop-acknowledged.self (sink.forest c.loop-acknowledged.sink) in
+    let r = built sink c.turn.new.self (sink.forest c.turn.new.sink) in
+    let made : turn_of r (Finished c.in-Finished.acknowledged) ≡ turn t s = rw c.in-Finished.is at c.in_ok-turn.ensures.ok in
+    counted-finishes (all_turns c.args.self.now.stack.open_elems) t (settle t (built sink c.args.self.now (sink.forest c.args.sink.now))) s r c.in-Finished.acknowledged _ c.loop-acknowledged.turns.count _ c.loop-acknowledged.invariant.on made c.loop-acknowledged.invariant.counted c.add_one.ensures
+
+pub returns-in-Replied-clause-counted : goal.returns-in-Replied-clause-counted
+returns-in-Replied-clause-counted g c =
+    let sink = g.Sink.TreeSink in
+    let t = token_of c.args.told.content in
+    let s = built sink c.loop-acknowledged.self (sink.forest c.loop-acknowledged.sink) in
+    let r = built sink c.turn.new.self (sink.forest c.turn.new.sink) in
+    let made : turn_of r (Replied (numbered sink.node c.in-Replied.reply)) ≡ turn t s = rw c.in-Replied.is at c.in_ok-turn.ensures.ok in
+    counted-replies (all_turns c.args.self.now.stack.open_elems) t (settle t (built sink c.args.self.now (sink.forest c.args.sink.now))) s r (numbered sink.node c.in-Replied.reply) _ c.loop-acknowledged.turns.count _ c.loop-acknowledged.invariant.on made c.loop-acknowledged.invariant.counted c.add_one.ensures
+
+pub returns-in_err-turn-clause-most : goal.returns-in_err-turn-clause-most
+returns-in_err-turn-clause-most g c =
+    let sink = g.Sink.TreeSink in
+    let t = token_of c.args.told.content in
+    let s = built sink c.loop-acknowledged.self (sink.forest c.loop-acknowledged.sink) in
+    counted-most (all_turns c.args.self.now.stack.open_elems) t (settle t (built sink c.args.self.now (sink.forest c.args.sink.now))) s _ c.loop-acknowledged.turns.count _ c.loop-acknowledged.invariant.on c.loop-acknowledged.invariant.counted c.add_one.ensures
+
+pub returns-in-Finished-clause-most : goal.returns-in-Finished-clause-most
+returns-in-Finished-clause-most g c =
+    let sink = g.Sink.TreeSink in
+    let t = token_of c.args.told.content in
+    let s = built sink c.loop-acknowledged.self (sink.forest c.loop-acknowledged.sink) in
+    counted-most (all_turns c.args.self.now.stack.open_elems) t (settle t (built sink c.args.self.now (sink.forest c.args.sink.now))) s _ c.loop-acknowledged.turns.count _ c.loop-acknowledged.invariant.on c.loop-acknowledged.invariant.counted c.add_one.ensures
+
+pub returns-in-Replied-clause-most : goal.returns-in-Replied-clause-most
+returns-in-Replied-clause-most g c =
+    let sink = g.Sink.TreeSink in
+    let t = token_of c.args.told.content in
+    let s = built sink c.loop-acknowledged.self (sink.forest c.loop-acknowledged.sink) in
+    counted-most (all_turns c.args.self.now.stack.open_elems) t (settle t (built sink c.args.self.now (sink.forest c.args.sink.now))) s _ c.loop-acknowledged.turns.count _ c.loop-acknowledged.invariant.on c.loop-acknowledged.invariant.counted c.add_one.ensures

@@ -1,3 +1,4 @@
+use Rattle.std.proofs.Common.{◌≡◌, ◌+◌}
 use Rattle.html_rules.specs.Rules.{settle}
 use Rattle.html_rules_laws.specs.Upright.{MayCome}
 use Rattle.html_tree_builder.specs.States.{Stands, built}
@@ -14,6 +15,7 @@ invariant-loop-acknowledged g l =
       stands : Stands (sink.forest l.sink) l.self;
       may : MayCome t s;
       on : IsOnWay (all_turns l.fn.self.stack.open_elems) t (settle t (built sink l.fn.self (sink.forest l.fn.sink))) s;
+      counted : l.turns.count + (leads (all_turns l.fn.self.stack.open_elems) t s).turns ≡ l.fn.turns.count + (settle t (built sink l.fn.self (sink.forest l.fn.sink))).turns;
     }
 
 abbrev pub decreases-loop-acknowledged : goal.decreases-loop-acknowledged
