@@ -1,11 +1,12 @@
 //! Worked rows: documents.
-use crate::parsing::{EXACT_ERRORS, assert_written, document_of, in_characters, in_two, opts};
+use crate::parsing::{EXACT_ERRORS, assert_written, document_of, opts};
 use html_forest::Forest;
 use markup::QuirksMode::{NoQuirks, Quirks};
 use markup::{ParseFault, QuirksMode, TreeSink};
 use std::alloc::Global;
 use std::process::Abort;
 use std::test::Fail;
+use text_pieces::{in_characters, in_two};
 
 /// A text, what is written of its document, whether that is plain, and its quirks mode.
 type Row = (&'static str, &'static str, bool, QuirksMode);

@@ -1,11 +1,12 @@
 //! Worked rows: fragments.
-use crate::parsing::{EXACT_ERRORS, assert_written, five, in_characters, in_two, opts, take_all};
+use crate::parsing::{EXACT_ERRORS, assert_written, five, opts, take_all};
 use html_forest::{Forest, NodeId};
 use html_parser::parse_fragment;
 use markup::{Attributes, LocalName, Namespace, ParseFault, QualName, TreeSink};
 use std::alloc::Global;
 use std::process::Abort;
 use std::test::Fail;
+use text_pieces::{in_characters, in_two};
 
 /// The namespace and the name of a context, whether it was scripted, a text, and what is written of what stands in its root.
 type Row = (&'static str, &'static str, bool, &'static str, &'static str);

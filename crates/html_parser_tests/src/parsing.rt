@@ -11,7 +11,7 @@ use html_tokenizer::{References, TokenizerOpts};
 use html_tree_builder::TreeBuilderOpts;
 use markup::devices::MemWriter;
 use markup::{ParseFault, SerializeFault, TreeSink};
-use std::alloc::{AllocError, Global};
+use std::alloc::Global;
 use std::process::Abort;
 
 /// How exactly errors are told: by the tokenizer, and by the tree builder.
@@ -71,34 +71,6 @@ pub(crate) fn document_of(
     let forest = Forest::new(alloc)?;
     let parser = parse_document(alloc, forest, opts, five(alloc)?)?;
     take_all(parser, pieces)
-}
-
-/// The characters of a text from one place on and up to another.
-fn part(alloc: Global, text: &str, from: usize, count: usize) -> Result<String, AllocError> {
-    let mut part = String::new(alloc);
-    for c in text.chars().skip(from).take(count) {
-        part.push(c)?;
-    }
-    Ok(part)
-}
-
-/// A text cut in two at a place.
-pub(crate) fn in_two(alloc: Global, text: &str, place: usize) -> Result<Vec<String>, AllocError> {
-    let mut pieces = Vec::new(alloc);
-    pieces.push(part(alloc, text, 0, place)?)?;
-    pieces.push(part(alloc, text, place, text.len())?)?;
-    Ok(pieces)
-}
-
-/// A text cut at each character.
-pub(crate) fn in_characters(alloc: Global, text: &str) -> Result<Vec<String>, AllocError> {
-    let mut pieces = Vec::new(alloc);
-    for c in text.chars() {
-        let mut piece = String::new(alloc);
-        piece.push(c)?;
-        pieces.push(piece)?;
-    }
-    Ok(pieces)
 }
 
 /// Sees that this is written of what stands in a node.

@@ -16,6 +16,7 @@ use Rattle.html_tokens.specs.Reading.{line_break}
 use Rattle.html_tokens.specs.Sink.{SinkLaws}
 use Rattle.html_tokenizer.specs.declared.keyword.Word.{Word}
 use Rattle.html_tokenizer.specs.declared.keyword.Word.TheVariants as word
+use Rattle.html_tokenizer.specs.declared.error_code.ErrorCode.{ErrorCode}
 use Rattle.html_tokenizer.specs.declared.tokenizer.Tokenizer.{Tokenizer}
 use Rattle.html_tokenizer.specs.Keywords.{becomes, may_become, may_declare, IsPart, MakesNoWord, OpensNothing}
 use Rattle.html_tokenizer.specs.Rest.{rows_of, standing, held_at}
@@ -168,17 +169,17 @@ module _ {K H : Type 0} (Sink : Ghosts K H) (laws : SinkLaws Sink.is_sound Sink.
         ∙ ap (λ x. reads Sink (rows_of old) (standing old InData) x s (60 ∷ 33 ∷ ((old.keyword ++ c ∷ []) ++ t))) (sym (no-break b c (plain-break c plain)))))
 
   -- what was read is the front of a bogus comment
-  bogus-read : (old : Tokenizer K) (c : ℕ) (b : ℕ) (s : Sink.State × Notes ℕ) (t : List ℕ) → IsPart old.keyword → OpensNothing (Sink.asks_cdata s.0) old.keyword c
-      → at Sink state.MarkupDeclarationOpen old b s (c ∷ t) ≡ at Sink state.BogusComment (record old { comment = old.keyword; state = state.BogusComment }) b s (c ∷ t)
+  bogus-read : (fault : ErrorCode) (old : Tokenizer K) (c : ℕ) (b : ℕ) (s : Sink.State × Notes ℕ) (t : List ℕ) → IsPart old.keyword → OpensNothing (Sink.asks_cdata s.0) old.keyword c
+      → at Sink state.MarkupDeclarationOpen old b s (c ∷ t) ≡ at Sink state.BogusComment (record old { comment = old.keyword; fault = fault; state = state.BogusComment }) b s (c ∷ t)
   unfolding held_at
-  bogus-read old c b s t part h = read-declared old old.keyword (c ∷ t) (bogus_comment_after (standing old InData) old.keyword (c ∷ t)) b s (part-plain old.keyword part) (bogus-declared (Sink.asks_cdata s.0) (standing old InData) old.keyword c t part h)
+  bogus-read fault old c b s t part h = read-declared old old.keyword (c ∷ t) (bogus_comment_after (standing old InData) old.keyword (c ∷ t)) b s (part-plain old.keyword part) (bogus-declared (Sink.asks_cdata s.0) (standing old InData) old.keyword c t part h)
 
-  pub bogus-opened : (old new : Tokenizer K) (c : ℕ) (front : List ℕ) (result : Result (ProcessResult H) ParseFault) → IsAt old state.MarkupDeclarationOpen → IsPart old.keyword → OpensNothing (Sink.asks_cdata (Sink.view old.sink)) old.keyword c → front ≡ old.keyword
-      → Keeps Sink (record old { comment = front; state = state.BogusComment }) new c result → Keeps Sink old new c result
-  bogus-opened old new c front result from part h is keeps =
-      let mid : Tokenizer K = record old { comment = old.keyword; state = state.BogusComment } in
+  pub bogus-opened : (fault : ErrorCode) (old new : Tokenizer K) (c : ℕ) (front : List ℕ) (result : Result (ProcessResult H) ParseFault) → IsAt old state.MarkupDeclarationOpen → IsPart old.keyword → OpensNothing (Sink.asks_cdata (Sink.view old.sink)) old.keyword c → front ≡ old.keyword
+      → Keeps Sink (record old { comment = front; fault = fault; state = state.BogusComment }) new c result → Keeps Sink old new c result
+  bogus-opened fault old new c front result from part h is keeps =
+      let mid : Tokenizer K = record old { comment = old.keyword; fault = fault; state = state.BogusComment } in
       let keeps' : Keeps Sink mid new c result = rw is at keeps in
       keeps-along Sink old mid new c result refl (stays-same Sink old.sink old.sink refl) (rises-same Sink.errors old.sink old.sink refl) (λ notes t.
       now-at Sink old state.MarkupDeclarationOpen old.stream.breaks (Sink.view old.sink, notes) (c ∷ t) from
-      ∙ bogus-read old c old.stream.breaks (Sink.view old.sink, notes) t part h
+      ∙ bogus-read fault old c old.stream.breaks (Sink.view old.sink, notes) t part h
       ∙ sym (now-at Sink mid state.BogusComment old.stream.breaks (Sink.view old.sink, notes) (c ∷ t) (record { state = refl; fresh = from.fresh }))) keeps'

@@ -18,6 +18,7 @@ use Rattle.html_tokens.specs.Reading.{line_break}
 use Rattle.html_tokens.specs.Sink.{SinkLaws}
 use Rattle.html_tokenizer.specs.declared.keyword.Word.{Word}
 use Rattle.html_tokenizer.specs.declared.keyword.Word.TheVariants as word
+use Rattle.html_tokenizer.specs.declared.error_code.ErrorCode.{ErrorCode}
 use Rattle.html_tokenizer.specs.declared.tokenizer.Tokenizer.{Tokenizer}
 use Rattle.html_tokenizer.specs.Keywords.{becomes, may_become, may_identify, front_of, IsPart, MakesNoIdentifier}
 use Rattle.html_tokenizer.specs.Rest.{rows_of, standing, held_at}
@@ -168,9 +169,9 @@ module _ {K H : Type 0} (Sink : Ghosts K H) (laws : SinkLaws Sink.is_sound Sink.
       ap (λ i. plays Sink (rows_of old) i b s (old.keyword ++ c ∷ t)) (name-word (standing old InData) old.doctype old.keyword c t begun ∙ junk-read (standing old InData) old.doctype old.keyword c t part whole h)
       ∙ play-plain Sink laws old old.keyword (c ∷ t) (junk_after (standing old InData) (forced old.doctype) (c ∷ t)) b s (part-plain old.keyword part)
 
-  pub keyword-other : (old new : Tokenizer K) (c : ℕ) (result : Result (ProcessResult H) ParseFault) → IsAt old state.AfterDoctypeName → IsPart old.keyword → MakesNoIdentifier old.keyword c → may_identify old.keyword c ≡ false → ends_word (front_of old.keyword c) ≡ false
-      → Keeps Sink (record old { doctype = forced old.doctype; state = state.BogusDoctype }) new c result → Keeps Sink old new c result
+  pub keyword-other : (fault : ErrorCode) (old new : Tokenizer K) (c : ℕ) (result : Result (ProcessResult H) ParseFault) → IsAt old state.AfterDoctypeName → IsPart old.keyword → MakesNoIdentifier old.keyword c → may_identify old.keyword c ≡ false → ends_word (front_of old.keyword c) ≡ false
+      → Keeps Sink (record old { doctype = forced old.doctype; fault = fault; state = state.BogusDoctype }) new c result → Keeps Sink old new c result
   unfolding held_at
-  keyword-other old new c result from part whole h begun keeps =
-      keeps_silent Sink old (record old { doctype = forced old.doctype; state = state.BogusDoctype }) new c state.AfterDoctypeName state.BogusDoctype result from (record { state = refl; fresh = from.fresh }) refl refl
+  keyword-other fault old new c result from part whole h begun keeps =
+      keeps_silent Sink old (record old { doctype = forced old.doctype; fault = fault; state = state.BogusDoctype }) new c state.AfterDoctypeName state.BogusDoctype result from (record { state = refl; fresh = from.fresh }) refl refl
       (λ b s t. keyword-junk old c b s t part whole h begun) keeps

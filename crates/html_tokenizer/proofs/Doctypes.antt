@@ -19,6 +19,7 @@ use Rattle.html_tokens.specs.Item.{Stand, Item, InData, behind, behind_all, mark
 use Rattle.html_tokens.specs.Notes.{Notes, noting, noting_error, noting_cdata, noting_end}
 use Rattle.html_tokens.specs.Reading.{line_number, line_break}
 use Rattle.html_tokens.specs.Sink.{◌>>=◌, SinkLaws}
+use Rattle.html_tokenizer.specs.declared.error_code.ErrorCode.{ErrorCode}
 use Rattle.html_tokenizer.specs.declared.tokenizer.Tokenizer.{Tokenizer}
 use Rattle.html_tokenizer.specs.Rest.{rows_of, standing, with_identifier, held_at}
 use Rattle.html_tokenizer.specs.Steps.{owed_for, IsAt, more, Falls, Told, Took, Keeps, reads, plays}
@@ -360,10 +361,10 @@ module _ {K H : Type 0} (Sink : Ghosts K H) (laws : SinkLaws Sink.is_sound Sink.
 
   -- The character is one of another state.
   module _ (old new : Tokenizer K) (c : ℕ) (result : Result (ProcessResult H) ParseFault) where
-    goes-on : (st st' : State) (front : List ℕ) (d : Doctype) → IsAt old st
-        → ((b : ℕ) (s : Sink.State × Notes ℕ) (t : List ℕ) → at Sink st old b s (c ∷ t) ≡ at Sink st' (record old { temporary = front; doctype = d; state = st' }) b s (c ∷ t))
-        → Keeps Sink (record old { temporary = front; doctype = d; state = st' }) new c result → Keeps Sink old new c result
-    goes-on st st' front d from law keeps = keeps_silent Sink old (record old { temporary = front; doctype = d; state = st' }) new c st st' result from (record { state = refl; fresh = from.fresh }) refl refl law keeps
+    goes-on : (fault : ErrorCode) (st st' : State) (front : List ℕ) (d : Doctype) → IsAt old st
+        → ((b : ℕ) (s : Sink.State × Notes ℕ) (t : List ℕ) → at Sink st old b s (c ∷ t) ≡ at Sink st' (record old { temporary = front; doctype = d; fault = fault; state = st' }) b s (c ∷ t))
+        → Keeps Sink (record old { temporary = front; doctype = d; fault = fault; state = st' }) new c result → Keeps Sink old new c result
+    goes-on fault st st' front d from law keeps = keeps_silent Sink old (record old { temporary = front; doctype = d; fault = fault; state = st' }) new c st st' result from (record { state = refl; fresh = from.fresh }) refl refl law keeps
 
     same-item : (i j : Item) (b : ℕ) (s : Sink.State × Notes ℕ) (u : List ℕ) → i ≡ j → plays Sink (rows_of old) i b s u ≡ plays Sink (rows_of old) j b s u
     same-item i j b s u e = ap (λ x. plays Sink (rows_of old) x b s u) e
@@ -371,38 +372,38 @@ module _ {K H : Type 0} (Sink : Ghosts K H) (laws : SinkLaws Sink.is_sound Sink.
     pub before_name-other : (front : List ℕ) (d : Doctype) → IsAt old state.BeforeDoctypeName → is_white_space c ≡ false → nat_eq c 62 ≡ false → front ≡ []
         → Keeps Sink (record old { temporary = front; doctype = d; state = state.DoctypeName }) new c result → Keeps Sink old new c result
     unfolding held_at
-    before_name-other front d from e f is = goes-on state.BeforeDoctypeName state.DoctypeName front d from (λ b s t. rw is (same-item (doctype_behind (standing old InData) (c ∷ t)) (doctype_name_after (standing old InData) [] (c ∷ t)) b s (c ∷ t) (stop-white (doctype_name_at (standing old InData)) c t e ∙ ap (λ x. name_by x (standing old InData) (c ∷ t)) f)))
+    before_name-other front d from e f is = goes-on old.fault state.BeforeDoctypeName state.DoctypeName front d from (λ b s t. rw is (same-item (doctype_behind (standing old InData) (c ∷ t)) (doctype_name_after (standing old InData) [] (c ∷ t)) b s (c ∷ t) (stop-white (doctype_name_at (standing old InData)) c t e ∙ ap (λ x. name_by x (standing old InData) (c ∷ t)) f)))
 
     pub keyword-other : (kind : DoctypeIdKind) → IsAt old (state.AfterDoctypeKeyword kind)
         → Keeps Sink (record old { state = state.BeforeDoctypeIdentifier kind }) new c result → Keeps Sink old new c result
     unfolding held_at
-    keyword-other id.Public from = goes-on (state.AfterDoctypeKeyword id.Public) (state.BeforeDoctypeIdentifier id.Public) old.temporary old.doctype from (λ b s t. refl)
-    keyword-other id.System from = goes-on (state.AfterDoctypeKeyword id.System) (state.BeforeDoctypeIdentifier id.System) old.temporary old.doctype from (λ b s t. refl)
+    keyword-other id.Public from = goes-on old.fault (state.AfterDoctypeKeyword id.Public) (state.BeforeDoctypeIdentifier id.Public) old.temporary old.doctype from (λ b s t. refl)
+    keyword-other id.System from = goes-on old.fault (state.AfterDoctypeKeyword id.System) (state.BeforeDoctypeIdentifier id.System) old.temporary old.doctype from (λ b s t. refl)
 
-    pub before_identifier-other : (kind : DoctypeIdKind) → IsAt old (state.BeforeDoctypeIdentifier kind) → is_white_space c ≡ false → nat_eq c 34 ≡ false → nat_eq c 39 ≡ false
-        → Keeps Sink (record old { doctype = forced old.doctype; state = state.BogusDoctype }) new c result → Keeps Sink old new c result
+    pub before_identifier-other : (fault : ErrorCode) (kind : DoctypeIdKind) → IsAt old (state.BeforeDoctypeIdentifier kind) → is_white_space c ≡ false → nat_eq c 34 ≡ false → nat_eq c 39 ≡ false
+        → Keeps Sink (record old { doctype = forced old.doctype; fault = fault; state = state.BogusDoctype }) new c result → Keeps Sink old new c result
     unfolding held_at
-    before_identifier-other id.Public from e f g = goes-on (state.BeforeDoctypeIdentifier id.Public) state.BogusDoctype old.temporary (forced old.doctype) from (λ b s t.
+    before_identifier-other fault id.Public from e f g = goes-on fault (state.BeforeDoctypeIdentifier id.Public) state.BogusDoctype old.temporary (forced old.doctype) from (λ b s t.
         same-item (after_public_keyword (standing old InData) old.doctype (c ∷ t)) (junk_after (standing old InData) (forced old.doctype) (c ∷ t)) b s (c ∷ t) (stop-white (public_at (standing old InData) old.doctype) c t e ∙ public-junk (standing old InData) old.doctype c t (nat_eq c 62) refl f g))
-    before_identifier-other id.System from e f g = goes-on (state.BeforeDoctypeIdentifier id.System) state.BogusDoctype old.temporary (forced old.doctype) from (λ b s t.
+    before_identifier-other fault id.System from e f g = goes-on fault (state.BeforeDoctypeIdentifier id.System) state.BogusDoctype old.temporary (forced old.doctype) from (λ b s t.
         same-item (after_system_keyword (standing old InData) old.doctype (c ∷ t)) (junk_after (standing old InData) (forced old.doctype) (c ∷ t)) b s (c ∷ t) (stop-white (system_at (standing old InData) old.doctype) c t e ∙ system-junk (standing old InData) old.doctype c t (nat_eq c 62) refl f g))
 
-    pub between-other : IsAt old state.BetweenDoctypePublicAndSystemIdentifiers → is_white_space c ≡ false → nat_eq c 62 ≡ false → nat_eq c 34 ≡ false → nat_eq c 39 ≡ false
-        → Keeps Sink (record old { doctype = forced old.doctype; state = state.BogusDoctype }) new c result → Keeps Sink old new c result
+    pub between-other : (fault : ErrorCode) → IsAt old state.BetweenDoctypePublicAndSystemIdentifiers → is_white_space c ≡ false → nat_eq c 62 ≡ false → nat_eq c 34 ≡ false → nat_eq c 39 ≡ false
+        → Keeps Sink (record old { doctype = forced old.doctype; fault = fault; state = state.BogusDoctype }) new c result → Keeps Sink old new c result
     unfolding held_at
-    between-other from e f g h = goes-on state.BetweenDoctypePublicAndSystemIdentifiers state.BogusDoctype old.temporary (forced old.doctype) from (λ b s t.
+    between-other fault from e f g h = goes-on fault state.BetweenDoctypePublicAndSystemIdentifiers state.BogusDoctype old.temporary (forced old.doctype) from (λ b s t.
         same-item (after_public (standing old InData) old.doctype (c ∷ t)) (junk_after (standing old InData) (forced old.doctype) (c ∷ t)) b s (c ∷ t) (stop-white (behind_public (standing old InData) old.doctype) c t e ∙ second-junk (standing old InData) old.doctype c t f g h))
 
     pub after_system-other : IsAt old (state.AfterDoctypeIdentifier id.System) → is_white_space c ≡ false
         → Keeps Sink (record old { state = state.BogusDoctype }) new c result → Keeps Sink old new c result
     unfolding held_at
-    after_system-other from e = goes-on (state.AfterDoctypeIdentifier id.System) state.BogusDoctype old.temporary old.doctype from (λ b s t.
+    after_system-other from e = goes-on old.fault (state.AfterDoctypeIdentifier id.System) state.BogusDoctype old.temporary old.doctype from (λ b s t.
         same-item (after_system (standing old InData) old.doctype (c ∷ t)) (junk_after (standing old InData) old.doctype (c ∷ t)) b s (c ∷ t) (stop-white (behind_system (standing old InData) old.doctype) c t e))
 
     pub after_public-other : IsAt old (state.AfterDoctypeIdentifier id.Public)
         → Keeps Sink (record old { state = state.BetweenDoctypePublicAndSystemIdentifiers }) new c result → Keeps Sink old new c result
     unfolding held_at
-    after_public-other from = goes-on (state.AfterDoctypeIdentifier id.Public) state.BetweenDoctypePublicAndSystemIdentifiers old.temporary old.doctype from (λ b s t. refl)
+    after_public-other from = goes-on old.fault (state.AfterDoctypeIdentifier id.Public) state.BetweenDoctypePublicAndSystemIdentifiers old.temporary old.doctype from (λ b s t. refl)
 
     pub doctype-other : IsAt old state.Doctype
         → Keeps Sink (record old { state = state.BeforeDoctypeName }) new c result → Keeps Sink old new c result

@@ -107,6 +107,10 @@ module _ {K H : Type 0} (Sink : Ghosts K H) (laws : SinkLaws Sink.is_sound Sink.
   comment-tells old state.CommentStartDash h x y z b s ok = absurd (z refl)
   comment-tells old _ h x y z b s ok = absurd cc
 
+  bogus-tells : (old : Tokenizer K) → EndTells Sink state.BogusComment old a_fault (CommentToken old.comment)
+  unfolding held_at
+  bogus-tells old b s ok = comment-item old b s ok old.comment [] 0 _ refl refl refl
+
   -- before it has a character, the empty comment
   start-tells : (old : Tokenizer K) (st : State) → (st ≡ state.CommentStart) ⊎ (st ≡ state.CommentStartDash) → EndTells Sink st old a_fault (CommentToken [])
   unfolding held_at
@@ -189,6 +193,10 @@ module _ {K H : Type 0} (Sink : Ghosts K H) (laws : SinkLaws Sink.is_sound Sink.
     pub comment-closes : old.char_ref ≡ None → is_comment_part old.state ≡ true → (old.state ≡ state.MarkupDeclarationOpen → ⊥) → (old.state ≡ state.CommentStart → ⊥) → (old.state ≡ state.CommentStartDash → ⊥)
         → Tells Sink a_fault (CommentToken old.comment) (record old { comment = []; state = state.Data }) new result → Closes Sink old new result
     comment-closes fresh h x y z told = closes-told Sink a_fault old (record old { comment = []; state = state.Data }) new old.state (CommentToken old.comment) result (record { state = refl; fresh = fresh }) refl refl ok told (comment-tells old old.state h x y z)
+
+    pub bogus-closes : IsAt old state.BogusComment
+        → Tells Sink a_fault (CommentToken old.comment) (record old { comment = []; state = state.Data }) new result → Closes Sink old new result
+    bogus-closes from told = closes-told Sink a_fault old (record old { comment = []; state = state.Data }) new state.BogusComment (CommentToken old.comment) result from refl refl ok told (bogus-tells old)
 
     pub start-closes : old.char_ref ≡ None → (old.state ≡ state.CommentStart) ⊎ (old.state ≡ state.CommentStartDash)
         → Tells Sink a_fault (CommentToken []) (record old { comment = []; state = state.Data }) new result → Closes Sink old new result

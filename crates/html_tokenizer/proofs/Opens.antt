@@ -17,6 +17,7 @@ use Rattle.html_tokens.specs.Notes.{Notes, noting, noting_error, noting_cdata, n
 use Rattle.html_tokens.specs.Reading.{line_number}
 use Rattle.html_tokens.specs.Sink.{◌>>=◌, SinkLaws}
 use Rattle.html_tokens.specs.Tags.{named, name_after}
+use Rattle.html_tokenizer.specs.declared.error_code.ErrorCode.{ErrorCode}
 use Rattle.html_tokenizer.specs.declared.tokenizer.Tokenizer.{Tokenizer}
 use Rattle.html_tokenizer.specs.Rest.{rows_of, standing, held_at}
 use Rattle.html_tokenizer.specs.Steps.{IsAt, FallsAll, Falls, Told, Took, Keeps, Erred, owed_for, a_fault, reads, plays}
@@ -103,19 +104,19 @@ module _ {K H : Type 0} (Sink : Ghosts K H) (laws : SinkLaws Sink.is_sound Sink.
       keeps
 
   -- a bogus comment
-  pub open-bogus : (old new : Tokenizer K) (c : ℕ) (front : List ℕ) (result : Result (ProcessResult H) ParseFault) → IsAt old state.TagOpen → c ≡ 63 → front ≡ []
-      → Keeps Sink (record old { comment = front; state = state.BogusComment }) new c result → Keeps Sink old new c result
+  pub open-bogus : (fault : ErrorCode) (old new : Tokenizer K) (c : ℕ) (front : List ℕ) (result : Result (ProcessResult H) ParseFault) → IsAt old state.TagOpen → c ≡ 63 → front ≡ []
+      → Keeps Sink (record old { comment = front; fault = fault; state = state.BogusComment }) new c result → Keeps Sink old new c result
   unfolding held_at
-  open-bogus old new c front result from e is keeps =
-      keeps_silent Sink old (record old { comment = front; state = state.BogusComment }) new c state.TagOpen state.BogusComment result from (record { state = refl; fresh = from.fresh }) refl refl
+  open-bogus fault old new c front result from e is keeps =
+      keeps_silent Sink old (record old { comment = front; fault = fault; state = state.BogusComment }) new c state.TagOpen state.BogusComment result from (record { state = refl; fresh = from.fresh }) refl refl
       (λ b s t. rw (is, e) (opened old b s (63 ∷ t) (bogus_comment_after (standing old InData) [] (63 ∷ t)) refl))
       keeps
 
-  pub end-bogus_kept : (old new : Tokenizer K) (c : ℕ) (front : List ℕ) (result : Result (ProcessResult H) ParseFault) → IsAt old state.EndTagOpen → is_ascii_alphabetic c ≡ false → nat_eq c 62 ≡ false → front ≡ []
-      → Keeps Sink (record old { comment = front; state = state.BogusComment }) new c result → Keeps Sink old new c result
+  pub end-bogus_kept : (fault : ErrorCode) (old new : Tokenizer K) (c : ℕ) (front : List ℕ) (result : Result (ProcessResult H) ParseFault) → IsAt old state.EndTagOpen → is_ascii_alphabetic c ≡ false → nat_eq c 62 ≡ false → front ≡ []
+      → Keeps Sink (record old { comment = front; fault = fault; state = state.BogusComment }) new c result → Keeps Sink old new c result
   unfolding held_at
-  end-bogus_kept old new c front result from l e is keeps =
-      keeps_silent Sink old (record old { comment = front; state = state.BogusComment }) new c state.EndTagOpen state.BogusComment result from (record { state = refl; fresh = from.fresh }) refl refl
+  end-bogus_kept fault old new c front result from l e is keeps =
+      keeps_silent Sink old (record old { comment = front; fault = fault; state = state.BogusComment }) new c state.EndTagOpen state.BogusComment result from (record { state = refl; fresh = from.fresh }) refl refl
       (λ b s t. rw is (opened old b s (47 ∷ c ∷ t) (behind (bogus_comment_after (standing old InData) [] (c ∷ t))) (end-bogus c l e (standing old InData) t)
       ∙ behind-one Sink laws old 47 refl (behind (bogus_comment_after (standing old InData) [] (c ∷ t))) (bogus_comment_after (standing old InData) [] (c ∷ t)) b s (c ∷ t) refl))
       keeps

@@ -12,6 +12,7 @@ ghost use Rattle.html_tokenizer.specs.Steps.{IsAt, Keeps, Errs, owed_for_each};
 ghost use Rattle.html_tokenizer.specs.Stops.{IsRunAt};
 
 use crate::characters::{ends_tag_name, ends_word, is_white_space, lowered, shown};
+use crate::error_code::ErrorCode;
 use crate::held_reference::HeldReference;
 use crate::tokenizer::Tokenizer;
 use html_tokens::ProcessResult;
@@ -28,37 +29,37 @@ fn ends_name(c: char) -> bool
 }
 
 /// The error of a character in an attribute's name, if it is one.
-fn name_fault(c: char) -> Option<&'static str>
+fn name_fault(c: char) -> Option<ErrorCode>
     ensures { is_some result ≡ is_odd_in_name c }
 {
     if c == '\0' {
-        return Some("unexpected null character");
+        return Some(ErrorCode::UnexpectedNullCharacter);
     }
     if c == '"' || c == '\'' || c == '<' {
-        return Some("unexpected character in attribute name");
+        return Some(ErrorCode::UnexpectedCharacterInAttributeName);
     }
     None
 }
 
 /// The error of the first character of an attribute's name, if it is one.
-fn first_fault(c: char) -> Option<&'static str>
+fn first_fault(c: char) -> Option<ErrorCode>
     ensures { is_some result ≡ is_odd_first c }
 {
     if c == '=' {
-        return Some("unexpected equals sign before attribute name");
+        return Some(ErrorCode::UnexpectedEqualsSignBeforeAttributeName);
     }
     name_fault(c)
 }
 
 /// The error of a character in a value without quotes, if it is one.
-fn unquoted_fault(c: char) -> Option<&'static str>
+fn unquoted_fault(c: char) -> Option<ErrorCode>
     ensures { is_some result ≡ is_odd_unquoted c }
 {
     if c == '\0' {
-        return Some("unexpected null character");
+        return Some(ErrorCode::UnexpectedNullCharacter);
     }
     if c == '"' || c == '\'' || c == '<' || c == '=' || c == '`' {
-        return Some("unexpected character in unquoted attribute value");
+        return Some(ErrorCode::UnexpectedCharacterInUnquotedAttributeValue);
     }
     None
 }
@@ -185,7 +186,7 @@ impl<Sink: TokenSink> Tokenizer<Sink> {
         requires sound { Sink.is_sound (Sink.view self.old.sink) }
         ensures { Keeps Sink.TokenSink self.old self.new c result }
     {
-        self.tell_if(c == '>', "missing attribute value")?;
+        self.tell_if(c == '>', ErrorCode::MissingAttributeValue)?;
         self.take_before_value(c)
     }
 
@@ -351,7 +352,10 @@ impl<Sink: TokenSink> Tokenizer<Sink> {
         requires sound { Sink.is_sound (Sink.view self.old.sink) }
         ensures { Keeps Sink.TokenSink self.old self.new c result }
     {
-        self.tell_if(!ends_tag_name(c), "missing whitespace between attributes")?;
+        self.tell_if(
+            !ends_tag_name(c),
+            ErrorCode::MissingWhitespaceBetweenAttributes,
+        )?;
         self.take_behind_value(c)
     }
 

@@ -7,6 +7,7 @@ ghost use Rattle.html_tokens.specs.declared.states.State.TheVariants as state;
 ghost use Rattle.html_tokenizer.specs.Calls.{refusal, refusal_of, has_ended, text_place, is_nothing_pending, IsReadyIf, IsNew, ReadsAt, FeedGives, EndGives, KeepsSound, TellsEnd, Refuses};
 
 use crate::doctype_states::no_doctype;
+use crate::error_code::ErrorCode;
 use crate::keyword::Keyword;
 use crate::letters::Letters;
 use crate::tag_states::nameless;
@@ -78,6 +79,7 @@ impl<Sink: TokenSink> Tokenizer<Sink> {
             attribute_value: Text::empty(alloc),
             comment: Text::empty(alloc),
             doctype: no_doctype(),
+            fault: ErrorCode::IncorrectlyOpenedComment,
             temporary: Text::empty(alloc),
             word: Letters::new(alloc),
             keyword: Keyword::new(alloc),

@@ -3,6 +3,8 @@ ghost use Rattle.std.specs.Prelude.{◌≡◌};
 ghost use Rattle.html_tokens.specs.Characters;
 ghost use Rattle.html_tokenizer.specs.Forbidden.{is_forbidden, is_control, is_noncharacter};
 
+use crate::error_code::ErrorCode;
+
 /// What stands in place of a character: U+FFFD for U+0000, else itself.
 pub(crate) fn shown(c: char) -> char
     ensures { result ≡ Characters.shown c }
@@ -43,6 +45,14 @@ pub(crate) fn is_forbidden(c: char) -> bool
     ensures { result ≡ is_forbidden c }
 {
     is_control(c) || is_noncharacter(c)
+}
+
+/// The error of a control character or a noncharacter in the input.
+pub(crate) fn forbidden_code(c: char) -> ErrorCode {
+    if is_control(c) {
+        return ErrorCode::ControlCharacterInInputStream;
+    }
+    ErrorCode::NoncharacterInInputStream
 }
 
 /// A control character that is no white space: U+000A, U+000C and U+000D, tab and U+0000 are none.

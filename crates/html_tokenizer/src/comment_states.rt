@@ -5,6 +5,7 @@ ghost use Rattle.html_tokens.specs.declared.token.Token.TheVariants.{CommentToke
 ghost use Rattle.html_tokenizer.specs.Steps.{IsAt, Tells, Keeps, nothing_owed, a_fault};
 
 use crate::characters::shown;
+use crate::error_code::ErrorCode;
 use crate::tokenizer::Tokenizer;
 use html_tokens::sink::TokenSink;
 use html_tokens::states::State;
@@ -24,13 +25,22 @@ impl<Sink: TokenSink> Tokenizer<Sink> {
     }
 
     /// Hands out a comment that is a parse error. What follows is data.
-    pub(crate) fn emit_faulty_comment(&mut self, message: &'static str) -> Result<(), ParseFault>
+    pub(crate) fn emit_faulty_comment(&mut self, code: ErrorCode) -> Result<(), ParseFault>
         requires sound { Sink.is_sound (Sink.view self.old.sink) }
         ensures { Tells Sink.TokenSink a_fault (CommentToken self.old.comment) (record self.old { comment = []; state = state.Data }) self.new result }
     {
         let comment = mem::replace(&mut self.comment, Text::empty(self.stream.alloc));
         self.state = State::Data;
-        self.tell_faulty(message, Token::CommentToken(comment))
+        self.tell_faulty(code, Token::CommentToken(comment))
+    }
+
+    /// Hands out a comment that is bogus. What follows is data.
+    pub(crate) fn emit_bogus_comment(&mut self) -> Result<(), ParseFault>
+        requires sound { Sink.is_sound (Sink.view self.old.sink) }
+        ensures { Tells Sink.TokenSink a_fault (CommentToken self.old.comment) (record self.old { comment = []; state = state.Data }) self.new result }
+    {
+        let fault = self.fault;
+        self.emit_faulty_comment(fault)
     }
 
     pub(crate) fn bogus_comment_state(
@@ -52,7 +62,7 @@ impl<Sink: TokenSink> Tokenizer<Sink> {
         ensures { Keeps Sink.TokenSink self.old self.new c result }
     {
         if c == '>' {
-            self.emit_faulty_comment("bogus comment")?;
+            self.emit_bogus_comment()?;
             return Ok(ProcessResult::Continue);
         }
         self.comment.push(shown(c))?;
@@ -73,7 +83,7 @@ impl<Sink: TokenSink> Tokenizer<Sink> {
         }
         self.comment = Text::empty(self.stream.alloc);
         if c == '>' {
-            self.emit_faulty_comment("empty comment")?;
+            self.emit_faulty_comment(ErrorCode::AbruptClosingOfEmptyComment)?;
             return Ok(ProcessResult::Continue);
         }
         self.state = State::Comment;
@@ -94,7 +104,7 @@ impl<Sink: TokenSink> Tokenizer<Sink> {
             return Ok(ProcessResult::Continue);
         }
         if c == '>' {
-            self.emit_faulty_comment("empty comment")?;
+            self.emit_faulty_comment(ErrorCode::AbruptClosingOfEmptyComment)?;
             return Ok(ProcessResult::Continue);
         }
         self.comment.push('-')?;
@@ -154,7 +164,7 @@ impl<Sink: TokenSink> Tokenizer<Sink> {
         ensures { Keeps Sink.TokenSink self.old self.new c result }
     {
         let is_nested = c != '>' && self.comment.as_str().as_bytes().ends_with(b"<!");
-        self.tell_if(is_nested, "nested comment")?;
+        self.tell_if(is_nested, ErrorCode::NestedComment)?;
         self.take_behind_dashes(c)
     }
 
@@ -190,7 +200,7 @@ impl<Sink: TokenSink> Tokenizer<Sink> {
         ensures { Keeps Sink.TokenSink self.old self.new c result }
     {
         if c == '>' {
-            self.emit_faulty_comment("incorrectly closed comment")?;
+            self.emit_faulty_comment(ErrorCode::IncorrectlyClosedComment)?;
             return Ok(ProcessResult::Continue);
         }
         self.comment.push_str("--!")?;

@@ -5,6 +5,7 @@ ghost use Rattle.html_tokenizer.specs.declared.keyword.Word.TheVariants as word;
 ghost use Rattle.html_tokenizer.specs.Keywords.{becomes, IsPart, MakesNoWord, OpensNothing};
 ghost use Rattle.html_tokenizer.specs.Steps.{IsAt, Keeps};
 
+use crate::error_code::ErrorCode;
 use crate::keyword::Word;
 use crate::tokenizer::Tokenizer;
 use html_tokens::ProcessResult;
@@ -50,7 +51,7 @@ impl<Sink: TokenSink> Tokenizer<Sink> {
             self.state = State::CdataSection;
             return Ok(ProcessResult::Continue);
         }
-        self.declare_nothing(c)
+        self.declare_nothing(c, ErrorCode::CdataInHtmlContent)
     }
 
     /// Where c makes no word whole.
@@ -65,17 +66,22 @@ impl<Sink: TokenSink> Tokenizer<Sink> {
             self.keyword.push(c)?;
             return Ok(ProcessResult::Continue);
         }
-        self.declare_nothing(c)
+        self.declare_nothing(c, ErrorCode::IncorrectlyOpenedComment)
     }
 
     /// Where what was read, and c, is the front of a bogus comment.
-    fn declare_nothing(&mut self, c: char) -> Result<ProcessResult<Sink::Handle>, ParseFault>
+    fn declare_nothing(
+        &mut self,
+        c: char,
+        fault: ErrorCode,
+    ) -> Result<ProcessResult<Sink::Handle>, ParseFault>
         requires at { IsAt self.old state.MarkupDeclarationOpen }
         requires sound { Sink.is_sound (Sink.view self.old.sink) }
         requires nothing { OpensNothing (Sink.asks_cdata (Sink.view self.old.sink)) self.old.keyword c }
         ensures { Keeps Sink.TokenSink self.old self.new c result }
     {
         self.comment = self.keyword.text(self.stream.alloc)?;
+        self.fault = fault;
         self.state = State::BogusComment;
         self.bogus_comment_state(c)
     }

@@ -5,6 +5,7 @@ ghost use Rattle.html_tokens.specs.Characters.{ends_word};
 ghost use Rattle.html_tokenizer.specs.Keywords.{front_of, IsPart, MakesNoIdentifier};
 ghost use Rattle.html_tokenizer.specs.Steps.{IsAt, Keeps};
 
+use crate::error_code::ErrorCode;
 use crate::keyword::Word;
 use crate::tokenizer::Tokenizer;
 use html_tokens::ProcessResult;
@@ -75,6 +76,7 @@ impl<Sink: TokenSink> Tokenizer<Sink> {
             return Ok(ProcessResult::Continue);
         }
         self.doctype.force_quirks = true;
+        self.fault = ErrorCode::InvalidCharacterSequenceAfterDoctypeName;
         self.state = State::BogusDoctype;
         self.bogus_doctype_state(c)
     }

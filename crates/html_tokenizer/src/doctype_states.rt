@@ -9,6 +9,7 @@ ghost use Rattle.html_tokenizer.specs.Steps.{IsAt, Tells, Keeps, owed_for};
 ghost use Rattle.html_tokens.specs.Item.{grave_if};
 
 use crate::characters::{ends_word, is_white_space, lowered, shown};
+use crate::error_code::ErrorCode;
 use crate::keyword::Keyword;
 use crate::tokenizer::Tokenizer;
 use html_tokens::sink::TokenSink;
@@ -30,31 +31,49 @@ pub(crate) fn no_doctype() -> Doctype
 }
 
 /// The error of a character behind a keyword, if it is one: a quote.
-fn keyword_fault(kind: DoctypeIdKind, c: char) -> Option<&'static str> {
+fn keyword_fault(kind: DoctypeIdKind, c: char) -> Option<ErrorCode> {
     if c != '"' && c != '\'' {
         return None;
     }
     match kind {
-        DoctypeIdKind::Public => Some("missing whitespace after doctype public keyword"),
-        DoctypeIdKind::System => Some("missing whitespace after doctype system keyword"),
+        DoctypeIdKind::Public => Some(ErrorCode::MissingWhitespaceAfterDoctypePublicKeyword),
+        DoctypeIdKind::System => Some(ErrorCode::MissingWhitespaceAfterDoctypeSystemKeyword),
     }
 }
 
 /// The error of a character behind an identifier, if it is one.
-fn identifier_fault(kind: DoctypeIdKind, c: char) -> Option<&'static str> {
+fn identifier_fault(kind: DoctypeIdKind, c: char) -> Option<ErrorCode> {
     match kind {
         DoctypeIdKind::Public => {
             if c != '"' && c != '\'' {
                 return None;
             }
-            Some("missing whitespace between doctype public and system identifiers")
+            Some(ErrorCode::MissingWhitespaceBetweenDoctypePublicAndSystemIdentifiers)
         }
         DoctypeIdKind::System => {
             if ends_word(c) {
                 return None;
             }
-            Some("unexpected character after doctype system identifier")
+            Some(ErrorCode::UnexpectedCharacterAfterDoctypeSystemIdentifier)
         }
+    }
+}
+
+/// The error of a character where an identifier is to begin, which it doesn't.
+fn no_identifier(kind: DoctypeIdKind, c: char) -> ErrorCode {
+    match (kind, c) {
+        (DoctypeIdKind::Public, '>') => ErrorCode::MissingDoctypePublicIdentifier,
+        (DoctypeIdKind::System, '>') => ErrorCode::MissingDoctypeSystemIdentifier,
+        (DoctypeIdKind::Public, _) => ErrorCode::MissingQuoteBeforeDoctypePublicIdentifier,
+        (DoctypeIdKind::System, _) => ErrorCode::MissingQuoteBeforeDoctypeSystemIdentifier,
+    }
+}
+
+/// The error of an identifier in which the doctype ends.
+fn abrupt_end(kind: DoctypeIdKind) -> ErrorCode {
+    match kind {
+        DoctypeIdKind::Public => ErrorCode::AbruptDoctypePublicIdentifier,
+        DoctypeIdKind::System => ErrorCode::AbruptDoctypeSystemIdentifier,
     }
 }
 
@@ -64,10 +83,19 @@ impl<Sink: TokenSink> Tokenizer<Sink> {
         requires sound { Sink.is_sound (Sink.view self.old.sink) }
         ensures { Tells Sink.TokenSink (owed_for (grave_if self.old.doctype.force_quirks)) (DoctypeToken self.old.doctype) (record self.old { doctype = Doctypes.no_doctype; state = state.Data }) self.new result }
     {
+        let fault = self.fault;
+        self.emit_doctype_for(fault)
+    }
+
+    /// Hands out the doctype, for this reason where it is faulty. What follows is data.
+    pub(crate) fn emit_doctype_for(&mut self, fault: ErrorCode) -> Result<(), ParseFault>
+        requires sound { Sink.is_sound (Sink.view self.old.sink) }
+        ensures { Tells Sink.TokenSink (owed_for (grave_if self.old.doctype.force_quirks)) (DoctypeToken self.old.doctype) (record self.old { doctype = Doctypes.no_doctype; state = state.Data }) self.new result }
+    {
         let doctype = mem::replace(&mut self.doctype, no_doctype());
         self.state = State::Data;
         if doctype.force_quirks {
-            self.tell_faulty("faulty doctype", Token::DoctypeToken(doctype))
+            self.tell_faulty(fault, Token::DoctypeToken(doctype))
         } else {
             self.tell(Token::DoctypeToken(doctype))
         }
@@ -81,7 +109,7 @@ impl<Sink: TokenSink> Tokenizer<Sink> {
         requires sound { Sink.is_sound (Sink.view self.old.sink) }
         ensures { Keeps Sink.TokenSink self.old self.new c result }
     {
-        self.tell_if(!ends_word(c), "missing whitespace before doctype name")?;
+        self.tell_if(!ends_word(c), ErrorCode::MissingWhitespaceBeforeDoctypeName)?;
         self.take_behind_doctype(c)
     }
 
@@ -109,7 +137,7 @@ impl<Sink: TokenSink> Tokenizer<Sink> {
         self.doctype = no_doctype();
         if c == '>' {
             self.doctype.force_quirks = true;
-            self.emit_doctype()?;
+            self.emit_doctype_for(ErrorCode::MissingDoctypeName)?;
             return Ok(ProcessResult::Continue);
         }
         self.temporary = Text::empty(self.stream.alloc);
@@ -209,6 +237,7 @@ impl<Sink: TokenSink> Tokenizer<Sink> {
             return Ok(ProcessResult::Continue);
         }
         self.doctype.force_quirks = true;
+        self.fault = no_identifier(kind, c);
         self.state = State::BogusDoctype;
         self.bogus_doctype_state(c)
     }
@@ -255,7 +284,7 @@ impl<Sink: TokenSink> Tokenizer<Sink> {
         if c == '>' {
             self.finish_identifier(kind);
             self.doctype.force_quirks = true;
-            self.emit_doctype()?;
+            self.emit_doctype_for(abrupt_end(kind))?;
             return Ok(ProcessResult::Continue);
         }
         self.temporary.push(shown(c))?;
@@ -293,7 +322,7 @@ impl<Sink: TokenSink> Tokenizer<Sink> {
         if c == '>' {
             self.finish_identifier(kind);
             self.doctype.force_quirks = true;
-            self.emit_doctype()?;
+            self.emit_doctype_for(abrupt_end(kind))?;
             return Ok(ProcessResult::Continue);
         }
         self.temporary.push(shown(c))?;
@@ -358,6 +387,7 @@ impl<Sink: TokenSink> Tokenizer<Sink> {
             return Ok(ProcessResult::Continue);
         }
         self.doctype.force_quirks = true;
+        self.fault = ErrorCode::MissingQuoteBeforeDoctypeSystemIdentifier;
         self.state = State::BogusDoctype;
         self.bogus_doctype_state(c)
     }

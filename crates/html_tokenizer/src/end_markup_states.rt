@@ -8,6 +8,7 @@ ghost use Rattle.html_tokenizer.specs.EndStates.{is_comment_part, is_doctype_par
 ghost use Rattle.html_tokenizer.specs.Rest.{with_identifier};
 ghost use Rattle.html_tokenizer.specs.Steps.{IsAt, Tells, a_fault};
 
+use crate::error_code::ErrorCode;
 use crate::tokenizer::Tokenizer;
 use html_tokens::sink::TokenSink;
 use html_tokens::states::{DoctypeIdKind, State};
@@ -19,7 +20,7 @@ impl<Sink: TokenSink> Tokenizer<Sink> {
         requires sound { Sink.is_sound (Sink.view self.old.sink) }
         ensures { Tells Sink.TokenSink a_fault (CommentToken self.old.comment) (record self.old { comment = []; state = state.Data }) self.new result }
     {
-        self.emit_faulty_comment("end of input in a comment")
+        self.emit_faulty_comment(ErrorCode::EofInComment)
     }
 
     /// The input ends before a comment has a character.
@@ -38,7 +39,7 @@ impl<Sink: TokenSink> Tokenizer<Sink> {
         ensures { Closes Sink.TokenSink self.old self.new result }
     {
         self.comment = self.keyword.text(self.stream.alloc)?;
-        self.end_comment()
+        self.emit_faulty_comment(ErrorCode::IncorrectlyOpenedComment)
     }
 
     /// The input ends in a doctype.
@@ -47,7 +48,7 @@ impl<Sink: TokenSink> Tokenizer<Sink> {
         ensures { Tells Sink.TokenSink a_fault (DoctypeToken (forced self.old.doctype)) (record self.old { doctype = no_doctype; state = state.Data }) self.new result }
     {
         self.doctype.force_quirks = true;
-        self.emit_doctype()
+        self.emit_doctype_for(ErrorCode::EofInDoctype)
     }
 
     /// The input ends before a doctype's name.
@@ -97,6 +98,7 @@ impl<Sink: TokenSink> Tokenizer<Sink> {
     {
         match self.state {
             State::MarkupDeclarationOpen => self.end_declaration(),
+            State::BogusComment => self.emit_bogus_comment(),
             State::CommentStart | State::CommentStartDash => self.end_comment_start(),
             _ => self.end_comment(),
         }

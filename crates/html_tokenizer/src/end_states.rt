@@ -10,6 +10,7 @@ ghost use Rattle.html_tokenizer.specs.EndText.{is_told_text, is_tag_part, is_esc
 ghost use Rattle.html_tokenizer.specs.Steps.{IsAt, Errs, owed_for};
 ghost use Rattle.html_tokens.specs.Item.{grave_if};
 
+use crate::error_code::ErrorCode;
 use crate::held_reference::HeldReference;
 use crate::raw_states::ends_at_tag;
 use crate::tokenizer::Tokenizer;
@@ -42,7 +43,7 @@ impl<Sink: TokenSink> Tokenizer<Sink> {
     {
         self.tell_if(
             is_escaped(self.state),
-            "end of input in script html comment like text",
+            ErrorCode::EofInScriptHtmlCommentLikeText,
         )
     }
 
@@ -63,7 +64,7 @@ impl<Sink: TokenSink> Tokenizer<Sink> {
         requires sound { Sink.is_sound (Sink.view self.old.sink) }
         ensures { Closes Sink.TokenSink self.old self.new result }
     {
-        self.tell_unopened("end of input before tag name")
+        self.tell_unopened(ErrorCode::EofBeforeTagName)
     }
 
     /// The input ends behind `</`, which was text.
@@ -72,7 +73,7 @@ impl<Sink: TokenSink> Tokenizer<Sink> {
         requires sound { Sink.is_sound (Sink.view self.old.sink) }
         ensures { Closes Sink.TokenSink self.old self.new result }
     {
-        self.tell_unopened_end("end of input before tag name")
+        self.tell_unopened_end(ErrorCode::EofBeforeTagName)
     }
 
     /// The input ends in raw text behind `<`, which is held where it may begin the fitting end tag.
@@ -114,7 +115,7 @@ impl<Sink: TokenSink> Tokenizer<Sink> {
         requires sound { Sink.is_sound (Sink.view self.old.sink) }
         ensures { Closes Sink.TokenSink self.old self.new result }
     {
-        self.tell_error("end of input in a CDATA section")
+        self.tell_error(ErrorCode::EofInCdata)
     }
 
     /// The input ends in a CDATA section behind `]`, which was text.
@@ -124,7 +125,7 @@ impl<Sink: TokenSink> Tokenizer<Sink> {
         ensures { Closes Sink.TokenSink self.old self.new result }
     {
         self.tell_char(']')?;
-        self.tell_error("end of input in a CDATA section")
+        self.tell_error(ErrorCode::EofInCdata)
     }
 
     /// The input ends in a CDATA section behind `]]`, which was text.
@@ -134,7 +135,7 @@ impl<Sink: TokenSink> Tokenizer<Sink> {
         ensures { Closes Sink.TokenSink self.old self.new result }
     {
         self.tell_two(']', ']')?;
-        self.tell_error("end of input in a CDATA section")
+        self.tell_error(ErrorCode::EofInCdata)
     }
 
     /// The input ends in a tag, which is not told.
@@ -144,7 +145,7 @@ impl<Sink: TokenSink> Tokenizer<Sink> {
         requires sound { Sink.is_sound (Sink.view self.old.sink) }
         ensures { Closes Sink.TokenSink self.old self.new result }
     {
-        self.tell_error("end of input in a tag")
+        self.tell_error(ErrorCode::EofInTag)
     }
 
     /// The input ends where no reference is held.
@@ -235,7 +236,7 @@ impl<Sink: TokenSink> Tokenizer<Sink> {
         requires sound { Sink.is_sound (Sink.view self.old.sink) }
         ensures { Closes Sink.TokenSink (record self.old { char_ref = Some held.now }) self.new result }
     {
-        self.tell_error("end of input in a tag")
+        self.tell_error(ErrorCode::EofInTag)
     }
 
     /// The input ends where a reference was held.

@@ -11,6 +11,7 @@ mod doctype_keyword_states;
 mod doctype_states;
 mod end_markup_states;
 mod end_states;
+mod error_code;
 mod feed;
 mod front_tags;
 mod held_reference;

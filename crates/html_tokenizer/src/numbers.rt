@@ -6,6 +6,7 @@ ghost use Rattle.html_tokens.specs.Reference;
 ghost use Rattle.html_tokenizer.specs.CharRefs.{are_digits, base_of, is_faulty_digits, is_faulty_number, is_faulty_numeric, is_number_front, reference_of, stops};
 
 use crate::characters::is_forbidden;
+use crate::error_code::ErrorCode;
 
 /// A reference that was read: the characters that it stands for, and how many it takes behind `&`.
 #[derive(Clone, Copy)]
@@ -204,43 +205,43 @@ pub(crate) fn numeric(text: &[u8]) -> Option<Found>
 }
 
 /// The error of a reference by its number, if it has one (section 13.2.5.80).
-fn number_fault(number: u32) -> Option<&'static str>
+fn number_fault(number: u32) -> Option<ErrorCode>
     ensures { is_some result ≡ is_faulty_number number }
 {
     if number > 0x10FFFF {
-        return Some("character reference outside unicode range");
+        return Some(ErrorCode::CharacterReferenceOutsideUnicodeRange);
     }
     match char::from_u32(number) {
-        None => Some("surrogate character reference"),
-        Some('\0') => Some("null character reference"),
+        None => Some(ErrorCode::SurrogateCharacterReference),
+        Some('\0') => Some(ErrorCode::NullCharacterReference),
         Some(c) => {
             if c != '\r' && !is_forbidden(c) {
                 return None;
             }
             if c <= '\u{9F}' {
-                return Some("control character reference");
+                return Some(ErrorCode::ControlCharacterReference);
             }
-            Some("noncharacter character reference")
+            Some(ErrorCode::NoncharacterCharacterReference)
         }
     }
 }
 
 /// The error of digits behind a prefix, if they have one.
-fn digits_fault(hex: bool, text: &[u8]) -> Option<&'static str>
+fn digits_fault(hex: bool, text: &[u8]) -> Option<ErrorCode>
     ensures { is_some result ≡ is_faulty_digits hex text.now }
 {
     let count = digit_run(hex, text);
     if count == 0 {
-        return Some("absence of digits in numeric character reference");
+        return Some(ErrorCode::AbsenceOfDigitsInNumericCharacterReference);
     }
     if semicolon(&text[count..]) == 0 {
-        return Some("missing semicolon after character reference");
+        return Some(ErrorCode::MissingSemicolonAfterCharacterReference);
     }
     number_fault(number(hex, &text[..count]))
 }
 
 /// The error of a numeric reference behind `&#`, if it has one.
-pub(crate) fn numeric_fault(text: &[u8]) -> Option<&'static str>
+pub(crate) fn numeric_fault(text: &[u8]) -> Option<ErrorCode>
     ensures { is_some result ≡ is_faulty_numeric text.now }
 {
     match text {

@@ -6,6 +6,7 @@ ghost use Rattle.html_tokens.specs.declared.token.Token.TheVariants.{CharacterTo
 ghost use Rattle.html_tokenizer.specs.Steps.{IsAt, Tells, Keeps, owed_for};
 ghost use Rattle.html_tokens.specs.Item.{Slight};
 
+use crate::error_code::ErrorCode;
 use crate::keyword::Keyword;
 use crate::tag_states::nameless;
 use crate::tokenizer::Tokenizer;
@@ -16,20 +17,20 @@ use markup::{ParseFault, Text};
 
 impl<Sink: TokenSink> Tokenizer<Sink> {
     /// Hands out `<` as text, since it opened nothing, which is a parse error.
-    pub(crate) fn tell_unopened(&mut self, message: &'static str) -> Result<(), ParseFault>
+    pub(crate) fn tell_unopened(&mut self, code: ErrorCode) -> Result<(), ParseFault>
         requires sound { Sink.is_sound (Sink.view self.old.sink) }
         ensures { Tells Sink.TokenSink (owed_for (Some Slight)) (CharacterTokens (60 ∷ [])) self.old self.new result }
     {
-        self.tell_error(message)?;
+        self.tell_error(code)?;
         self.tell_char('<')
     }
 
     /// Hands out `</` as text, since it opened nothing, which is a parse error.
-    pub(crate) fn tell_unopened_end(&mut self, message: &'static str) -> Result<(), ParseFault>
+    pub(crate) fn tell_unopened_end(&mut self, code: ErrorCode) -> Result<(), ParseFault>
         requires sound { Sink.is_sound (Sink.view self.old.sink) }
         ensures { Tells Sink.TokenSink (owed_for (Some Slight)) (CharacterTokens (60 ∷ 47 ∷ [])) self.old self.new result }
     {
-        self.tell_error(message)?;
+        self.tell_error(code)?;
         self.tell_two('<', '/')
     }
 
@@ -58,10 +59,11 @@ impl<Sink: TokenSink> Tokenizer<Sink> {
         }
         if c == '?' {
             self.comment = Text::empty(self.stream.alloc);
+            self.fault = ErrorCode::UnexpectedQuestionMarkInsteadOfTagName;
             self.state = State::BogusComment;
             return self.bogus_comment_state(c);
         }
-        self.tell_unopened("invalid first character of tag name")?;
+        self.tell_unopened(ErrorCode::InvalidFirstCharacterOfTagName)?;
         self.state = State::Data;
         self.data_state(c)
     }
@@ -82,11 +84,12 @@ impl<Sink: TokenSink> Tokenizer<Sink> {
             return self.tag_name_state(c);
         }
         if c == '>' {
-            self.tell_error("end tag without a name")?;
+            self.tell_error(ErrorCode::MissingEndTagName)?;
             self.state = State::Data;
             return Ok(ProcessResult::Continue);
         }
         self.comment = Text::empty(self.stream.alloc);
+        self.fault = ErrorCode::InvalidFirstCharacterOfTagName;
         self.state = State::BogusComment;
         self.bogus_comment_state(c)
     }

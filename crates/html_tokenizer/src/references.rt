@@ -9,6 +9,7 @@ ghost use Rattle.markup.specs.declared.fault.ParseFault.TheVariants.{Memory};
 ghost use Rattle.html_tokenizer.specs.CharRefs;
 ghost use Rattle.html_tokens.specs.Table.{values};
 
+use crate::error_code::ErrorCode;
 use crate::held_reference::HeldReference;
 use crate::numbers::{self, Found};
 use html_references::References;
@@ -126,27 +127,27 @@ pub(crate) struct Decision {
     /// The reference, or none where `&` is text.
     pub(crate) found: Option<Found>,
     /// The error that it has, if it has one.
-    pub(crate) fault: Option<&'static str>,
+    pub(crate) fault: Option<ErrorCode>,
 }
 
 /// The error of a name that is in no table, if it has one: `;` ends it.
-fn unknown_fault(text: &str) -> Option<&'static str>
+fn unknown_fault(text: &str) -> Option<ErrorCode>
     ensures { is_some result ≡ (not (nat_eq (length text.now) 1) && CharRefs.ends_in_semicolon text.now) }
 {
     if text.len() != 1 && text.as_bytes().ends_with(b";") {
-        return Some("unknown named character reference");
+        return Some(ErrorCode::UnknownNamedCharacterReference);
     }
     None
 }
 
 /// The error of a name of the table, if it has one: it has no `;`.
-fn name_fault(name: &str) -> Option<&'static str>
+fn name_fault(name: &str) -> Option<ErrorCode>
     ensures { is_some result ≡ not (CharRefs.ends_in_semicolon name.now) }
 {
     if name.as_bytes().ends_with(b";") {
         return None;
     }
-    Some("missing semicolon after character reference")
+    Some(ErrorCode::MissingSemicolonAfterCharacterReference)
 }
 
 /// A named reference, by what was held and whether `=`, a letter or a digit follows.

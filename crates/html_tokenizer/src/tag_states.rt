@@ -1,14 +1,15 @@
 //! Tags up to their attributes, and their end (HTML Standard, sections 13.2.5.8, 13.2.5.32 and 13.2.5.40).
-ghost use Rattle.std.specs.Prelude.{◌≡◌, [], None, IfOk, IfErr};
-ghost use Rattle.html_tokens.specs.Tags.{is_faulty_tag, or_last, own_name};
+ghost use Rattle.std.specs.Prelude.{◌≡◌, [], None, IfOk, IfErr, is_some};
+ghost use Rattle.html_tokens.specs.Tags.{is_faulty_end, is_faulty_tag, or_last, own_name};
 ghost use Rattle.html_tokens.specs.declared.states.State.TheVariants as state;
-ghost use Rattle.html_tokens.specs.declared.tags.TagKind.TheVariants.{StartTag};
+ghost use Rattle.html_tokens.specs.declared.tags.TagKind.TheVariants.{EndTag, StartTag};
 ghost use Rattle.html_tokens.specs.Tags.{named};
 ghost use Rattle.markup.specs.declared.fault.ParseFault.TheVariants.{Memory};
 ghost use Rattle.html_tokenizer.specs.Steps.{IsAt, Keeps, Errs, EndsTag, state_behind, answer_to, owed_for};
 ghost use Rattle.html_tokens.specs.Item.{grave_if};
 
 use crate::characters::{is_white_space, lowered};
+use crate::error_code::ErrorCode;
 use crate::tokenizer::Tokenizer;
 use html_tokens::sink::TokenSink;
 use html_tokens::states::State;
@@ -30,15 +31,29 @@ pub(crate) fn nameless(alloc: Global) -> Tag
     }
 }
 
-/// Whether a tag is told with an error: it has a repeated attribute, or it is an end tag with more than its name.
-fn is_faulty(tag: &Tag) -> bool
-    ensures { result ≡ is_faulty_tag tag.now }
+/// The error of an end tag that has more than its name, if it has.
+fn end_tag_fault(tag: &Tag) -> Option<ErrorCode>
+    ensures { is_some result ≡ is_faulty_end EndTag tag.now }
 {
+    if tag.self_closing {
+        return Some(ErrorCode::EndTagWithTrailingSolidus);
+    }
+    if !tag.attrs.is_empty() {
+        return Some(ErrorCode::EndTagWithAttributes);
+    }
+    None
+}
+
+/// The error of a tag, if it has one: a repeated attribute, or more than a name in an end tag.
+fn tag_fault(tag: &Tag) -> Option<ErrorCode>
+    ensures { is_some result ≡ is_faulty_tag tag.now }
+{
+    if tag.had_duplicate_attributes {
+        return Some(ErrorCode::DuplicateAttribute);
+    }
     match tag.kind {
-        TagKind::StartTag => tag.had_duplicate_attributes,
-        TagKind::EndTag => {
-            tag.had_duplicate_attributes || tag.self_closing || !tag.attrs.is_empty()
-        }
+        TagKind::StartTag => None,
+        TagKind::EndTag => end_tag_fault(tag),
     }
 }
 
@@ -71,10 +86,8 @@ impl<Sink: TokenSink> Tokenizer<Sink> {
         requires sound { Sink.is_sound (Sink.view self.old.sink) }
         ensures { Errs Sink.TokenSink (owed_for (grave_if (is_faulty_tag self.old.tag))) self.old self.new result }
     {
-        if is_faulty(&self.tag) {
-            return self.tell_error("repeated attribute, or more than a name in an end tag");
-        }
-        Ok(())
+        let fault = tag_fault(&self.tag);
+        self.tell_fault(fault)
     }
 
     /// Goes where the reply to a tag has it.
@@ -156,7 +169,7 @@ impl<Sink: TokenSink> Tokenizer<Sink> {
         requires sound { Sink.is_sound (Sink.view self.old.sink) }
         ensures { Keeps Sink.TokenSink self.old self.new c result }
     {
-        self.tell_if(c != '>', "unexpected solidus in tag")?;
+        self.tell_if(c != '>', ErrorCode::UnexpectedSolidusInTag)?;
         self.take_behind_solidus(c)
     }
 

@@ -5,7 +5,7 @@ ghost use Rattle.html_tokenizer.specs.Rest.{rows_of};
 ghost use Rattle.html_tokenizer.specs.CharRefs.{fits_in};
 ghost use Rattle.html_tokenizer.specs.Steps.{Errs, Keeps};
 
-use crate::characters::is_forbidden;
+use crate::characters::{forbidden_code, is_forbidden};
 use crate::tokenizer::{Stream, Tokenizer};
 use html_tokens::ProcessResult;
 use html_tokens::sink::TokenSink;
@@ -30,7 +30,7 @@ impl<Sink: TokenSink> Tokenizer<Sink> {
     {
         self.tell_if(
             self.stream.exact_errors && is_forbidden(c),
-            "control character or noncharacter",
+            forbidden_code(c),
         )
     }
 

@@ -6,6 +6,7 @@ ghost use Rattle.html_tokens.specs.Reading.{line_number};
 ghost use Rattle.html_tokenizer.specs.Steps.{IsNoTag, IsOfText, Tells, TellsAmong, Errs, nothing_owed, a_fault, owed_for};
 ghost use Rattle.html_tokens.specs.Item.{grave_if};
 
+use crate::error_code::ErrorCode;
 use crate::tokenizer::Tokenizer;
 use html_tokens::Token;
 use html_tokens::sink::TokenSink;
@@ -43,39 +44,35 @@ impl<Sink: TokenSink> Tokenizer<Sink> {
     }
 
     /// Tells of a parse error.
-    pub(crate) fn tell_error(&mut self, message: &'static str) -> Result<(), ParseFault>
+    pub(crate) fn tell_error(&mut self, code: ErrorCode) -> Result<(), ParseFault>
         requires sound { Sink.is_sound (Sink.view self.old.sink) }
         ensures { Errs Sink.TokenSink a_fault self.old self.new result }
     {
         let line = self.line();
         let _reply = self
             .sink
-            .process_token(Token::ParseError(CowStr::Borrowed(message)), line)?;
+            .process_token(Token::ParseError(CowStr::Borrowed(code.as_str())), line)?;
         Ok(())
     }
 
     /// Tells of an error, if there is one.
-    pub(crate) fn tell_fault(&mut self, fault: Option<&'static str>) -> Result<(), ParseFault>
+    pub(crate) fn tell_fault(&mut self, fault: Option<ErrorCode>) -> Result<(), ParseFault>
         requires sound { Sink.is_sound (Sink.view self.old.sink) }
-        ensures { Errs Sink.TokenSink (owed_for (grave_if (is_some fault.entry))) self.old self.new result }
+        ensures { Errs Sink.TokenSink (owed_for (grave_if (is_some fault))) self.old self.new result }
     {
         match fault {
-            Some(message) => self.tell_error(message),
+            Some(code) => self.tell_error(code),
             None => Ok(()),
         }
     }
 
     /// Tells of an error, where it is one.
-    pub(crate) fn tell_if(
-        &mut self,
-        is_fault: bool,
-        message: &'static str,
-    ) -> Result<(), ParseFault>
+    pub(crate) fn tell_if(&mut self, is_fault: bool, code: ErrorCode) -> Result<(), ParseFault>
         requires sound { Sink.is_sound (Sink.view self.old.sink) }
         ensures { Errs Sink.TokenSink (owed_for (grave_if is_fault)) self.old self.new result }
     {
         if is_fault {
-            return self.tell_error(message);
+            return self.tell_error(code);
         }
         Ok(())
     }
@@ -85,7 +82,7 @@ impl<Sink: TokenSink> Tokenizer<Sink> {
         requires sound { Sink.is_sound (Sink.view self.old.sink) }
         ensures { Errs Sink.TokenSink (owed_for (grave_if (nat_eq c 0))) self.old self.new result }
     {
-        self.tell_if(c == '\0', "unexpected null character")
+        self.tell_if(c == '\0', ErrorCode::UnexpectedNullCharacter)
     }
 
     /// Hands out a character as text.
@@ -99,17 +96,13 @@ impl<Sink: TokenSink> Tokenizer<Sink> {
     }
 
     /// Tells of a parse error, and hands out the token that has it.
-    pub(crate) fn tell_faulty(
-        &mut self,
-        message: &'static str,
-        token: Token,
-    ) -> Result<(), ParseFault>
+    pub(crate) fn tell_faulty(&mut self, code: ErrorCode, token: Token) -> Result<(), ParseFault>
         requires no_tag { IsNoTag token }
         requires of_text { IsOfText token }
         requires sound { Sink.is_sound (Sink.view self.old.sink) }
         ensures { Tells Sink.TokenSink a_fault token self.old self.new result }
     {
-        self.tell_error(message)?;
+        self.tell_error(code)?;
         self.tell(token)
     }
 
@@ -118,7 +111,7 @@ impl<Sink: TokenSink> Tokenizer<Sink> {
         requires sound { Sink.is_sound (Sink.view self.old.sink) }
         ensures { Tells Sink.TokenSink a_fault (CharacterTokens (0xFFFD ∷ [])) self.old self.new result }
     {
-        self.tell_error("unexpected null character")?;
+        self.tell_error(ErrorCode::UnexpectedNullCharacter)?;
         self.tell_char('\u{FFFD}')
     }
 

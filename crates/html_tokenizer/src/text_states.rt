@@ -6,6 +6,7 @@ ghost use Rattle.html_tokens.specs.Characters.{shown};
 ghost use Rattle.html_tokenizer.specs.Steps.{IsAt, Tells, TakesAs, Keeps, nothing_owed, a_fault, owed_for};
 ghost use Rattle.html_tokens.specs.Item.{grave_if};
 
+use crate::error_code::ErrorCode;
 use crate::held_reference::HeldReference;
 use crate::tokenizer::Tokenizer;
 use html_tokens::sink::TokenSink;
@@ -69,7 +70,10 @@ impl<Sink: TokenSink> Tokenizer<Sink> {
         requires sound { Sink.is_sound (Sink.view self.old.sink) }
         ensures { TakesAs Sink.TokenSink a_fault NullCharacterToken self.old self.new result }
     {
-        self.tell_faulty("unexpected null character", Token::NullCharacterToken)?;
+        self.tell_faulty(
+            ErrorCode::UnexpectedNullCharacter,
+            Token::NullCharacterToken,
+        )?;
         Ok(ProcessResult::Continue)
     }
 

@@ -1,5 +1,6 @@
 //! What a tokenizer holds between two characters.
 
+use crate::error_code::ErrorCode;
 use crate::held_reference::HeldReference;
 use crate::keyword::Keyword;
 use crate::letters::Letters;
@@ -50,6 +51,8 @@ pub struct Tokenizer<Sink> {
     pub(crate) comment: Text,
     /// The doctype that is read.
     pub(crate) doctype: Doctype,
+    /// Why the comment or the doctype that is read is bogus, where it is.
+    pub(crate) fault: ErrorCode,
     /// Characters that were read of a name or an identifier.
     pub(crate) temporary: Text,
     /// The letters that were read of the name of an end tag, or of `script`.

@@ -1,5 +1,5 @@
 -- What the sinks of the tests make of a token.
-use Rattle.std.specs.Prelude.{true, Ok, Err, refl}
+use Rattle.std.specs.Prelude.{Bool, true, Ok, Err, refl}
 use Rattle.html_tokens.specs.Sink.{Step, Reply, Refusal, SinkLaws, IsReplyTo}
 use Rattle.html_tokens.specs.declared.token.Token.{Token}
 use Rattle.html_tokens.specs.declared.token.Token.TheVariants.{TagToken}
@@ -42,5 +42,25 @@ named_laws = record {
   idle = λ s h t i line. refl;
   idle_refused = λ s h t i line r any other. r;
   replies = λ s h t line. reply-fits t;
+  quiet = λ s h a b line. refl;
+}
+
+-- nothing that is told changes whether `<![CDATA[` opens a section
+abbrev pub unheard : Step Bool
+unheard s token line = Ok (s, Continue)
+
+continues : (t : Token) → IsReplyTo t Continue
+continues (TagToken tag) = tt
+continues _ = refl
+
+pub unheard_laws : SinkLaws (λ _. Unit {0}) unheard (λ s. s) (λ _ _. true)
+unheard_laws = record {
+  keeps = λ s h t line. tt;
+  ends = λ s h. tt;
+  pieces = λ s h a b line. refl;
+  lines = λ s h a line other. refl;
+  idle = λ s h t i line. refl;
+  idle_refused = λ s h t i line r any other. r;
+  replies = λ s h t line. continues t;
   quiet = λ s h a b line. refl;
 }

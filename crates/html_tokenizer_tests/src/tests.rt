@@ -4,6 +4,7 @@ ghost use Rattle.html_tokens.specs.TextState.{is_text_state};
 ghost use Rattle.html_tokenizer.specs.Calls.{IsReadyIf, refusal};
 
 mod calls;
+mod codes;
 mod comments;
 mod errors;
 mod lines;
@@ -22,9 +23,10 @@ use html_tokenizer::{
     TokenizerOpts,
 };
 use markup::{ParseFault, Text, TokenizerResult};
-use std::alloc::{AllocError, Global};
+use std::alloc::Global;
 use std::process::Abort;
 use std::test::Fail;
+use text_pieces::{as_given, in_characters, in_two};
 use words::in_words;
 
 /// Which named references are known.
@@ -191,42 +193,6 @@ fn read_over<S: TokenSink + Drop>(
 /// What a list is told of these pieces and their end.
 fn read(alloc: Global, setting: Setting, pieces: Vec<String>) -> Result<Listed, ParseFault> {
     read_over(alloc, list_of(alloc, setting), setting, pieces)
-}
-
-fn as_given(alloc: Global, pieces: &[&str]) -> Result<Vec<String>, AllocError> {
-    let mut given = Vec::new(alloc);
-    for piece in pieces {
-        given.push(String::from_str(alloc, piece)?)?;
-    }
-    Ok(given)
-}
-
-/// The characters of a text from one place on and up to another.
-fn part(alloc: Global, text: &str, from: usize, count: usize) -> Result<String, AllocError> {
-    let mut part = String::new(alloc);
-    for c in text.chars().skip(from).take(count) {
-        part.push(c)?;
-    }
-    Ok(part)
-}
-
-/// A text cut in two at a place.
-fn in_two(alloc: Global, text: &str, place: usize) -> Result<Vec<String>, AllocError> {
-    let mut pieces = Vec::new(alloc);
-    pieces.push(part(alloc, text, 0, place)?)?;
-    pieces.push(part(alloc, text, place, text.len())?)?;
-    Ok(pieces)
-}
-
-/// A text with each character in a piece of its own.
-fn in_characters(alloc: Global, text: &str) -> Result<Vec<String>, AllocError> {
-    let mut pieces = Vec::new(alloc);
-    for c in text.chars() {
-        let mut piece = String::new(alloc);
-        piece.push(c)?;
-        pieces.push(piece)?;
-    }
-    Ok(pieces)
 }
 
 /// Sees that a text in these pieces tells what the whole of it does.

@@ -1,7 +1,8 @@
 //! Worked rows: doctypes, with the quirks mode that they lead to.
-use crate::reading::{Row, assert_row, page, read, whole};
+use crate::reading::{Row, assert_row, page, read};
 use markup::QuirksMode;
 use std::test::Fail;
+use text_pieces::as_given;
 
 const ROWS: &[(&str, &str, QuirksMode)] = &[
     // doctype: elsewhere
@@ -65,7 +66,7 @@ fn doctypes_set_quirks_modes(rt: HostRuntime) -> Result<(), Fail> {
     for (text, written, quirks) in ROWS {
         let row: Row = (*text, *written);
         assert_row(&rt, rt.alloc(), page(), row)?;
-        let forest = read(rt.alloc(), page(), whole(rt.alloc(), text)?)?;
+        let forest = read(rt.alloc(), page(), as_given(rt.alloc(), &[text])?)?;
         assert!(rt; forest.quirks() == *quirks, "{text}");
     }
     Ok(())

@@ -1,7 +1,7 @@
 //! What a sink is told beside the tree, and in which order: lines, elements that left the stack, owners of elements, scripts that have
 //! started, shadow roots and options.
 use crate::listing::Listing;
-use crate::reading::{page, read_over, whole};
+use crate::reading::{page, read_over};
 use html_tree_builder::TreeBuilder;
 use markup::{
     Attributes, ElementFlags, KnownNamespace, LocalName, Namespace, ParseFault, QualName, TreeSink,
@@ -9,6 +9,7 @@ use markup::{
 use std::alloc::Global;
 use std::process::Abort;
 use std::test::Fail;
+use text_pieces::as_given;
 
 /// A text, and what is told of it.
 type Row = (&'static str, &'static [&'static str]);
@@ -20,7 +21,7 @@ fn told_of<const ATTACHES: bool>(
 ) -> Result<Listing<ATTACHES>, ParseFault> {
     let sink: Listing<ATTACHES> = Listing::new(alloc)?;
     let builder = TreeBuilder::new(alloc, sink, page().builder);
-    let builder = read_over(alloc, builder, false, whole(alloc, text)?)?;
+    let builder = read_over(alloc, builder, false, as_given(alloc, &[text])?)?;
     Ok(builder.sink)
 }
 
@@ -32,7 +33,7 @@ fn told_of_fragment(alloc: Global, text: &str) -> Result<Listing<false>, ParseFa
     let name = QualName::new(None, html, local);
     let context = sink.create_element(name, Attributes::new(alloc), ElementFlags::default())?;
     let builder = TreeBuilder::new_for_fragment(alloc, sink, context, None, page().builder)?;
-    let builder = read_over(alloc, builder, false, whole(alloc, text)?)?;
+    let builder = read_over(alloc, builder, false, as_given(alloc, &[text])?)?;
     Ok(builder.sink)
 }
 

@@ -8,8 +8,9 @@ use html_tokenizer::{BufferQueue, References, TokenSink, Tokenizer, TokenizerOpt
 use html_tree_builder::{TreeBuilder, TreeBuilderOpts};
 use markup::devices::MemWriter;
 use markup::{ParseFault, SerializeFault, TokenizerResult, TreeSink};
-use std::alloc::{AllocError, Global};
+use std::alloc::Global;
 use std::process::Abort;
+use text_pieces::{as_given, in_two};
 
 /// A text, and what is written of its document.
 pub(crate) type Row = (&'static str, &'static str);
@@ -110,30 +111,6 @@ pub(crate) fn read(
     Ok(builder.sink)
 }
 
-/// A text in one piece.
-pub(crate) fn whole(alloc: Global, text: &str) -> Result<Vec<String>, AllocError> {
-    let mut pieces = Vec::new(alloc);
-    pieces.push(String::from_str(alloc, text)?)?;
-    Ok(pieces)
-}
-
-/// The characters of a text from one place on and up to another.
-fn part(alloc: Global, text: &str, from: usize, count: usize) -> Result<String, AllocError> {
-    let mut part = String::new(alloc);
-    for c in text.chars().skip(from).take(count) {
-        part.push(c)?;
-    }
-    Ok(part)
-}
-
-/// A text cut in two at a place.
-fn in_two(alloc: Global, text: &str, place: usize) -> Result<Vec<String>, AllocError> {
-    let mut pieces = Vec::new(alloc);
-    pieces.push(part(alloc, text, 0, place)?)?;
-    pieces.push(part(alloc, text, place, text.len())?)?;
-    Ok(pieces)
-}
-
 /// Sees that this is written of a forest.
 pub(crate) fn assert_written(
     rt: &impl Abort,
@@ -165,7 +142,7 @@ pub(crate) fn assert_row(
     row: Row,
 ) -> Result<(), ParseFault> {
     let (text, written) = row;
-    let forest = read(alloc, setting, whole(alloc, text)?)?;
+    let forest = read(alloc, setting, as_given(alloc, &[text])?)?;
     assert_written(rt, alloc, forest, text, written)?;
     for place in 0..=text.chars().count() {
         let forest = read(alloc, setting, in_two(alloc, text, place)?)?;

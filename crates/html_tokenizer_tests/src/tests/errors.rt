@@ -1,123 +1,219 @@
-//! Which texts tell errors.
+//! Which texts tell errors, by their codes.
 
-use super::{PAGE, Setting, as_given, exact, read};
+use super::codes::Codes;
+use super::{PAGE, Setting, Table, exact, read, read_over};
+use html_tokenizer::State;
+use html_tokenizer::states::RawKind;
 use markup::ParseFault;
 use std::alloc::Global;
 use std::process::Abort;
 use std::test::Fail;
+use text_pieces::{as_given, in_two};
 
-/// How many errors a text tells.
-fn errors(alloc: Global, setting: Setting, text: &str) -> Result<u64, ParseFault> {
-    let sink = read(alloc, setting, as_given(alloc, &[text])?)?;
-    Ok(sink.errors)
-}
+/// A text, and the codes of its errors, each behind a space.
+type Row = (&'static str, &'static str);
 
-/// Sees that each text tells so many errors or more.
-fn assert_errors(
+/// Sees that each text tells just these errors, whole and cut at each place.
+fn assert_codes(
     rt: &impl Abort,
     alloc: Global,
     setting: Setting,
-    rows: &[(&str, u64)],
+    rows: &[Row],
 ) -> Result<(), ParseFault> {
-    for (text, least) in rows {
-        assert!(rt; errors(alloc, setting, text)? >= *least, "{text}");
+    for (text, codes) in rows {
+        for place in 0..=text.chars().count() {
+            let sink = Codes::new(alloc, setting.asks_cdata);
+            let sink = read_over(alloc, sink, setting, in_two(alloc, text, place)?)?;
+            assert!(rt; sink.codes.is(codes), "{text}");
+        }
     }
     Ok(())
 }
 
-const FAULTY_COMMENTS: &[(&str, u64)] = &[
-    ("<!--a<!--b-->", 1),
-    ("<!--a--!>", 1),
-    ("<!-->", 1),
-    ("<!--->", 1),
-    ("<!--a", 1),
-    ("<!--a--", 1),
-    ("<!--a--!", 1),
-    ("</ a>", 1),
-    ("<?b?>", 1),
-    ("<!c>", 1),
-    ("<!", 1),
-    ("</>", 1),
-    ("</></>", 2),
-    ("<!--a--!>b<!--><!---><!-- -->", 3),
+const COMMENTS: &[Row] = &[
+    ("<!--a<!--b-->", " nested-comment"),
+    ("<!--a--!>", " incorrectly-closed-comment"),
+    ("<!-->", " abrupt-closing-of-empty-comment"),
+    ("<!--->", " abrupt-closing-of-empty-comment"),
+    ("<!--a", " eof-in-comment"),
+    ("<!--a--", " eof-in-comment"),
+    ("<!--a--!", " eof-in-comment"),
+    ("</ a>", " invalid-first-character-of-tag-name"),
+    ("<?b?>", " unexpected-question-mark-instead-of-tag-name"),
+    ("<?b", " unexpected-question-mark-instead-of-tag-name"),
+    ("<!c>", " incorrectly-opened-comment"),
+    ("<!-c>", " incorrectly-opened-comment"),
+    ("<!", " incorrectly-opened-comment"),
+    ("<!DOCTYP", " incorrectly-opened-comment"),
+    ("<![CDATA[a]]>", " cdata-in-html-content"),
+    ("<![CDATA>", " incorrectly-opened-comment"),
+    ("<!--\0-->", " unexpected-null-character"),
+    ("</>", " missing-end-tag-name"),
+    ("</></>", " missing-end-tag-name missing-end-tag-name"),
+    (
+        "<!--a--!>b<!--><!---><!-- -->",
+        " incorrectly-closed-comment abrupt-closing-of-empty-comment abrupt-closing-of-empty-comment",
+    ),
 ];
 
 #[test]
 fn faulty_comments_tell_errors(rt: HostRuntime) -> Result<(), Fail> {
-    assert_errors(&rt, rt.alloc(), PAGE, FAULTY_COMMENTS)?;
+    assert_codes(&rt, rt.alloc(), PAGE, COMMENTS)?;
     Ok(())
 }
 
-const FAULTY_TAGS: &[(&str, u64)] = &[
-    ("a<", 1),
-    ("a<1", 1),
-    ("<a b=c\"d>", 1),
-    ("<a b=c`d>", 1),
-    ("<a b=`c\"'<=d`>", 6),
-    ("<a b\"c>", 1),
-    ("<a b=>", 1),
-    ("<a b='c'd>", 1),
-    ("<A B=1 b=2>", 1),
-    ("<A B=1 b=2><A B=1 b=2>", 2),
-    ("a<b c", 1),
-    ("<a b='", 1),
-    ("<a b='&", 1),
-    ("</a b>", 1),
-    ("</a/>", 1),
-    ("</a b></a/></a></a b b>", 3),
-    ("<title></title x>", 1),
-    ("</>x<a", 2),
+const TAGS: &[Row] = &[
+    ("a<", " eof-before-tag-name"),
+    ("a</", " eof-before-tag-name"),
+    ("a<1", " invalid-first-character-of-tag-name"),
+    (
+        "<a b=c\"d>",
+        " unexpected-character-in-unquoted-attribute-value",
+    ),
+    (
+        "<a b=c`d>",
+        " unexpected-character-in-unquoted-attribute-value",
+    ),
+    ("<a b\"c>", " unexpected-character-in-attribute-name"),
+    ("<a b<c>", " unexpected-character-in-attribute-name"),
+    ("<a =c>", " unexpected-equals-sign-before-attribute-name"),
+    ("<a b=>", " missing-attribute-value"),
+    ("<a b='c'd>", " missing-whitespace-between-attributes"),
+    ("<a b='c'/d>", " unexpected-solidus-in-tag"),
+    ("<a/b>", " unexpected-solidus-in-tag"),
+    (
+        "<a\0 b\0='\0'>",
+        " unexpected-null-character unexpected-null-character unexpected-null-character",
+    ),
+    ("<A B=1 b=2>", " duplicate-attribute"),
+    (
+        "<A B=1 b=2><A B=1 b=2>",
+        " duplicate-attribute duplicate-attribute",
+    ),
+    ("a<b c", " eof-in-tag"),
+    ("<a b='", " eof-in-tag"),
+    ("<a b='&", " eof-in-tag"),
+    ("</a b>", " end-tag-with-attributes"),
+    ("</a/>", " end-tag-with-trailing-solidus"),
+    ("</>x<a", " missing-end-tag-name eof-in-tag"),
 ];
 
 #[test]
 fn faulty_tags_tell_errors(rt: HostRuntime) -> Result<(), Fail> {
-    assert_errors(&rt, rt.alloc(), PAGE, FAULTY_TAGS)?;
+    assert_codes(&rt, rt.alloc(), PAGE, TAGS)?;
     Ok(())
 }
 
-const FAULTY_DOCTYPES: &[(&str, u64)] = &[
-    ("<!DOCTYPEhtml>", 1),
-    ("<!DOCTYPE>", 1),
-    ("<!DOCTYPE", 1),
-    ("<!DOCTYPE html x>", 1),
-    ("<!DOCTYPE html PUBLIC \"a>", 1),
-    ("<!DOCTYPE html PUBLIC \"a\"", 1),
-    ("<!DOCTYPE html PUBLIC a>", 1),
-    ("<!DOCTYPE html SYSTEM>", 1),
-    ("<!DOCTYPE><!DOCTYPE>", 2),
+const DOCTYPES: &[Row] = &[
+    ("<!DOCTYPEhtml>", " missing-whitespace-before-doctype-name"),
+    ("<!DOCTYPE>", " missing-doctype-name"),
+    ("<!DOCTYPE >", " missing-doctype-name"),
+    ("<!DOCTYPE", " eof-in-doctype"),
+    ("<!DOCTYPE html", " eof-in-doctype"),
+    ("<!DOCTYPE html PUB", " eof-in-doctype"),
+    ("<!DOCTYPE h\0>", " unexpected-null-character"),
+    (
+        "<!DOCTYPE html x>",
+        " invalid-character-sequence-after-doctype-name",
+    ),
+    (
+        "<!DOCTYPE html x",
+        " invalid-character-sequence-after-doctype-name",
+    ),
+    (
+        "<!DOCTYPE html PUBLIC>",
+        " missing-doctype-public-identifier",
+    ),
+    (
+        "<!DOCTYPE html PUBLIC a>",
+        " missing-quote-before-doctype-public-identifier",
+    ),
+    (
+        "<!DOCTYPE html PUBLIC\"a\">",
+        " missing-whitespace-after-doctype-public-keyword",
+    ),
+    (
+        "<!DOCTYPE html PUBLIC \"a>",
+        " abrupt-doctype-public-identifier",
+    ),
+    (
+        "<!DOCTYPE html PUBLIC 'a>",
+        " abrupt-doctype-public-identifier",
+    ),
+    ("<!DOCTYPE html PUBLIC \"a\"", " eof-in-doctype"),
+    (
+        "<!DOCTYPE html PUBLIC 'a''b'>",
+        " missing-whitespace-between-doctype-public-and-system-identifiers",
+    ),
+    (
+        "<!DOCTYPE html PUBLIC 'a' b>",
+        " missing-quote-before-doctype-system-identifier",
+    ),
+    (
+        "<!DOCTYPE html SYSTEM>",
+        " missing-doctype-system-identifier",
+    ),
+    (
+        "<!DOCTYPE html SYSTEM a>",
+        " missing-quote-before-doctype-system-identifier",
+    ),
+    (
+        "<!DOCTYPE html SYSTEM'a'>",
+        " missing-whitespace-after-doctype-system-keyword",
+    ),
+    (
+        "<!DOCTYPE html SYSTEM 'a>",
+        " abrupt-doctype-system-identifier",
+    ),
+    (
+        "<!DOCTYPE html SYSTEM 'a'b>",
+        " unexpected-character-after-doctype-system-identifier",
+    ),
+    ("<!DOCTYPE html SYSTEM 'a", " eof-in-doctype"),
+    (
+        "<!DOCTYPE><!DOCTYPE>",
+        " missing-doctype-name missing-doctype-name",
+    ),
 ];
 
 #[test]
 fn faulty_doctypes_tell_errors(rt: HostRuntime) -> Result<(), Fail> {
-    assert_errors(&rt, rt.alloc(), PAGE, FAULTY_DOCTYPES)?;
+    assert_codes(&rt, rt.alloc(), PAGE, DOCTYPES)?;
     Ok(())
 }
 
-const FAULTY_TEXTS: &[(&str, u64)] = &[
-    ("&#x80;", 1),
-    ("&#13x", 1),
-    ("&#x;", 1),
-    ("&#x80;&#0;&#xD800;&#x110000;&#13x&#x;", 6),
-    ("&#0;", 1),
-    ("&#xD800;", 1),
-    ("&#x110000;", 1),
-    ("&#0;&#xD800;&#x110000;", 3),
-    ("&#0", 1),
-    ("<title>&#0;&#xDFFF</title>", 2),
-    ("\0", 1),
-    ("a\0\0", 2),
-    ("<plaintext>\0", 1),
-    ("<title>\0", 1),
-    ("<style>\0", 1),
-    ("<script>\0", 1),
-    ("<script><!--<script>\0-\0--\0", 3),
+const TEXTS: &[Row] = &[
+    ("&#x80;", " control-character-reference"),
+    ("&#xFDD0;", " noncharacter-character-reference"),
+    ("&#13x", " missing-semicolon-after-character-reference"),
+    ("&#x;", " absence-of-digits-in-numeric-character-reference"),
+    ("&#", " absence-of-digits-in-numeric-character-reference"),
+    ("&#0;", " null-character-reference"),
+    ("&#xD800;", " surrogate-character-reference"),
+    ("&#x110000;", " character-reference-outside-unicode-range"),
+    ("&notit;", " missing-semicolon-after-character-reference"),
+    ("\0", " unexpected-null-character"),
+    (
+        "a\0\0",
+        " unexpected-null-character unexpected-null-character",
+    ),
 ];
 
 #[test]
 fn faulty_texts_tell_errors(rt: HostRuntime) -> Result<(), Fail> {
-    assert_errors(&rt, rt.alloc(), PAGE, FAULTY_TEXTS)?;
+    let setting = Setting {
+        table: Table::Not,
+        ..PAGE
+    };
+    assert_codes(&rt, rt.alloc(), setting, TEXTS)?;
     Ok(())
 }
+
+const SECTIONS: &[Row] = &[
+    ("<![CDATA[a", " eof-in-cdata"),
+    ("<![CDATA[a]]", " eof-in-cdata"),
+    ("<![CDATA[a]]>", ""),
+];
 
 #[test]
 fn sections_without_an_end_tell_errors(rt: HostRuntime) -> Result<(), Fail> {
@@ -125,15 +221,36 @@ fn sections_without_an_end_tell_errors(rt: HostRuntime) -> Result<(), Fail> {
         asks_cdata: true,
         ..PAGE
     };
-    assert_errors(
-        &rt,
-        rt.alloc(),
-        setting,
-        &[("<![CDATA[a", 1), ("<![CDATA[a]]", 1)],
-    )?;
-    assert_eq!(rt; errors(rt.alloc(), setting, "<![CDATA[a]]>")?, 0);
-    assert_errors(&rt, rt.alloc(), PAGE, &[("<![CDATA[a]]>", 1)])?;
+    assert_codes(&rt, rt.alloc(), setting, SECTIONS)?;
     Ok(())
+}
+
+const SCRIPTS: &[Row] = &[
+    ("<!--", " eof-in-script-html-comment-like-text"),
+    ("<!--<script>-", " eof-in-script-html-comment-like-text"),
+    (
+        "<!--\0-->\0",
+        " unexpected-null-character unexpected-null-character",
+    ),
+    ("</script x>", " end-tag-with-attributes"),
+    ("</script ", " eof-in-tag"),
+];
+
+#[test]
+fn faulty_scripts_tell_errors(rt: HostRuntime) -> Result<(), Fail> {
+    let setting = Setting {
+        initial_state: Some(State::RawData(RawKind::ScriptData)),
+        last_start_tag: Some("script"),
+        ..PAGE
+    };
+    assert_codes(&rt, rt.alloc(), setting, SCRIPTS)?;
+    Ok(())
+}
+
+/// How many errors a text tells.
+fn errors(alloc: Global, setting: Setting, text: &str) -> Result<u64, ParseFault> {
+    let sink = read(alloc, setting, as_given(alloc, &[text])?)?;
+    Ok(sink.errors)
 }
 
 const CLEAN_TEXTS: &[&str] = &[
@@ -184,8 +301,20 @@ const CHARACTERS: &[(&str, u64)] = &[
     ("\0", 0),
 ];
 
+const FORBIDDEN: &[Row] = &[
+    (
+        "\u{1}\u{FDD0}",
+        " control-character-in-input-stream noncharacter-in-input-stream",
+    ),
+    (
+        "\u{1}\0",
+        " control-character-in-input-stream unexpected-null-character",
+    ),
+];
+
 #[test]
 fn characters_may_be_errors(rt: HostRuntime) -> Result<(), Fail> {
+    assert_codes(&rt, rt.alloc(), exact(PAGE), FORBIDDEN)?;
     for &(text, more) in CHARACTERS {
         let told = errors(rt.alloc(), exact(PAGE), text)?;
         let others = errors(rt.alloc(), PAGE, text)?;

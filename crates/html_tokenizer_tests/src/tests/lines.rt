@@ -1,11 +1,12 @@
 //! On which lines tokens are told.
 
-use super::{PAGE, as_given, assert_cuts, read};
+use super::{PAGE, assert_cuts, read};
 use html_tokenizer::Listed;
 use markup::ParseFault;
 use std::alloc::Global;
 use std::process::Abort;
 use std::test::Fail;
+use text_pieces::as_given;
 
 /// Sees that the tokens of a list were told on these lines.
 fn assert_lines(rt: &impl Abort, sink: &Listed, lines: &[u64]) {

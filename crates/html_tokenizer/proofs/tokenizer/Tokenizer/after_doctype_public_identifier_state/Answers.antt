@@ -34,4 +34,4 @@ returns-then-c-eq62 g c =
 pub returns : goal.returns
 returns g c =
     let m = g.Sink.TokenSink in
-    between-other m g.met.Sink.TokenSink.laws c.args.self.now _ c.args.c _ c.requires.at (sym c.is_white_space.ensures ∙ c.if-is_white_space.false) (ne_eqb c.args.c 62 c.if-c-eq62.false) (ne_eqb c.args.c 34 c.if-c-eq34.false) (ne_eqb c.args.c 39 c.if-c-eq39.false) c.bogus_doctype_state.ensures
+    between-other m g.met.Sink.TokenSink.laws c.args.self.now _ c.args.c _ _ c.requires.at (sym c.is_white_space.ensures ∙ c.if-is_white_space.false) (ne_eqb c.args.c 62 c.if-c-eq62.false) (ne_eqb c.args.c 34 c.if-c-eq34.false) (ne_eqb c.args.c 39 c.if-c-eq39.false) c.bogus_doctype_state.ensures

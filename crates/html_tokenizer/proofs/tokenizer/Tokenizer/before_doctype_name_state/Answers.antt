@@ -10,17 +10,17 @@ returns-then-is_white_space g c =
     let m = g.Sink.TokenSink in
     before_name-white m g.met.Sink.TokenSink.laws c.args.self.now c.args.c c.requires.sound c.requires.at (sym c.is_white_space.ensures ∙ c.if-is_white_space.true)
 
-pub returns-in_err-emit_doctype : goal.returns-in_err-emit_doctype
-returns-in_err-emit_doctype g c =
+pub returns-in_err-emit_doctype_for : goal.returns-in_err-emit_doctype_for
+returns-in_err-emit_doctype_for g c =
     let m = g.Sink.TokenSink in
     doctype-failed m g.met.Sink.TokenSink.laws
-    c.args.self.now _ _ state.BeforeDoctypeName c.args.self.now.temporary false (forced c.no_doctype.result) _ _ c.if-c-eq62.true c.requires.at c.requires.sound c.from_residual.ensures.1 c.in_err-emit_doctype.ensures (rw c.no_doctype.ensures (before_name-says m g.met.Sink.TokenSink.laws c.args.self.now c.args.self.now.temporary))
+    c.args.self.now _ _ state.BeforeDoctypeName c.args.self.now.temporary false (forced c.no_doctype.result) _ _ c.if-c-eq62.true c.requires.at c.requires.sound c.from_residual.ensures.1 c.in_err-emit_doctype_for.ensures (rw c.no_doctype.ensures (before_name-says m g.met.Sink.TokenSink.laws c.args.self.now c.args.self.now.temporary))
 
 pub returns-then-c-eq62 : goal.returns-then-c-eq62
 returns-then-c-eq62 g c =
     let m = g.Sink.TokenSink in
     doctype-took m g.met.Sink.TokenSink.laws
-    c.args.self.now _ _ state.BeforeDoctypeName c.args.self.now.temporary false (forced c.no_doctype.result) c.if-c-eq62.true c.requires.at c.requires.sound c.in_ok-emit_doctype.ensures (rw c.no_doctype.ensures (before_name-says m g.met.Sink.TokenSink.laws c.args.self.now c.args.self.now.temporary))
+    c.args.self.now _ _ state.BeforeDoctypeName c.args.self.now.temporary false (forced c.no_doctype.result) c.if-c-eq62.true c.requires.at c.requires.sound c.in_ok-emit_doctype_for.ensures (rw c.no_doctype.ensures (before_name-says m g.met.Sink.TokenSink.laws c.args.self.now c.args.self.now.temporary))
 
 pub returns : goal.returns
 returns g c =

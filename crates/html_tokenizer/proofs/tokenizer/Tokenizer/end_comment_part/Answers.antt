@@ -1,5 +1,10 @@
-use Rattle.html_tokenizer.proofs.EndMarkup.{comment-closes, start-closes}
+use Rattle.html_tokenizer.proofs.EndMarkup.{bogus-closes, comment-closes, start-closes}
 use Rattle.html_tokenizer.proofs.tokenizer.Tokenizer.end_comment_part.Goals as goal
+
+pub returns-in-BogusComment : goal.returns-in-BogusComment
+returns-in-BogusComment g c =
+    let m = g.Sink.TokenSink in
+    bogus-closes m g.met.Sink.TokenSink.laws c.args.self.now _ _ c.requires.sound (record { state = c.in-BogusComment.is; fresh = c.requires.fresh }) c.emit_bogus_comment.ensures
 
 pub returns-in-CommentStart : goal.returns-in-CommentStart
 returns-in-CommentStart g c =

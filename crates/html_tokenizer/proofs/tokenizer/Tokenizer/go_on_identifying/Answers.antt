@@ -13,4 +13,4 @@ returns-then-may_identify g c =
 pub returns : goal.returns
 returns g c =
     let m = g.Sink.TokenSink in
-    keyword-other m g.met.Sink.TokenSink.laws c.args.self.now _ c.args.c _ c.requires.at c.requires.part c.requires.open (sym c.may_identify.ensures ∙ c.if-may_identify.false) c.requires.begun c.bogus_doctype_state.ensures
+    keyword-other m g.met.Sink.TokenSink.laws _ c.args.self.now _ c.args.c _ c.requires.at c.requires.part c.requires.open (sym c.may_identify.ensures ∙ c.if-may_identify.false) c.requires.begun c.bogus_doctype_state.ensures

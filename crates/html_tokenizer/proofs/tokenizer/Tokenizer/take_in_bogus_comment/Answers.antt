@@ -4,17 +4,17 @@ use Rattle.html_tokenizer.specs.Steps.{a_fault}
 use Rattle.html_tokenizer.proofs.Comments.{bogus-says, bogus-push, comment-took, comment-failed}
 use Rattle.html_tokenizer.proofs.tokenizer.Tokenizer.take_in_bogus_comment.Goals as goal
 
-pub returns-in_err-emit_faulty_comment : goal.returns-in_err-emit_faulty_comment
-returns-in_err-emit_faulty_comment g c =
+pub returns-in_err-emit_bogus_comment : goal.returns-in_err-emit_bogus_comment
+returns-in_err-emit_bogus_comment g c =
     let m = g.Sink.TokenSink in
     comment-failed m g.met.Sink.TokenSink.laws
-    a_fault _ _ _ state.BogusComment _ _ _ c.if-c-eq62.true c.requires.at c.requires.sound c.from_residual.ensures.1 c.in_err-emit_faulty_comment.ensures (bogus-says m g.met.Sink.TokenSink.laws _)
+    a_fault _ _ _ state.BogusComment _ _ _ c.if-c-eq62.true c.requires.at c.requires.sound c.from_residual.ensures.1 c.in_err-emit_bogus_comment.ensures (bogus-says m g.met.Sink.TokenSink.laws _)
 
 pub returns-then-c-eq62 : goal.returns-then-c-eq62
 returns-then-c-eq62 g c =
     let m = g.Sink.TokenSink in
     comment-took m g.met.Sink.TokenSink.laws
-    _ _ _ state.BogusComment _ c.if-c-eq62.true c.requires.at c.requires.sound c.in_ok-emit_faulty_comment.ensures (bogus-says m g.met.Sink.TokenSink.laws _)
+    _ _ _ state.BogusComment _ c.if-c-eq62.true c.requires.at c.requires.sound c.in_ok-emit_bogus_comment.ensures (bogus-says m g.met.Sink.TokenSink.laws _)
 
 pub returns : goal.returns
 returns g c =
