@@ -184,6 +184,16 @@ fn documents(rt: HostRuntime) -> Result<(), Fail> {
             BAD,
         ),
         (
+            "<!DOCTYPE html><html><head> <title></title></head> <body><ul> <li>a</li></ul></body></html>",
+            "<!DOCTYPE html><html><head> <title></title></head> <body><ul> <li>a</li></ul></body></html>",
+            GOOD,
+        ),
+        (
+            "<!DOCTYPE html><html><head></head><body><p><a href=\"x\"><b>1</b></a></p><div><b><b><b><b>y</b></b></b></b>z</div></body></html>",
+            "<!DOCTYPE html><html><head></head><body><p><a href=\"x\"><b>1</b></a></p><div><b><b><b><b>y</b></b></b></b>z</div></body></html>",
+            GOOD,
+        ),
+        (
             "<!DOCTYPE html PUBLIC \"-//W3C//DTD XHTML 1.0 Frameset//\" \"\">",
             "<!DOCTYPE html><html><head></head><body></body></html>",
             (false, QuirksMode::LimitedQuirks, true),
@@ -224,6 +234,7 @@ fn bodies(rt: HostRuntime) -> Result<(), Fail> {
         ("<p>&#13;", "<p>\r</p>", PLAIN_NOT_BAD),
         ("<p>a\0b", "<p>ab</p>", BAD),
         ("<p>a</p>", "<p>a</p>", GOOD),
+        ("<p>a</p><!--c-->", "<p>a</p><!--c-->", PLAIN_NOT),
         ("", "", GOOD),
         (" </p> a<p>b<p>c</p>d", "a<p>b</p><p>c</p>d", BAD),
         ("a>b</p>", "a&gt;b<p></p>", BAD),
