@@ -1,14 +1,11 @@
 //! Worked values of texts, names and attributes, each public call on the way.
 
 use markup::known_names::NAMES;
-use markup::laws::{EqualByValue, compare, feed, is_equal};
 use markup::{
-    Attribute, Attributes, ElementFlags, KnownNamespace, LocalName, Namespace, ParseFault, Prefix,
-    QualName, QuirksMode, Text, TokenizerResult, namespaces,
+    Attribute, Attributes, KnownNamespace, LocalName, Namespace, ParseFault, Prefix, QualName,
+    Text, namespaces,
 };
 use std::alloc::{AllocError, Global};
-use std::cmp::Ordering;
-use std::hash::{DefaultHasher, Hash, Hasher};
 use std::test::Fail;
 
 fn text(alloc: Global, characters: &str) -> Result<Text, AllocError> {
@@ -47,64 +44,89 @@ fn attribute(alloc: Global, local: &str, value: &str) -> Result<Attribute, Alloc
     })
 }
 
-// What stands after `more` was added at the end of `start`, as a string, a text and characters, and without ASCII letters
-// as a text to be lowered.
-fn grown(alloc: Global, start: &str, more: &str) -> Result<[Text; 4], ParseFault> {
-    let mut by_str = Text::from_str(alloc, start)?;
-    by_str.push_str(more)?;
-    let mut by_text = text(alloc, start)?;
-    by_text.append(&Text::from_str(alloc, more)?)?;
-    let mut by_character = Text::empty(alloc);
-    for character in start.chars().chain(more.chars()) {
-        by_character.push(character)?;
-    }
-    let mut lowered = Text::from_str(alloc, "let go")?;
-    lowered.clear();
-    lowered.push_str(start)?;
-    lowered.push_lowered(more)?;
-    Ok([by_str, by_text, by_character, lowered])
+fn grown_by_str(alloc: Global, start: &str, more: &str) -> Result<Text, ParseFault> {
+    let mut made = Text::from_str(alloc, start)?;
+    made.push_str(more)?;
+    Ok(made)
 }
+
+fn grown_by_text(alloc: Global, start: &str, more: &str) -> Result<Text, ParseFault> {
+    let mut made = text(alloc, start)?;
+    made.append(&Text::from_str(alloc, more)?)?;
+    Ok(made)
+}
+
+fn grown_by_characters(alloc: Global, start: &str, more: &str) -> Result<Text, ParseFault> {
+    let mut made = text(alloc, start)?;
+    for character in more.chars() {
+        made.push(character)?;
+    }
+    Ok(made)
+}
+
+// A start, what is added to it, and what stands there then.
+const GROWN: &[(&str, &str, &str)] = &[
+    ("", "", ""),
+    ("", "a", "a"),
+    ("ab", "", "ab"),
+    ("é", "\u{10000}b", "é\u{10000}b"),
+    ("twenty-four bytes in all", "", "twenty-four bytes in all"),
+    ("twenty-four bytes in all", "é", "twenty-four bytes in allé"),
+    (
+        "thirty bytes with their spaces",
+        "",
+        "thirty bytes with their spaces",
+    ),
+    (
+        "thirty bytes with their spaces",
+        "é",
+        "thirty bytes with their spacesé",
+    ),
+    (
+        "with more than twenty-four bytes",
+        ", and more",
+        "with more than twenty-four bytes, and more",
+    ),
+];
 
 #[test]
 fn texts_grow_at_their_end(rt: HostRuntime) -> Result<(), Fail> {
-    let cases = [
-        ("", "", ""),
-        ("", "a", "a"),
-        ("ab", "", "ab"),
-        ("é", "\u{10000}b", "é\u{10000}b"),
-        ("twenty-four bytes in all", "", "twenty-four bytes in all"),
-        ("twenty-four bytes in all", "é", "twenty-four bytes in allé"),
-        (
-            "with more than twenty-four bytes",
-            ", and more",
-            "with more than twenty-four bytes, and more",
-        ),
-    ];
-    for (start, more, whole) in cases {
-        for found in grown(rt.alloc(), start, more)? {
-            assert_eq!(rt; found.as_str(), whole);
-        }
+    for &(start, more, whole) in GROWN {
+        assert_eq!(rt; grown_by_str(rt.alloc(), start, more)?.as_str(), whole);
+        assert_eq!(rt; grown_by_text(rt.alloc(), start, more)?.as_str(), whole);
+        assert_eq!(rt;
+            grown_by_characters(rt.alloc(), start, more)?.as_str(),
+            whole
+        );
     }
     Ok(())
 }
 
+// What is added behind `X`, and what of it stands there.
+const LOWERED: &[(&str, &str)] = &[
+    ("", "X"),
+    ("div", "Xdiv"),
+    ("DiV", "Xdiv"),
+    ("@AZ[", "X@az["),
+    ("ÀB", "XÀb"),
+    (
+        "A name with More than twenty-four BYTES",
+        "Xa name with more than twenty-four bytes",
+    ),
+];
+
+fn lowered(alloc: Global, more: &str) -> Result<Text, ParseFault> {
+    let mut made = Text::from_str(alloc, "let go")?;
+    made.clear();
+    made.push_str("X")?;
+    made.push_lowered(more)?;
+    Ok(made)
+}
+
 #[test]
 fn texts_are_lowered_at_their_end(rt: HostRuntime) -> Result<(), Fail> {
-    let cases = [
-        ("", ""),
-        ("div", "div"),
-        ("DiV", "div"),
-        ("@AZ[", "@az["),
-        ("ÀB", "Àb"),
-        (
-            "A name with More than twenty-four BYTES",
-            "a name with more than twenty-four bytes",
-        ),
-    ];
-    for (more, want) in cases {
-        let mut found = Text::from_str(rt.alloc(), "X")?;
-        found.push_lowered(more)?;
-        assert_eq!(rt; found.as_str(), format!(in rt.alloc(); "X{want}")?.as_str());
+    for &(more, want) in LOWERED {
+        assert_eq!(rt; lowered(rt.alloc(), more)?.as_str(), want);
     }
     Ok(())
 }
@@ -141,120 +163,45 @@ fn a_refused_list_is_unchanged(rt: HostRuntime) -> Result<(), Fail> {
     Ok(())
 }
 
-// Attributes `a0`, `a1` and so on, so many.
-fn numbered(alloc: Global, count: usize) -> Result<Attributes, Fail> {
+// So many attributes `a0`, `a1` and so on, with this value.
+fn numbered(alloc: Global, count: usize, value: &str) -> Result<Attributes, Fail> {
     let mut list = Attributes::new(alloc);
     for number in 0..count {
         let local = format!(in alloc; "a{number}")?;
-        list.push(attribute(alloc, local.as_str(), "x")?)?;
-    }
-    Ok(list)
-}
-
-// Numbers of attributes to which lists grow, about the one from which places are kept.
-const COUNTS: &[usize] = &[0, 1, 16, 17, 40];
-
-// Whether attribute `number` is among the first `count`.
-fn is_found(alloc: Global, count: usize, number: usize) -> Result<bool, Fail> {
-    let name = LocalName::new(format!(in alloc; "a{number}")?);
-    Ok(numbered(alloc, count)?.has_local_name(&name))
-}
-
-#[test]
-fn local_names_are_found_among_few_and_many(rt: HostRuntime) -> Result<(), Fail> {
-    for count in COUNTS {
-        for number in 0..50 {
-            assert_eq!(rt; is_found(rt.alloc(), *count, number)?, number < *count);
-        }
-    }
-    Ok(())
-}
-
-// `count` attributes in the order of their numbers, or against it; one of them may have a value of its own.
-fn turned(alloc: Global, count: usize, is_turned: bool, other: usize) -> Result<Attributes, Fail> {
-    let mut list = Attributes::new(alloc);
-    for place in 0..count {
-        let number = if is_turned { count - 1 - place } else { place };
-        let local = format!(in alloc; "a{number}")?;
-        let value = if number == other { "y" } else { "x" };
         list.push(attribute(alloc, local.as_str(), value)?)?;
     }
     Ok(list)
 }
 
-// Whether so many attributes are the same as so many turned round, of which one may have a value of its own.
-fn is_turned_same(
-    alloc: Global,
-    count: usize,
-    turned_count: usize,
-    other: usize,
-) -> Result<bool, Fail> {
-    let list = numbered(alloc, count)?;
-    Ok(list.is_permutation(&turned(alloc, turned_count, true, other)?))
-}
-
-#[test]
-fn orders_of_attributes_are_told_apart_from_values(rt: HostRuntime) -> Result<(), Fail> {
-    for count in COUNTS {
-        assert!(rt; is_turned_same(rt.alloc(), *count, *count, 99)?);
-        assert!(rt; !is_turned_same(rt.alloc(), *count, *count + 1, 99)?);
-        assert_eq!(rt; is_turned_same(rt.alloc(), *count, *count, 0)?, *count == 0);
-    }
-    Ok(())
-}
-
-// So many attributes, and one of them once more with another value.
-fn repeated(alloc: Global, count: usize, value: &str) -> Result<Attributes, Fail> {
-    let mut list = numbered(alloc, count)?;
-    list.push(attribute(alloc, "a0", value)?)?;
-    Ok(list)
-}
-
-fn are_repeated_same(alloc: Global, count: usize, value: &str) -> Result<bool, Fail> {
-    let list = repeated(alloc, count, "y")?;
-    Ok(list.is_permutation(&repeated(alloc, count, value)?))
-}
-
-#[test]
-fn repeated_attributes_are_counted(rt: HostRuntime) -> Result<(), Fail> {
-    for count in COUNTS {
-        assert!(rt; are_repeated_same(rt.alloc(), *count, "y")?);
-        assert!(rt; !are_repeated_same(rt.alloc(), *count, "z")?);
-    }
-    Ok(())
-}
-
-// So many attributes with those of so many that are missing.
+// So many attributes, to which those of so many that are missing were added.
 fn with_missing(alloc: Global, has: usize, more: usize) -> Result<Attributes, Fail> {
-    let mut list = numbered(alloc, has)?;
-    list.add_missing(turned(alloc, more, false, 0)?)?;
+    let mut list = numbered(alloc, has, "x")?;
+    list.add_missing(numbered(alloc, more, "y")?)?;
     Ok(list)
 }
 
-// The first value, and how many attributes there are; whether those are in order.
-fn are_numbered(list: &Attributes, count: usize, first: &str) -> bool {
+// Whether so many attributes have the value `x`, and all others, so many in all, the value `y`.
+fn are_filled(list: &Attributes, has: usize, count: usize) -> bool {
     list.len() == count
-        && list
-            .as_slice()
-            .first()
-            .is_none_or(|a| a.value.as_str() == first)
+        && list.as_slice().iter().enumerate().all(|(place, attribute)| {
+            attribute.value.as_str() == if place < has { "x" } else { "y" }
+        })
 }
+
+// How many attributes there are, how many come, and how many there are then. From the seventeenth on places are kept.
+const MISSING: &[(usize, usize, usize)] = &[
+    (0, 0, 0),
+    (0, 3, 3),
+    (3, 5, 5),
+    (20, 5, 20),
+    (5, 40, 40),
+];
 
 #[test]
 fn missing_attributes_are_added(rt: HostRuntime) -> Result<(), Fail> {
-    let cases: &[(usize, usize, usize, &str)] = &[
-        (0, 0, 0, "x"),
-        (0, 3, 3, "y"),
-        (3, 5, 5, "x"),
-        (20, 5, 20, "x"),
-        (5, 40, 40, "x"),
-    ];
-    for (has, more, want, first) in cases {
-        let list = with_missing(rt.alloc(), *has, *more)?;
-        assert!(rt; are_numbered(&list, *want, first));
-        assert!(rt;
-            list.is_permutation(&turned(rt.alloc(), *want, true, if *has == 0 { 0 } else { 99 })?)
-        );
+    for &(has, more, want) in MISSING {
+        let list = with_missing(rt.alloc(), has, more)?;
+        assert!(rt; are_filled(&list, has, want));
     }
     Ok(())
 }
@@ -283,45 +230,6 @@ fn prefixes_of_namespaces_are_their_texts(rt: HostRuntime) -> Result<(), Fail> {
     Ok(())
 }
 
-#[test]
-fn texts_are_tested(rt: HostRuntime) -> Result<(), Fail> {
-    let cases = [
-        ("table", true),
-        ("Table", false),
-        ("tabl", false),
-        ("tablé", false),
-        ("", false),
-    ];
-    for (characters, want) in cases {
-        let found = text(rt.alloc(), characters)?;
-        assert_eq!(rt; found.is("table"), want);
-        assert_eq!(rt; found.is_empty(), characters == "");
-        assert_eq!(rt; found.into_string()?.as_str(), characters);
-        let made = LocalName::from_str(rt.alloc(), characters)?;
-        assert_eq!(rt; made.as_str(), characters);
-        let made = LocalName::from_text(text(rt.alloc(), characters)?);
-        assert_eq!(rt; made.as_str(), characters);
-    }
-    Ok(())
-}
-
-#[test]
-fn names_are_tested(rt: HostRuntime) -> Result<(), Fail> {
-    for (characters, want) in [("table", true), ("Table", false)] {
-        assert_eq!(rt; local_name(rt.alloc(), characters)?.is("table"), want);
-    }
-    Ok(())
-}
-
-#[test]
-fn namespaces_are_tested(rt: HostRuntime) -> Result<(), Fail> {
-    let html = namespace(rt.alloc(), "http://www.w3.org/1999/xhtml")?;
-    assert!(rt; html.is(namespaces::HTML));
-    assert!(rt; !html.is(namespaces::SVG));
-    assert!(rt; !html.is(namespaces::NONE));
-    Ok(())
-}
-
 // Texts that are copied below.
 const WORDS: &[&str] = &["", "href", "Ünïcode"];
 
@@ -341,44 +249,38 @@ fn copy_of_prefix(alloc: Global, characters: &str) -> Result<Prefix, ParseFault>
     prefix(alloc, characters)?.copy(alloc)
 }
 
-#[test]
-fn copied_texts_equal_their_source(rt: HostRuntime) -> Result<(), Fail> {
-    for &characters in WORDS {
-        assert_eq!(rt; copy_of_text(rt.alloc(), characters)?.as_str(), characters);
-    }
-    Ok(())
+// A text once more, by the calls that take it or its characters.
+fn text_again(alloc: Global, characters: &str) -> Result<String, ParseFault> {
+    let made = LocalName::from_text(Text::from_str(alloc, characters)?);
+    let again = LocalName::from_str(alloc, made.as_str())?;
+    Text::from_str(alloc, again.as_str())?.into_string()
 }
 
 #[test]
-fn copied_local_names_equal_their_source(rt: HostRuntime) -> Result<(), Fail> {
+fn copies_equal_their_source(rt: HostRuntime) -> Result<(), Fail> {
     for &characters in WORDS {
+        assert_eq!(rt; copy_of_text(rt.alloc(), characters)?.as_str(), characters);
         assert_eq!(rt;
             copy_of_local_name(rt.alloc(), characters)?.as_str(),
             characters
         );
-    }
-    Ok(())
-}
-
-#[test]
-fn copied_namespaces_equal_their_source(rt: HostRuntime) -> Result<(), Fail> {
-    for &characters in WORDS {
         assert_eq!(rt;
             copy_of_namespace(rt.alloc(), characters)?.as_str(),
             characters
         );
+        assert_eq!(rt;
+            copy_of_prefix(rt.alloc(), characters)?.as_str(),
+            characters
+        );
+        assert_eq!(rt; text_again(rt.alloc(), characters)?.as_str(), characters);
     }
     Ok(())
 }
 
 #[test]
-fn copied_prefixes_equal_their_source(rt: HostRuntime) -> Result<(), Fail> {
-    for &characters in WORDS {
-        assert_eq!(rt;
-            copy_of_prefix(rt.alloc(), characters)?.as_str(),
-            characters
-        );
-    }
+fn copied_names_equal_their_source(rt: HostRuntime) -> Result<(), Fail> {
+    let plain = name(rt.alloc(), Some("xlink"), namespaces::XLINK, "href")?;
+    assert!(rt; plain.copy(rt.alloc())? == plain);
     Ok(())
 }
 
@@ -393,7 +295,7 @@ fn two_attributes(alloc: Global) -> Result<Attributes, ParseFault> {
 fn copied_attributes_equal_their_source(rt: HostRuntime) -> Result<(), Fail> {
     let list = two_attributes(rt.alloc())?;
     let copied = list.copy(rt.alloc())?;
-    assert!(rt; is_equal(&copied, &list));
+    assert!(rt; copied == list);
     Ok(())
 }
 
@@ -410,208 +312,55 @@ fn attributes_are_a_vector(rt: HostRuntime) -> Result<(), Fail> {
     Ok(())
 }
 
-fn hash_of<T: EqualByValue + Hash>(value: &T) -> u64 {
-    let mut state = DefaultHasher::new();
-    feed(value, &mut state);
-    state.finish()
-}
-
-// Whether a comes before b by every comparison.
-fn comes_before<T: EqualByValue + Ord + Hash>(a: &T, b: &T) -> bool {
-    !is_equal(a, b)
-        && compare(a, b) == Ordering::Less
-        && compare(b, a) == Ordering::Greater
-        && hash_of(a) != hash_of(b)
-}
-
-// Whether no comparison tells a from b.
-fn is_alike<T: EqualByValue + Ord + Hash>(a: &T, b: &T) -> bool {
-    is_equal(a, b) && compare(a, b) == Ordering::Equal && hash_of(a) == hash_of(b)
-}
-
-// Pairs of texts, of which the first comes first.
-const IN_ORDER: &[(&str, &str)] = &[
-    ("", "a"),
-    ("a", "b"),
-    ("a", "ab"),
-    ("ab", "b"),
-    ("Z", "a"),
-    ("z", "é"),
-    ("\u{FFFF}", "\u{10000}"),
-];
-
-fn texts_in_order(alloc: Global, low: &str, high: &str) -> Result<bool, AllocError> {
-    Ok(comes_before(&text(alloc, low)?, &text(alloc, high)?))
-}
-
-fn local_names_in_order(alloc: Global, low: &str, high: &str) -> Result<bool, AllocError> {
-    Ok(comes_before(&local_name(alloc, low)?, &local_name(alloc, high)?))
-}
-
-fn namespaces_in_order(alloc: Global, low: &str, high: &str) -> Result<bool, AllocError> {
-    Ok(comes_before(&namespace(alloc, low)?, &namespace(alloc, high)?))
-}
-
-fn prefixes_in_order(alloc: Global, low: &str, high: &str) -> Result<bool, AllocError> {
-    Ok(comes_before(&prefix(alloc, low)?, &prefix(alloc, high)?))
-}
-
-fn attributes_in_order(alloc: Global, low: &str, high: &str) -> Result<bool, AllocError> {
-    let low = attribute(alloc, "id", low)?;
-    let high = attribute(alloc, "id", high)?;
-    Ok(comes_before(&low, &high))
-}
-
-#[test]
-fn texts_are_ordered(rt: HostRuntime) -> Result<(), Fail> {
-    for &(low, high) in IN_ORDER {
-        assert!(rt; texts_in_order(rt.alloc(), low, high)?);
-    }
-    Ok(())
-}
-
-#[test]
-fn names_and_values_are_ordered_as_texts(rt: HostRuntime) -> Result<(), Fail> {
-    assert!(rt; local_names_in_order(rt.alloc(), "a", "ab")?);
-    assert!(rt; namespaces_in_order(rt.alloc(), "a", "ab")?);
-    assert!(rt; prefixes_in_order(rt.alloc(), "a", "ab")?);
-    assert!(rt; attributes_in_order(rt.alloc(), "a", "ab")?);
-    Ok(())
-}
-
-// The prefix, the namespace and the local name.
-type Parts = (Option<&'static str>, &'static str, &'static str);
-
-// Parts of names, of which the first comes first.
-const NAMES_IN_ORDER: &[(Parts, Parts)] = &[
-    ((None, "b", "b"), (Some(""), "a", "a")),
-    ((Some("a"), "b", "b"), (Some("b"), "a", "a")),
-    ((None, "a", "b"), (None, "b", "a")),
-    ((None, "a", "a"), (None, "a", "b")),
-];
-
-fn names_in_order(alloc: Global, low: Parts, high: Parts) -> Result<bool, AllocError> {
-    let low = name(alloc, low.0, low.1, low.2)?;
-    let high = name(alloc, high.0, high.1, high.2)?;
-    Ok(comes_before(&low, &high))
-}
-
-#[test]
-fn names_are_ordered(rt: HostRuntime) -> Result<(), Fail> {
-    for &(low, high) in NAMES_IN_ORDER {
-        assert!(rt; names_in_order(rt.alloc(), low, high)?);
-    }
-    Ok(())
-}
-
-#[test]
-fn copied_names_are_alike(rt: HostRuntime) -> Result<(), Fail> {
-    let plain = name(rt.alloc(), None, namespaces::HTML, "href")?;
-    assert!(rt; is_alike(&plain.copy(rt.alloc())?, &plain));
-    Ok(())
-}
-
-#[test]
-fn expanded_names_leave_the_prefix_out(rt: HostRuntime) -> Result<(), Fail> {
-    let plain = name(rt.alloc(), None, namespaces::XLINK, "href")?;
-    let prefixed = name(rt.alloc(), Some("xlink"), namespaces::XLINK, "href")?;
-    assert!(rt; plain != prefixed);
-    assert!(rt; is_alike(&plain.expanded(), &prefixed.expanded()));
-    assert_eq!(rt; prefixed.expanded().local.as_str(), "href");
-    Ok(())
+// The place of a name in the table of known names.
+fn place_of(alloc: Global, characters: &str) -> Result<Option<usize>, ParseFault> {
+    let made = LocalName::from_str(alloc, characters)?;
+    Ok(made.known().map(|known| usize::from(known.place)))
 }
 
 #[test]
 fn known_names_are_found_in_their_table(rt: HostRuntime) -> Result<(), Fail> {
     for (place, characters) in NAMES.iter().enumerate() {
-        let made = LocalName::from_str(rt.alloc(), *characters)?;
-        let found = made.known().ok_or("missing")?;
-        assert_eq!(rt; usize::from(found.place), place);
+        assert_eq!(rt; place_of(rt.alloc(), *characters)?, Some(place));
     }
-    for characters in ["", "A", "aa", "divx", "di", "zzz", "dív"] {
-        let made = LocalName::from_str(rt.alloc(), characters)?;
-        assert_eq!(rt; made.known(), None);
+    for &characters in UNKNOWN {
+        assert_eq!(rt; place_of(rt.alloc(), characters)?, None);
     }
     Ok(())
 }
 
-#[test]
-fn known_namespaces_go_by_their_names(rt: HostRuntime) -> Result<(), Fail> {
-    let cases = [
-        (KnownNamespace::NoNamespace, namespaces::NONE),
-        (KnownNamespace::Html, namespaces::HTML),
-        (KnownNamespace::MathMl, namespaces::MATHML),
-        (KnownNamespace::Svg, namespaces::SVG),
-        (KnownNamespace::XLink, namespaces::XLINK),
-        (KnownNamespace::Xml, namespaces::XML),
-        (KnownNamespace::Xmlns, namespaces::XMLNS),
-    ];
-    for (known, characters) in cases {
-        let made = namespace(rt.alloc(), characters)?;
-        assert_eq!(rt; made.known(), Some(known));
-        assert_eq!(rt; Namespace::from_known(known), made);
-        assert_eq!(rt; made.as_str(), characters);
-        assert!(rt; made.is_known(known));
-        assert_eq!(rt;
-            made.is_known(KnownNamespace::Svg),
-            known == KnownNamespace::Svg
-        );
-    }
-    for characters in ["svg", "http://www.w3.org/1999/xhtml/"] {
-        let made = namespace(rt.alloc(), characters)?;
-        assert_eq!(rt; made.known(), None);
-        assert!(rt; !made.is_known(KnownNamespace::Html));
-    }
-    assert_eq!(rt; Namespace::none().as_str(), "");
-    Ok(())
-}
+// Names that are not known.
+const UNKNOWN: &[&str] = &["", "A", "aa", "divx", "di", "zzz", "dív"];
+
+const NAMESPACES: &[(KnownNamespace, &str)] = &[
+    (KnownNamespace::NoNamespace, ""),
+    (KnownNamespace::Html, "http://www.w3.org/1999/xhtml"),
+    (KnownNamespace::MathMl, "http://www.w3.org/1998/Math/MathML"),
+    (KnownNamespace::Svg, "http://www.w3.org/2000/svg"),
+    (KnownNamespace::XLink, "http://www.w3.org/1999/xlink"),
+    (KnownNamespace::Xml, "http://www.w3.org/XML/1998/namespace"),
+    (KnownNamespace::Xmlns, "http://www.w3.org/2000/xmlns/"),
+];
 
 #[test]
 fn namespaces_are_the_standard_ones(rt: HostRuntime) {
-    let cases = [
-        (namespaces::NONE, ""),
-        (namespaces::HTML, "http://www.w3.org/1999/xhtml"),
-        (namespaces::MATHML, "http://www.w3.org/1998/Math/MathML"),
-        (namespaces::SVG, "http://www.w3.org/2000/svg"),
-        (namespaces::XLINK, "http://www.w3.org/1999/xlink"),
-        (namespaces::XML, "http://www.w3.org/XML/1998/namespace"),
-        (namespaces::XMLNS, "http://www.w3.org/2000/xmlns/"),
-    ];
-    for (found, want) in cases {
-        assert_eq!(rt; found, want);
+    for &(known, want) in NAMESPACES {
+        assert_eq!(rt; Namespace::from_known(known).as_str(), want);
     }
 }
+
+const FAULTS: &[(ParseFault, u8)] = &[
+    (ParseFault::Memory, 1),
+    (ParseFault::TokenInText, 2),
+    (ParseFault::Ended, 3),
+    (ParseFault::Shape, 4),
+    (ParseFault::Failed, 5),
+];
 
 #[test]
 fn faults_have_their_numbers(rt: HostRuntime) {
-    let cases = [
-        (ParseFault::Memory, 1),
-        (ParseFault::TokenInText, 2),
-        (ParseFault::Ended, 3),
-        (ParseFault::Shape, 4),
-        (ParseFault::Failed, 5),
-    ];
-    for (fault, want) in cases {
+    for &(fault, want) in FAULTS {
         assert_eq!(rt; fault as u8, want);
     }
     assert_eq!(rt; ParseFault::from(AllocError), ParseFault::Memory);
-}
-
-#[test]
-fn plain_types(rt: HostRuntime) -> Result<(), Fail> {
-    let flags = ElementFlags::default();
-    assert!(rt; !flags.template);
-    assert!(rt; !flags.mathml_annotation_xml_integration_point);
-    assert!(rt; !flags.had_duplicate_attributes);
-    assert!(rt; QuirksMode::Quirks != QuirksMode::NoQuirks);
-    assert!(rt; QuirksMode::LimitedQuirks == QuirksMode::LimitedQuirks);
-    let result: TokenizerResult<u8> = TokenizerResult::EncodingIndicator(text(
-        rt.alloc(),
-        "utf-8",
-    )?);
-    match result {
-        TokenizerResult::EncodingIndicator(encoding) => assert_eq!(rt; encoding.as_str(), "utf-8"),
-        TokenizerResult::Done | TokenizerResult::Script(_) => assert!(rt; false),
-    }
-    Ok(())
 }

@@ -1,182 +1,14 @@
-//! The queue of characters, beside the plain one and on worked rows.
-mod listed_queue;
+//! Worked values of the queue of characters, each public call on the way.
 
 use html_queue::{BufferQueue, SetResult, SmallCharSet};
-use listed_queue::ListedQueue;
 use markup::ParseFault;
 use std::alloc::Global;
-use std::process::Abort;
 use std::test::Fail;
 
 const ANGLE: SmallCharSet = SmallCharSet { bits: 1 << 60 };
 
-/// The characters of which the texts below are made.
-const ALPHABET: [char; 3] = ['a', '<', '\u{e9}'];
-
-/// How many texts there are of 0 to 4 of these characters.
-const TEXTS: &[(u32, u32)] = &[(0, 1), (1, 3), (2, 9), (3, 27), (4, 81)];
-
-fn text_of(alloc: Global, length: u32, number: u32) -> Result<String, ParseFault> {
-    let mut text = String::new(alloc);
-    let mut left = number;
-    for _place in 0..length {
-        text.push(ALPHABET[(left % 3) as usize])?;
-        left /= 3;
-    }
-    Ok(text)
-}
-
 /// Above the number of characters that stand in any queue below.
 const LONGEST: u32 = 12;
-
-#[derive(Clone, Copy, Debug)]
-enum Call {
-    IsEmpty,
-    Peek,
-    Next,
-    PushBack(&'static str),
-    PushFront(&'static str),
-    PopExceptFrom,
-    Eat(&'static str),
-    EatInAnyCase(&'static str),
-    SwapWith(&'static str),
-    ReplaceWith(&'static str),
-}
-
-const CALLS: &[Call] = &[
-    Call::IsEmpty,
-    Call::Peek,
-    Call::Next,
-    Call::PushBack(""),
-    Call::PushBack("\u{e9}a"),
-    Call::PushFront(""),
-    Call::PushFront("a"),
-    Call::PushFront("<\u{e9}"),
-    Call::PushFront("a\u{e9}<a"),
-    Call::PopExceptFrom,
-    Call::Eat(""),
-    Call::Eat("a"),
-    Call::Eat("a<"),
-    Call::Eat("<a<"),
-    Call::Eat("aaaaa"),
-    Call::EatInAnyCase("A"),
-    Call::EatInAnyCase("<A"),
-    Call::SwapWith(""),
-    Call::SwapWith("\u{e9}<"),
-    Call::ReplaceWith(""),
-    Call::ReplaceWith("\u{e9}<"),
-];
-
-/// One queue in both forms.
-#[derive(Drop)]
-struct Both {
-    queue: BufferQueue,
-    listed: ListedQueue,
-}
-
-impl Both {
-    fn new(alloc: Global) -> Both {
-        Both {
-            queue: BufferQueue::new(),
-            listed: ListedQueue::new(alloc),
-        }
-    }
-
-    fn push_back(&mut self, alloc: Global, text: &str) -> Result<(), ParseFault> {
-        self.queue.push_back(String::from_str(alloc, text)?)?;
-        self.listed.push_back(String::from_str(alloc, text)?)
-    }
-
-    fn push_front(&mut self, alloc: Global, text: &str) -> Result<(), ParseFault> {
-        self.queue.push_front(String::from_str(alloc, text)?)?;
-        self.listed.push_front(String::from_str(alloc, text)?)
-    }
-
-    /// Makes the call on both, and sees that they answer alike.
-    fn call(&mut self, rt: &impl Abort, alloc: Global, call: Call) -> Result<(), ParseFault> {
-        match call {
-            Call::IsEmpty => assert!(rt; self.queue.is_empty() == self.listed.is_empty()),
-            Call::Peek => assert!(rt; self.queue.peek() == self.listed.peek()),
-            Call::Next => assert!(rt; self.queue.next() == self.listed.next()),
-            Call::PushBack(text) => self.push_back(alloc, text)?,
-            Call::PushFront(text) => self.push_front(alloc, text)?,
-            Call::PopExceptFrom => {
-                let taken = self.queue.pop_except_from(ANGLE)?;
-                assert!(rt; taken == self.listed.pop_except_from(ANGLE)?);
-            }
-            Call::Eat(pattern) => {
-                assert!(rt; pattern.is_ascii());
-                let eaten = self.queue.eat(pattern, |x, y| x == y);
-                assert!(rt; eaten == self.listed.eat(pattern, |x, y| x == y));
-            }
-            Call::EatInAnyCase(pattern) => {
-                assert!(rt; pattern.is_ascii());
-                let eaten = self.queue.eat(pattern, u8::eq_ignore_ascii_case);
-                assert!(rt; eaten == self.listed.eat(pattern, u8::eq_ignore_ascii_case));
-            }
-            Call::SwapWith(text) => {
-                let mut other = Both::new(alloc);
-                other.push_back(alloc, text)?;
-                self.queue.swap_with(&mut other.queue);
-                self.listed.swap_with(&mut other.listed);
-                other.drain(rt);
-            }
-            Call::ReplaceWith(text) => {
-                let mut other = Both::new(alloc);
-                other.push_back(alloc, text)?;
-                let Both { queue, listed } = other;
-                self.queue.replace_with(queue);
-                self.listed.replace_with(listed);
-            }
-        }
-        Ok(())
-    }
-
-    /// Takes what is left in both, and sees that it is the same.
-    fn drain(&mut self, rt: &impl Abort) {
-        for _place in 0..LONGEST {
-            assert!(rt; self.queue.next() == self.listed.next());
-        }
-        assert!(rt; self.queue.is_empty() && self.listed.is_empty());
-    }
-}
-
-#[test]
-fn answers_as_the_list_of_texts_does(rt: HostRuntime) -> Result<(), Fail> {
-    let alloc = rt.alloc();
-    for &(first_length, first_count) in TEXTS {
-        for &(second_length, second_count) in TEXTS {
-            if first_length + second_length > 4 {
-                continue;
-            }
-            for first in 0..first_count {
-                let first = text_of(alloc, first_length, first)?;
-                for second in 0..second_count {
-                    let second = text_of(alloc, second_length, second)?;
-                    compare(&rt, alloc, first.as_str(), second.as_str())?;
-                }
-            }
-        }
-    }
-    Ok(())
-}
-
-/// Makes every call on a queue of two texts, of which none, one or two characters were taken.
-fn compare(rt: &impl Abort, alloc: Global, first: &str, second: &str) -> Result<(), ParseFault> {
-    for &call in CALLS {
-        for taken in 0..3 {
-            let mut both = Both::new(alloc);
-            both.push_back(alloc, second)?;
-            both.push_front(alloc, first)?;
-            for _place in 0..taken {
-                both.call(rt, alloc, Call::Next)?;
-            }
-            both.call(rt, alloc, call)?;
-            both.drain(rt);
-        }
-    }
-    Ok(())
-}
 
 /// What stands in the queue, which is empty afterwards.
 fn left(alloc: Global, queue: &mut BufferQueue) -> Result<String, ParseFault> {
@@ -236,50 +68,56 @@ fn puts_back_what_was_taken(rt: HostRuntime) -> Result<(), Fail> {
     Ok(())
 }
 
-#[test]
-fn takes_runs_and_members(rt: HostRuntime) -> Result<(), Fail> {
-    let alloc = rt.alloc();
+/// A text, what is taken first of a queue that holds it, and what stands there then.
+const TAKEN: &[(&str, &str, &str)] = &[
+    ("", "nothing", ""),
+    ("<", "the member <", ""),
+    ("&&a", "the member &", "&a"),
+    ("\0a", "the member \0", "a"),
+    ("a", "the run a", ""),
+    ("ab<c", "the run ab", "<c"),
+    ("|f@<c", "the run |f@", "<c"),
+    ("\u{e9}\u{20ac}&", "the run \u{e9}\u{20ac}", "&"),
+];
+
+/// What is taken first of a queue, by the set of NUL, `&` and `<`, in words.
+fn taken(alloc: Global, queue: &mut BufferQueue) -> Result<String, ParseFault> {
     let set = SmallCharSet {
         bits: 1 << 60 | 1 << 38 | 1,
     };
-    let rows = [
-        ("", "", ""),
-        ("<", "<", ""),
-        ("&&a", "&", "&a"),
-        ("\0a", "\0", "a"),
-        ("a", "a", ""),
-        ("ab<c", "ab", "<c"),
-        ("|f@<c", "|f@", "<c"),
-        ("\u{e9}\u{20ac}&", "\u{e9}\u{20ac}", "&"),
-    ];
-    for (text, want, rest) in rows {
+    Ok(match queue.pop_except_from(set)? {
+        None => String::from_str(alloc, "nothing")?,
+        Some(SetResult::FromSet(c)) => format!(in alloc; "the member {c}")?,
+        Some(SetResult::NotFromSet(run)) => format!(in alloc; "the run {}", run.as_str())?,
+    })
+}
+
+#[test]
+fn takes_runs_and_members(rt: HostRuntime) -> Result<(), Fail> {
+    let alloc = rt.alloc();
+    for &(text, want, rest) in TAKEN {
         let mut queue = queue_of(alloc, text)?;
-        match queue.pop_except_from(set)? {
-            None => assert!(rt; text.is_empty()),
-            Some(SetResult::FromSet(c)) => assert!(rt; want.chars().next() == Some(c), "{text}"),
-            Some(SetResult::NotFromSet(run)) => {
-                assert!(rt; run.as_str() == want, "{text}");
-                assert!(rt; !run.as_str().starts_with("<") && !run.as_str().starts_with("&"));
-            }
-        }
+        assert!(rt; taken(alloc, &mut queue)?.as_str() == want, "{text}");
         assert!(rt; left(alloc, &mut queue)?.as_str() == rest, "{text}");
     }
     Ok(())
 }
 
+/// A text, what eating `doctype` answers of it, and what is left.
+const EATEN: &[(&str, Option<bool>, &str)] = &[
+    ("doctype x", Some(true), " x"),
+    ("DocType", Some(true), ""),
+    ("doctyp", None, "doctyp"),
+    ("", None, ""),
+    ("dxctype", Some(false), "dxctype"),
+    ("d\u{e9}", Some(false), "d\u{e9}"),
+    ("x", Some(false), "x"),
+];
+
 #[test]
 fn eats_a_whole_pattern_or_nothing(rt: HostRuntime) -> Result<(), Fail> {
     let alloc = rt.alloc();
-    let rows = [
-        ("doctype x", Some(true), " x"),
-        ("DocType", Some(true), ""),
-        ("doctyp", None, "doctyp"),
-        ("", None, ""),
-        ("dxctype", Some(false), "dxctype"),
-        ("d\u{e9}", Some(false), "d\u{e9}"),
-        ("x", Some(false), "x"),
-    ];
-    for (text, want, rest) in rows {
+    for &(text, want, rest) in EATEN {
         let mut queue = queue_of(alloc, text)?;
         assert!(rt;
             queue.eat("doctype", u8::eq_ignore_ascii_case) == want,

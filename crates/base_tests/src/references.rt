@@ -123,54 +123,6 @@ fn the_five_stand_for_their_characters(rt: HostRuntime) -> Result<(), Fail> {
 }
 
 #[test]
-fn the_longest_name_is_found(rt: HostRuntime) -> Result<(), Fail> {
-    let table = lookups(rt.alloc())?;
-    let cases = [
-        ("", None),
-        ("no", None),
-        ("not", Some("not")),
-        ("notit;", Some("not")),
-        ("notin", Some("not")),
-        ("notin;", Some("notin;")),
-        ("notin; x", Some("notin;")),
-        ("noé", None),
-        ("noté", Some("not")),
-        ("x", None),
-        ("NOT", None),
-    ];
-    for (text, name) in cases {
-        assert_eq!(rt; table.longest(text).map(|row| row.name.as_str()), name);
-    }
-    Ok(())
-}
-
-#[test]
-fn names_go_on(rt: HostRuntime) -> Result<(), Fail> {
-    let table = lookups(rt.alloc())?;
-    let cases = [
-        ("", true),
-        ("n", true),
-        ("not", true),
-        ("noti", true),
-        ("notin", true),
-        ("notin;", false),
-        ("notx", false),
-        ("m", false),
-        ("o", false),
-        ("é", false),
-    ];
-    for (held, goes_on) in cases {
-        assert_eq!(rt; table.goes_on(held), goes_on, "behind {held}");
-    }
-    assert_eq!(rt; table_without_rows(rt.alloc())?.goes_on(""), false);
-    Ok(())
-}
-
-fn table_without_rows(alloc: Global) -> Result<References, TableFault> {
-    table(alloc, &[])
-}
-
-#[test]
 fn refused_memory_is_told(rt: HostRuntime) {
     let made = lookups(rt.alloc());
     match made.and_then(|table| table.copy(rt.alloc())) {

@@ -3,7 +3,7 @@
 mod sinks;
 mod tags;
 
-use html_tokens::states::{RawKind, ScriptEscapeKind, State};
+use html_tokens::states::State;
 use html_tokens::{Doctype, ReferenceRow, TokenizerOpts};
 use markup::{ParseFault, Text};
 use std::alloc::Global;
@@ -37,26 +37,6 @@ fn options_are_copied(rt: HostRuntime) -> Result<(), Fail> {
     let name = copied.last_start_tag_name.ok_or("no name")?;
     assert_eq!(rt; name.as_str(), "title");
     Ok(())
-}
-
-#[test]
-fn five_states_read_text(rt: HostRuntime) {
-    let states = [
-        (State::Data, true),
-        (State::Plaintext, true),
-        (State::RawData(RawKind::Rcdata), true),
-        (State::RawData(RawKind::Rawtext), true),
-        (State::RawData(RawKind::ScriptData), true),
-        (
-            State::RawData(RawKind::ScriptDataEscaped(ScriptEscapeKind::Escaped)),
-            false,
-        ),
-        (State::TagOpen, false),
-        (State::CdataSection, false),
-    ];
-    for (state, is_text_state) in states {
-        assert_eq!(rt; state.is_text_state(), is_text_state, "{state:?}");
-    }
 }
 
 #[test]

@@ -1,5 +1,5 @@
 //! A forest of nodes in a vector.
-ghost use Rattle.std.specs.Prelude.{◌≡◌, ◌≤◌, ℕ, IsSome, IfSome, IfOk, IfErr, OnOk, OnErr, None, Some, true, codes, is_some, nat_lt};
+ghost use Rattle.std.specs.Prelude.{◌≡◌, ◌≤◌, ℕ, IsSome, IfSome, IfOk, IfErr, OnOk, OnErr, None, Some, true, false, codes, is_some, nat_lt};
 ghost use Rattle.markup.specs.declared.fault.ParseFault.TheVariants.{Memory};
 ghost use Rattle.html_forest.specs.Views.{contents_in, data_view, joined_if, place_view};
 
@@ -44,7 +44,7 @@ impl Forest {
     ghost use Rattle.markup.specs.Names.{is_html_name};
     ghost use Rattle.html_plain.specs.Grammar.{is_plain_forest};
     ghost use Rattle.markup.specs.Named.{HasContents, IsOrdinary};
-    ghost use Rattle.markup.specs.Forest.NodeData.{Contents, Element};
+    ghost use Rattle.markup.specs.Forest.NodeData.{Contents, Element, Text as TextNode};
     ghost use Rattle.markup.specs.Forest.{IsForest, IsLoose, IsPlace, MayPut, children_of, contents_of, data_if, data_of, empty_forest, node_count, parent_at, parent_of, place_before, place_near, previous_at, put, put_child, put_new, put_text, text_of, with_node};
 
     /// A document with nothing in it, in no quirks mode and with no error. It grows in the memory of `alloc`.
@@ -159,6 +159,46 @@ impl Forest {
         Ok(made)
     }
 
+    /// Makes an element that is no template. Its room is made before the node, so that the node is written where it stays.
+    fn create_ordinary(
+        &mut self,
+        name: QualName,
+        attrs: Attributes,
+        integration_point: bool,
+    ) -> Result<NodeId, ParseFault>
+        requires { IsOrdinary (Element name attrs false integration_point) }
+        ensures named { IfOk result (λ made. made ≡ node_count self.old) }
+        ensures ok { OnOk result (self.new ≡ with_node self.old (Element name attrs false integration_point)) }
+        ensures err { OnErr result (self.new ≡ self.old) }
+        ensures fault { IfErr result (λ fault. fault ≡ Memory) }
+    {
+        let made = NodeId::new(self.nodes.len());
+        self.nodes.reserve(1)?;
+        add_node(
+            &mut self.nodes,
+            NodeData::Element {
+                name,
+                attrs,
+                template_contents: None,
+                integration_point,
+            },
+        );
+        Ok(made)
+    }
+
+    /// Makes a text node, as `create_ordinary` makes an element.
+    fn create_text(&mut self, text: Text) -> Result<NodeId, ParseFault>
+        ensures named { IfOk result (λ made. made ≡ node_count self.old) }
+        ensures ok { OnOk result (self.new ≡ with_node self.old (TextNode text)) }
+        ensures err { OnErr result (self.new ≡ self.old) }
+        ensures fault { IfErr result (λ fault. fault ≡ Memory) }
+    {
+        let made = NodeId::new(self.nodes.len());
+        self.nodes.reserve(1)?;
+        add_node(&mut self.nodes, NodeData::Text(text));
+        Ok(made)
+    }
+
     /// Makes a template, and the node of its contents.
     fn create_template(
         &mut self,
@@ -245,6 +285,19 @@ impl Forest {
         Ok(())
     }
 
+    /// Makes a text node at a place.
+    fn put_new_text(&mut self, place: &Place, text: Text) -> Result<(), ParseFault>
+        requires { IsPlace self.old (place_view place.now) }
+        ensures ok { OnOk result (self.new ≡ put_new self.old (place_view place.now) (TextNode text)) }
+        ensures err { OnErr result (self.new ≡ self.old) }
+        ensures fault { IfErr result (λ fault. fault ≡ Memory) }
+    {
+        let _nodes = &self.nodes;
+        let made = self.create_text(text)?;
+        self.put(place, made);
+        Ok(())
+    }
+
     /// Adds text at the end of the text just before a place, and says whether one stands there.
     fn join_text(&mut self, place: &Place, text: &Text) -> Result<bool, ParseFault>
         requires { IsPlace self.old (place_view place.now) }
@@ -272,7 +325,7 @@ impl Forest {
         if self.join_text(place, &text)? {
             return Ok(());
         }
-        self.put_new(place, NodeData::Text(text))
+        self.put_new_text(place, text)
     }
 
     /// Puts a node or text at a place.
@@ -368,12 +421,7 @@ impl TreeSink for Forest {
         if flags.template {
             self.create_template(name, attrs, integration_point)
         } else {
-            self.create(NodeData::Element {
-                name,
-                attrs,
-                template_contents: None,
-                integration_point,
-            })
+            self.create_ordinary(name, attrs, integration_point)
         }
     }
 

@@ -85,6 +85,30 @@ const ROWS: &[Row] = &[
         "<meta charset=\"UTF-8\" /><script>a</script><svg xlink:href=b>c&am;<title>d</title></svg><b>e<p>f</b>g",
         "<html><head><meta charset=\"UTF-8\"><script>a</script></head><body><svg xlink:href=\"b\">c&amp;am;<title>d</title></svg><b>e</b><p><b>f</b>g</p></body></html>",
     ),
+    (
+        "<!doctype html><title>a</title><p class=b>c<!--d-->",
+        "<!DOCTYPE html><html><head><title>a</title></head><body><p class=\"b\">c<!--d--></p></body></html>",
+    ),
+    (
+        "<b>1<i>2<p>3</b>4</i>5",
+        "<html><head></head><body><b>1<i>2</i></b><i></i><p><i><b>3</b>4</i>5</p></body></html>",
+    ),
+    (
+        "<table>a<tr><td>b<table> c",
+        "<html><head></head><body>a<table><tbody><tr><td>b c<table></table></td></tr></tbody></table></body></html>",
+    ),
+    (
+        "<svg viewbox=a><g/></svg><math><mi>b",
+        "<html><head></head><body><svg viewBox=\"a\"><g></g></svg><math><mi>b</mi></math></body></html>",
+    ),
+    (
+        "<template><tr><td>a</template><frameset><frame>",
+        "<html><head><template><tr><td>a</td></tr></template></head><frameset><frame></frameset></html>",
+    ),
+    (
+        "<a href=b>c<a>d<form><select><option>e</form><script>f",
+        "<html><head></head><body><a href=\"b\">c</a><a>d<form><select><option>e<script>f</script></option></select></form></a></body></html>",
+    ),
 ];
 
 #[test]

@@ -1,12 +1,12 @@
 -- Texts that names of a table begin with, and what no name begins with.
-use Rattle.std.proofs.Common.{◌≡◌, ◌∙◌, ℕ, ◌<◌, suc, zero, Bool, true, false, List, [], ◌∷◌, ◌++◌, length, Option, Some, None, refl, sym, ap, arith}
-use Rattle.std.specs.Prelude.{nat_eq, nat_lt, ◌&&◌, ◌||◌, IfSome, IfNone}
+use Rattle.std.proofs.Common.{◌≡◌, ◌∙◌, ℕ, ◌<◌, suc, zero, Bool, true, false, List, [], ◌∷◌, ◌++◌, length, refl, sym, ap, arith}
+use Rattle.std.specs.Prelude.{nat_eq, nat_lt, ◌&&◌, ◌||◌, slice_index}
 use Rattle.std.specs.List.{starts_with}
 use Rattle.std.specs.Str.{bytes_eq, IsUtf8, chars}
 use Rattle.std.proofs.lemmas.Bool.{lt-ltb, or_parts}
 use Rattle.std.proofs.lemmas.Bool.Decides.{nat_tests}
 use Rattle.markup.specs.Plain.{is_plain}
-use Rattle.html_references.specs.Order.{IsOrder, name_at}
+use Rattle.html_references.specs.Order.{IsOrder, name_at, ordered_name}
 use Rattle.html_references.specs.References.{goes_on, goes_on_behind, is_front, is_named, longest}
 use Rattle.html_references.proofs.Begins.{fitting-is}
 use Rattle.html_references.proofs.Longest.{named_at}
@@ -97,16 +97,12 @@ named-place (row ∷ rows) (suc place) l = or-last _ _ (named-place rows place (
 front-named : (rows : List ReferenceRow) (place : ℕ) (text : List ℕ) → place < length rows → name_at rows place ≡ text → is_front rows text ≡ true
 front-named rows place text l e = front-or rows text ∙ or-true (is_named rows text) (goes_on rows text) (ap (is_named rows) (sym e) ∙ named-place rows place l)
 
-pub front-found : (rows : List ReferenceRow) (text : List ℕ) (found : Option ℕ) (place : ℕ) → found ≡ Some place → IfSome found (λ place. (place < length rows) × (name_at rows place ≡ text)) → true ≡ is_front rows text
-front-found rows text None place e h = absurd cc
-front-found rows text (Some at) place e h = sym (front-named rows at text h.0 h.1)
+-- a name of the order is a front
+pub front-found : (rows : List ReferenceRow) (order text : List ℕ) (index : ℕ) → IsOrder rows order → index < length order → ordered_name rows order index ≡ text → true ≡ is_front rows text
+front-found rows order text index o l e = sym (front-named rows (slice_index order index) text (o.ordered.within index l) e)
 
-front-unnamed : (rows : List ReferenceRow) (text : List ℕ) → is_named rows text ≡ false → goes_on rows text ≡ is_front rows text
+pub front-unnamed : (rows : List ReferenceRow) (text : List ℕ) → is_named rows text ≡ false → goes_on rows text ≡ is_front rows text
 front-unnamed rows text e = sym (front-or rows text ∙ ap (λ b. b || goes_on rows text) e)
-
-pub front-absent : (rows : List ReferenceRow) (text : List ℕ) (found : Option ℕ) → found ≡ None → IfNone found (is_named rows text ≡ false) → goes_on rows text ≡ is_front rows text
-front-absent rows text None e h = front-unnamed rows text h
-front-absent rows text (Some at) e h = absurd cc
 
 front_is_plain : (rows : List ReferenceRow) (order : List ℕ) → IsOrder rows order → (text : List ℕ) → is_front rows text ≡ true → is_plain text ≡ true
 front_is_plain rows order o text g =

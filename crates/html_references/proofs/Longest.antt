@@ -157,6 +157,18 @@ pub longest-none : (rows : List ReferenceRow) (order : List ℕ) → IsOrder row
 longest-none rows order o =
     sym (longest-nil rows (λ place l e. no_empty_name (rw e at (named_at rows order o place l))))
 
+-- where the whole text is a name, that is the longest
+pub longest-whole : (rows : List ReferenceRow) (order text : List ℕ) (place : ℕ) → IsOrder rows order → place < length rows → name_at rows place ≡ text → slice_get rows place ≡ longest rows text
+longest-whole rows order [] place o l e = absurd (no_empty_name (rw e at (named_at rows order o place l)))
+longest-whole rows order (c ∷ cs) place o l e =
+    sym (longest-named rows place (c ∷ cs) l e (omega arith) (λ p m same. same_place rows order o p place m l (same ∙ sym e)))
+
+pub longest-found : (rows : List ReferenceRow) (order text : List ℕ) (found : Option ℕ) (place : ℕ) → IsOrder rows order → found ≡ Some place → IfSome found (λ place. (place < length rows) × (name_at rows place ≡ text)) → slice_get rows place ≡ longest rows text
+longest-found rows order text None place o is f = absurd cc
+longest-found rows order text (Some at) place o is f =
+    let same : place ≡ at = cc in
+    rw same (longest-whole rows order text at o f.0 f.1)
+
 -- a turn of the search for the longest name: a name of one character more, or else the one so far
 pub longest-more : (rows : List ReferenceRow) (order text : List ℕ) (end : ℕ) (found before : Option ℕ) → IsOrder rows order → end < length text → IfSome found (λ place. (place < length rows) × (name_at rows place ≡ take (end + 1) text)) → IfNone found (is_named rows (take (end + 1) text) ≡ false) → option_and_then (slice_get rows) before ≡ longest rows (take end text) → option_and_then (slice_get rows) (option_or found before) ≡ longest rows (take (end + 1) text)
 longest-more rows order text end None before o l f a h =

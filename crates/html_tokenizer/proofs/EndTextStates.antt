@@ -164,10 +164,10 @@ module _ {K H : Type 0} (Sink : Ghosts K H) (laws : SinkLaws Sink.is_sound Sink.
 
   -- "<" in raw text is read as text
   raw_open-item : (k : Tokenizer K) (kind : RawKind) (x : Bool) → ends_at_tag kind ≡ true → item (rows_of k) x (standing k (InRaw kind)) 60 [] ≡ character 60 (standing k (InRaw kind))
-  raw_open-item k raw.Rcdata x e = rw (unfit-nothing k.last_start_tag) refl
-  raw_open-item k raw.Rawtext x e = rw (unfit-nothing k.last_start_tag) refl
-  raw_open-item k raw.ScriptData x e = rw (unfit-nothing k.last_start_tag) refl
-  raw_open-item k (raw.ScriptDataEscaped script.Escaped) x e = rw (unfit-nothing k.last_start_tag) refl
+  raw_open-item k raw.Rcdata x e = rw (unfit-nothing k.raw_end.name) refl
+  raw_open-item k raw.Rawtext x e = rw (unfit-nothing k.raw_end.name) refl
+  raw_open-item k raw.ScriptData x e = rw (unfit-nothing k.raw_end.name) refl
+  raw_open-item k (raw.ScriptDataEscaped script.Escaped) x e = rw (unfit-nothing k.raw_end.name) refl
   raw_open-item k (raw.ScriptDataEscaped script.DoubleEscaped) x e = absurd cc
 
   -- so it is to come, and then the end
@@ -204,7 +204,7 @@ module _ {K H : Type 0} (Sink : Ghosts K H) (laws : SinkLaws Sink.is_sound Sink.
   unfolding reading_from
   raw_name-read k kind word b s h w =
       end_tag-run Sink laws k kind word b s h [] w
-      (ap (λ u. ends_at_tag kind && is_fitting_end k.last_start_tag (47 ∷ u)) (append-nil word) ∙ rw (unfit-last k.last_start_tag word w) (and-none (ends_at_tag kind)))
+      (ap (λ u. ends_at_tag kind && is_fitting_end k.raw_end.name (47 ∷ u)) (append-nil word) ∙ rw (unfit-last k.raw_end.name word w) (and-none (ends_at_tag kind)))
       ∙ ap (λ kind. noting Sink.step Sink.is_quiet s (CharacterTokens (60 ∷ 47 ∷ word)) (line_number b) >>= λ p. reads Sink (rows_of k) (standing k (InRaw kind)) b p.0 []) (slash-behind kind word w)
 
   -- the same by the states behind "</" and behind the letters
@@ -212,9 +212,9 @@ module _ {K H : Type 0} (Sink : Ghosts K H) (laws : SinkLaws Sink.is_sound Sink.
   unfolding held_at
   raw_end_open-last k kind b s h = raw_name-read k kind [] b s h refl
 
-  raw_name-last : (k : Tokenizer K) (kind : RawKind) → list_all is_ascii_alphabetic k.word ≡ true → TellsThen Sink (slight_if (is_escaped_kind kind)) (state.RawEndTagName kind) k (CharacterTokens (60 ∷ 47 ∷ k.word))
+  raw_name-last : (k : Tokenizer K) (kind : RawKind) → list_all is_ascii_alphabetic k.raw_end.letters ≡ true → TellsThen Sink (slight_if (is_escaped_kind kind)) (state.RawEndTagName kind) k (CharacterTokens (60 ∷ 47 ∷ k.raw_end.letters))
   unfolding held_at
-  raw_name-last k kind w b s h = raw_name-read k kind k.word b s h w
+  raw_name-last k kind w b s h = raw_name-read k kind k.raw_end.letters b s h w
 
   -- they were text
   pub raw_end_open-closes : (old mid new : Tokenizer K) (kind : RawKind) (result : Result (Unit {0}) ParseFault) → IsAt old (state.RawEndTagOpen kind) → Sink.is_sound (Sink.view old.sink) → Told Sink nothing_owed (CharacterTokens (60 ∷ 47 ∷ [])) old mid → Errs Sink (owed_for (grave_if (is_escaped mid.state))) mid new result → Closes Sink old new result
@@ -223,11 +223,11 @@ module _ {K H : Type 0} (Sink : Ghosts K H) (laws : SinkLaws Sink.is_sound Sink.
   pub raw_end_open-untold : (old new : Tokenizer K) (kind : RawKind) (told : ParseFault) (result : Result (Unit {0}) ParseFault) → IsAt old (state.RawEndTagOpen kind) → Sink.is_sound (Sink.view old.sink) → Tells Sink nothing_owed (CharacterTokens (60 ∷ 47 ∷ [])) old new (Err told) → IsErrAnd result (λ y. y ≡ told) → Closes Sink old new result
   raw_end_open-untold old new kind told result from ok fails is = closes_untold Sink (slight_if (is_escaped_kind kind)) old new (state.RawEndTagOpen kind) (CharacterTokens (60 ∷ 47 ∷ [])) told result from ok (raw_end_open-last old kind) fails is
 
-  pub raw_name-closes : (old mid new : Tokenizer K) (kind : RawKind) (result : Result (Unit {0}) ParseFault) → IsAt old (state.RawEndTagName kind) → Sink.is_sound (Sink.view old.sink) → list_all is_ascii_alphabetic old.word ≡ true → Told Sink nothing_owed (CharacterTokens (60 ∷ 47 ∷ old.word)) old mid → Errs Sink (owed_for (grave_if (is_escaped mid.state))) mid new result → Closes Sink old new result
-  raw_name-closes old mid new kind result from ok w told errs = closes_then Sink (slight_if (is_escaped_kind kind)) (owed_for (grave_if (is_escaped mid.state))) old mid new (state.RawEndTagName kind) (CharacterTokens (60 ∷ 47 ∷ old.word)) result (escaped-less old mid (state.RawEndTagName kind) from told.changed) from ok (raw_name-last old kind w) told errs
+  pub raw_name-closes : (old mid new : Tokenizer K) (kind : RawKind) (result : Result (Unit {0}) ParseFault) → IsAt old (state.RawEndTagName kind) → Sink.is_sound (Sink.view old.sink) → list_all is_ascii_alphabetic old.raw_end.letters ≡ true → Told Sink nothing_owed (CharacterTokens (60 ∷ 47 ∷ old.raw_end.letters)) old mid → Errs Sink (owed_for (grave_if (is_escaped mid.state))) mid new result → Closes Sink old new result
+  raw_name-closes old mid new kind result from ok w told errs = closes_then Sink (slight_if (is_escaped_kind kind)) (owed_for (grave_if (is_escaped mid.state))) old mid new (state.RawEndTagName kind) (CharacterTokens (60 ∷ 47 ∷ old.raw_end.letters)) result (escaped-less old mid (state.RawEndTagName kind) from told.changed) from ok (raw_name-last old kind w) told errs
 
-  pub raw_name-untold : (old new : Tokenizer K) (kind : RawKind) (told : ParseFault) (result : Result (Unit {0}) ParseFault) → IsAt old (state.RawEndTagName kind) → Sink.is_sound (Sink.view old.sink) → list_all is_ascii_alphabetic old.word ≡ true → Tells Sink nothing_owed (CharacterTokens (60 ∷ 47 ∷ old.word)) old new (Err told) → IsErrAnd result (λ y. y ≡ told) → Closes Sink old new result
-  raw_name-untold old new kind told result from ok w fails is = closes_untold Sink (slight_if (is_escaped_kind kind)) old new (state.RawEndTagName kind) (CharacterTokens (60 ∷ 47 ∷ old.word)) told result from ok (raw_name-last old kind w) fails is
+  pub raw_name-untold : (old new : Tokenizer K) (kind : RawKind) (told : ParseFault) (result : Result (Unit {0}) ParseFault) → IsAt old (state.RawEndTagName kind) → Sink.is_sound (Sink.view old.sink) → list_all is_ascii_alphabetic old.raw_end.letters ≡ true → Tells Sink nothing_owed (CharacterTokens (60 ∷ 47 ∷ old.raw_end.letters)) old new (Err told) → IsErrAnd result (λ y. y ≡ told) → Closes Sink old new result
+  raw_name-untold old new kind told result from ok w fails is = closes_untold Sink (slight_if (is_escaped_kind kind)) old new (state.RawEndTagName kind) (CharacterTokens (60 ∷ 47 ∷ old.raw_end.letters)) told result from ok (raw_name-last old kind w) fails is
 
   -- in a CDATA section "]" or "]]" is to come, and then the end, which cuts it off
   bracket-last : (k : Tokenizer K) → TellsThen Sink (Some Grave) state.CdataSectionBracket k (CharacterTokens (93 ∷ []))

@@ -65,6 +65,19 @@ module _ {K H : Type 0} (Sink : Ghosts K H) where
   errs-less n old new (Ok x) less h = record { sink = h.sink; changed = h.changed; stays = h.stays; rises = rises-less Sink.errors old.sink new.sink less h.rises }
   errs-less n old new (Err fault) less h = h
 
+  -- Errors were told, and then more were to be.
+  pub errs-then : {m : Owed} (k n : Owed) (old mid new : Tokenizer K) (result : Result (Unit {0}) ParseFault) → IsNoMore n (together k m) → Erred Sink m old mid → Errs Sink k mid new result → Errs Sink n old new result
+  errs-then k n old mid new (Ok x) less h more =
+      let both = erred-then old mid new h more in
+      record { sink = both.sink; changed = both.changed; stays = both.stays; rises = rises-less Sink.errors old.sink new.sink less both.rises }
+  errs-then k n old mid new (Err fault) less h more = (fell-behind Sink old.sink mid.sink new.sink h.stays more.0, λ token line. rw (← h.sink) (fails-before Sink old.sink mid.sink new.sink _ fault h.stays (more.1 token line)))
+
+  -- An error could not be told, so what was to be told was not.
+  pub errs-not : (n : Owed) (old new : Tokenizer K) (fault : ParseFault) (result : Result (Unit {0}) ParseFault) → Errs Sink nothing_owed old new (Err fault) → IsErrAnd result (λ y. y ≡ fault) → Errs Sink n old new result
+  errs-not n old new fault result fails is =
+      let p = err_from_is_err_and result is in
+      rw (p.1, p.2) fails
+
   -- Errors were told, and then one could not be told.
   pub errs-behind : {m : Owed} (n : Owed) (old mid new : Tokenizer K) (fault : ParseFault) (result : Result (Unit {0}) ParseFault) → Erred Sink m old mid → Errs Sink nothing_owed mid new (Err fault)
       → IsErrAnd result (λ y. y ≡ fault) → Errs Sink n old new result

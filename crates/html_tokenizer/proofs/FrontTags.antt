@@ -15,7 +15,7 @@ use Rattle.html_tokens.specs.declared.states.AttrValueKind.TheVariants as value
 use Rattle.html_tokens.specs.declared.states.State.TheVariants as state
 use Rattle.html_tokens.specs.declared.tags.TagKind.{TagKind}
 use Rattle.html_tokens.specs.declared.tags.TagKind.TheVariants.{StartTag, EndTag}
-use Rattle.html_tokens.specs.Characters.{ends_attribute_name, is_white_space, lowered}
+use Rattle.html_tokens.specs.Characters.{is_white_space, lowered}
 use Rattle.html_tokens.specs.Sink.{SinkLaws}
 use Rattle.html_tokens.specs.Tags.{named}
 use Rattle.html_tokenizer.specs.Calls.{TookRun}
@@ -34,17 +34,13 @@ use Rattle.html_tokenizer.proofs.Opens.{end-letter, open-letter, open-slash}
 use Rattle.html_tokenizer.proofs.Rises.{more-more, rises-same, rises-then}
 use Rattle.html_tokenizer.proofs.Sets.{differs, not-member}
 use Rattle.html_tokenizer.proofs.TagStates.{tag_name-more, tag_name-space}
-use Rattle.html_tokenizer.proofs.TextRuns.{run-held, took-then, value-run}
+use Rattle.html_tokenizer.proofs.TextRuns.{lowered-same, name-goes_on, run-held, took-then, value-run}
 use Rattle.html_tokenizer.proofs.TextStates.{data-opened}
 
 -- CHARACTERS
 
--- a character of a name that is no U+0000
-lowered-plain : (c : ℕ) → nat_eq c 0 ≡ false → lowered c ≡ to_ascii_lowercase c
-lowered-plain c e = grind (arith, nat_tests, e)
-
 -- what lacks a set with the line ends is unbroken
-lacks-breaks : (bits : ℕ) → has bits 10 ≡ true → has bits 13 ≡ true → (cs : List ℕ) → All (λ c. has bits c ≡ false) cs → IsUnbroken cs
+pub lacks-breaks : (bits : ℕ) → has bits 10 ≡ true → has bits 13 ≡ true → (cs : List ℕ) → All (λ c. has bits c ≡ false) cs → IsUnbroken cs
 lacks-breaks bits n r [] lacks = All-nil (λ c. (nat_eq c 10 ≡ false) × (nat_eq c 13 ≡ false))
 lacks-breaks bits n r (c ∷ cs) lacks =
     let first = All-head (λ c. has bits c ≡ false) c cs lacks in
@@ -62,10 +58,10 @@ unbroken-both a b f g = All-append (λ c. (nat_eq c 10 ≡ false) × (nat_eq c 1
 
 -- what a name is read as grows by a character
 lowered-more : (front : List ℕ) (c : ℕ) → nat_eq c 0 ≡ false → map to_ascii_lowercase (front ++ c ∷ []) ≡ map to_ascii_lowercase front ++ lowered c ∷ []
-lowered-more front c e = map-append to_ascii_lowercase front (c ∷ []) ∙ ap (λ d. map to_ascii_lowercase front ++ d ∷ []) (sym (lowered-plain c e))
+lowered-more front c e = map-append to_ascii_lowercase front (c ∷ []) ∙ ap (λ d. map to_ascii_lowercase front ++ d ∷ []) (sym (lowered-same c e))
 
 lowered-one : (c : ℕ) → nat_eq c 0 ≡ false → map to_ascii_lowercase (c ∷ []) ≡ lowered c ∷ []
-lowered-one c e = ap (λ d. d ∷ []) (sym (lowered-plain c e))
+lowered-one c e = ap (λ d. d ∷ []) (sym (lowered-same c e))
 
 letter-null : (c : ℕ) → is_ascii_alphabetic c ≡ true → nat_eq c 0 ≡ false
 letter-null c e = grind (arith, nat_tests, e)
@@ -82,11 +78,6 @@ letter-close c e = λ is. let clash : false ≡ true = rw is at e in absurd cc
 -- a character that is in neither set is no white space
 plain-space : (bits c : ℕ) → has bits 9 ≡ true → has bits 10 ≡ true → has bits 12 ≡ true → has bits 32 ≡ true → has bits c ≡ false → is_white_space c ≡ false
 plain-space bits c t n f s lacks = rw (not-member bits c 9 t lacks, not-member bits c 10 n lacks, not-member bits c 12 f lacks, not-member bits c 32 s lacks) refl
-
-attribute-goes_on : (c : ℕ) → has attribute_stops.bits c ≡ false → ends_attribute_name c ≡ false
-attribute-goes_on c lacks =
-    let bits = attribute_stops.bits in
-    rw (not-member bits c 9 refl lacks, not-member bits c 10 refl lacks, not-member bits c 12 refl lacks, not-member bits c 32 refl lacks, not-member bits c 47 refl lacks, not-member bits c 62 refl lacks, not-member bits c 61 refl lacks) refl
 
 some-same : (a b : ℕ) → Some a ≡ Some b → b ≡ a
 some-same a b e = cc
@@ -170,7 +161,7 @@ module _ {K H : Type 0} (Sink : Ghosts K H) where
   name-run : (old : Tokenizer K) (front run : List ℕ) → IsAt old state.BeforeAttributeName → Sink.is_sound (Sink.view old.sink) → Lacks attribute_stops run → TookRun Sink (naming old front) (naming old (front ++ run)) run
   name-run old front run from ok lacking =
       run-held Sink (naming old) attribute_stops.bits refl (λ front. ok) (λ front. fits-at (naming old front) state.AttributeName (record { state = refl; fresh = from.fresh }))
-      (λ front c lacks. name-more Sink (naming old front) c (map to_ascii_lowercase (front ++ c ∷ [])) (record { state = refl; fresh = from.fresh }) ok (attribute-goes_on c lacks) (lowered-more front c (not-member attribute_stops.bits c 0 refl lacks)))
+      (λ front c lacks. name-more Sink (naming old front) c (map to_ascii_lowercase (front ++ c ∷ [])) (record { state = refl; fresh = from.fresh }) ok (name-goes_on c lacks) (lowered-more front c (not-member attribute_stops.bits c 0 refl lacks)))
       front run lacking
 
   -- the machine behind an attribute's name and "="
@@ -218,7 +209,7 @@ module _ {K H : Type 0} (Sink : Ghosts K H) where
   space-took old (after_name from) ok = tag_name-space Sink old 32 from ok refl
   space-took old (after_value from) ok = value_behind Sink old (record old { state = state.BeforeAttributeName }) 32 (Ok flow.Continue) from (before-space Sink (record old { state = state.BeforeAttributeName }) 32 (record { state = refl; fresh = from.fresh }) ok refl)
 
-  in-tag-fresh : (k : Tokenizer K) → IsInTag k → k.char_ref ≡ None
+  pub in-tag-fresh : (k : Tokenizer K) → IsInTag k → k.char_ref ≡ None
   in-tag-fresh k (after_name from) = from.fresh
   in-tag-fresh k (after_value from) = from.fresh
 

@@ -11,7 +11,7 @@ use Rattle.html_tokens.specs.declared.tags.TagKind.TheVariants.{StartTag, EndTag
 use Rattle.html_tokenizer.specs.Fronts.{BeginsWithLetter, IsAttribute, IsFilled, IsQuoted, Lacks, attribute_stops, mark}
 
 -- an ASCII byte is a character
-ascii-one : (b : ℕ) → b < 128 → IsAscii (b ∷ [])
+pub ascii-one : (b : ℕ) → b < 128 → IsAscii (b ∷ [])
 ascii-one b low = IsAscii-cons b [] low (λ k. omega arith)
 
 pub utf8-cons : (b : ℕ) (bs : List ℕ) → b < 128 → IsUtf8 bs → IsUtf8 (b ∷ bs)
@@ -34,7 +34,7 @@ filled-by (c ∷ cs) bs e l = record { first = c; more = cs; split = refl }
 pub filled-chars : (bs : List ℕ) → IsUtf8 bs → 0 < length bs → IsFilled (chars bs)
 filled-chars bs u l = filled-by (chars bs) bs (encodes-chars bs u) l
 
-some-of : (n : ℕ) → (n == 0) ≡ false → 0 < n
+pub some-of : (n : ℕ) → (n == 0) ≡ false → 0 < n
 some-of zero e = absurd cc
 some-of (suc n) e = omega arith
 

@@ -10,11 +10,14 @@ use Rattle.std.proofs.lemmas.List.Elements.{All-tail}
 use Rattle.std.proofs.lemmas.Slice.Eq.{ends_is}
 use Rattle.html_tokens.specs.declared.table.ReferenceRow.{ReferenceRow}
 use Rattle.html_references.specs.References.{IsCheckedTable, is_front, is_reference_name, stem}
-use Rattle.html_tokenizer.specs.CharRefs.{are_digits, is_front_by, is_held, is_named_with, is_no_text, is_number_by, is_number_front, may_go_on, stops}
+use Rattle.html_tokenizer.specs.CharRefs.{are_digits, is_front_by, is_held, is_held_front, is_named_with, is_no_text, is_number_by, is_number_front, may_go_on, stops}
 
 pub or-cases : {P : Type 0} (a b : Bool) → (a || b) ≡ true → (a ≡ true → P) → (b ≡ true → P) → P
 or-cases true b h f g = f refl
 or-cases false b h f g = g h
+
+named-held : (c : ℕ) → is_named_with c ≡ true → is_held c ≡ true
+named-held c h = rw h refl
 
 -- NAMES
 
@@ -57,6 +60,45 @@ front-last (row ∷ rows) names cs c h =
     or-cases (starts_with nat_eq row.name (cs ++ c ∷ [])) (is_front rows (cs ++ c ∷ [])) h
     (λ s. last-named row.name cs c (name-named row.name (ends_with nat_eq row.name (59 ∷ [])) refl (names 0 row (omega arith))) s)
     (λ s. front-last rows (All-tail (λ row. IsTrue (is_reference_name row.name)) row rows names) cs c s)
+
+-- what a name begins with is letters, digits and ";"
+front-of : (name cs : List ℕ) → list_all is_named_with name ≡ true → starts_with nat_eq name cs ≡ true → list_all is_held cs ≡ true
+front-of name [] h s = refl
+front-of [] (c ∷ cs) h s = absurd (true≢false (sym s))
+front-of (n ∷ ns) (c ∷ cs) h s =
+    let p = and_parts (nat_eq c n) (starts_with nat_eq ns cs) s in
+    let q = and_parts (is_named_with n) (list_all is_named_with ns) h in
+    rw (ap is_held (eqb-true c n p.0) ∙ named-held n q.0, front-of ns cs q.1 p.1) refl
+
+names-front : (rows : List ReferenceRow) → All (λ row. IsTrue (is_reference_name row.name)) rows → (cs : List ℕ) → is_front rows cs ≡ true → list_all is_held cs ≡ true
+names-front [] names cs h = absurd (true≢false (sym h))
+names-front (row ∷ rows) names cs h =
+    or-cases (starts_with nat_eq row.name cs) (is_front rows cs) h
+    (λ s. front-of row.name cs (name-named row.name (ends_with nat_eq row.name (59 ∷ [])) refl (names 0 row (omega arith))) s)
+    (λ s. names-front rows (All-tail (λ row. IsTrue (is_reference_name row.name)) row rows names) cs s)
+
+first-named : (name : List ℕ) (h : ℕ) (hs : List ℕ) → list_all is_named_with name ≡ true → starts_with nat_eq name (h ∷ hs) ≡ true → is_named_with h ≡ true
+first-named [] h hs all s = absurd (true≢false (sym s))
+first-named (n ∷ ns) h hs all s =
+    ap is_named_with (eqb-true h n (and_parts (nat_eq h n) (starts_with nat_eq ns hs) s).0) ∙ (and_parts (is_named_with n) (list_all is_named_with ns) all).0
+
+front-first : (rows : List ReferenceRow) → All (λ row. IsTrue (is_reference_name row.name)) rows → (h : ℕ) (hs : List ℕ) → is_front rows (h ∷ hs) ≡ true → is_named_with h ≡ true
+front-first [] names h hs f = absurd (true≢false (sym f))
+front-first (row ∷ rows) names h hs f =
+    or-cases (starts_with nat_eq row.name (h ∷ hs)) (is_front rows (h ∷ hs)) f
+    (λ s. first-named row.name h hs (name-named row.name (ends_with nat_eq row.name (59 ∷ [])) refl (names 0 row (omega arith))) s)
+    (λ s. front-first rows (All-tail (λ row. IsTrue (is_reference_name row.name)) row rows names) h hs s)
+
+hash-unnamed : (h : ℕ) (hs : List ℕ) (rows : List ReferenceRow) → All (λ row. IsTrue (is_reference_name row.name)) rows → is_front rows (h ∷ hs) ≡ true → nat_eq h 35 ≡ false
+hash-unnamed h hs rows names f = no_hash h (front-first rows names h hs f)
+  where
+    no_hash : (h : ℕ) → is_named_with h ≡ true → nat_eq h 35 ≡ false
+    no_hash h e = grind (arith, nat_tests, e)
+
+-- what some name begins with is held as the front of a reference
+pub front-held : (rows : List ReferenceRow) → IsCheckedTable rows → (cs : List ℕ) → is_front rows cs ≡ true → (is_held_front rows cs ≡ true) × (list_all is_held cs ≡ true)
+front-held rows checked [] f = (refl, refl)
+front-held rows checked (h ∷ hs) f = (rw (hash-unnamed h hs rows checked.names f) f, names-front rows checked.names (h ∷ hs) f)
 
 -- NUMBERS
 
@@ -105,9 +147,6 @@ more-by false d ds c h = digits-last false false (d ∷ ds) c h
 number-last : (hs : List ℕ) (c : ℕ) → is_number_front (hs ++ c ∷ []) ≡ true → is_named_with c ≡ true
 number-last [] c h = first-by c (nat_eq c 120 || nat_eq c 88) refl h
 number-last (d ∷ ds) c h = more-by (nat_eq d 120 || nat_eq d 88) d ds c h
-
-named-held : (c : ℕ) → is_named_with c ≡ true → is_held c ≡ true
-named-held c h = rw h refl
 
 hash-held : (c : ℕ) → nat_eq c 35 ≡ true → is_held c ≡ true
 hash-held c h = grind (arith, nat_tests)
@@ -214,3 +253,8 @@ go_on-none hex ds c h e f g = go_on-other hex ds c h e f true g
 
 pub go_on-closing : (hex : Bool) (ds : List ℕ) (c : ℕ) → are_digits (stops hex) false ds ≡ true → ends_with nat_eq ds (59 ∷ []) ≡ false → not (stops hex c) ≡ false → (length ds == 0) ≡ false → nat_eq c 59 ≡ are_digits (stops hex) false (ds ++ c ∷ [])
 go_on-closing hex ds c h e f g = go_on-other hex ds c h e f false g
+
+-- the same of a text that was found to be such a front
+pub front-if : (rows : List ReferenceRow) → IsCheckedTable rows → (cs text : List ℕ) (found : Bool) → found ≡ is_front rows text → text ≡ cs → found ≡ true → (is_held_front rows cs ≡ true) × (list_all is_held cs ≡ true)
+front-if rows checked cs text true e is h = front-held rows checked cs (ap (is_front rows) (sym is) ∙ sym e)
+front-if rows checked cs text false e is h = absurd cc

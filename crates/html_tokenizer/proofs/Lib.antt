@@ -9,6 +9,7 @@ pub mod Declarations
 pub mod Digits
 pub mod DoctypeKeywords
 pub mod Doctypes
+pub mod EndFronts
 pub mod EndMarkup
 pub mod EndTextGlue
 pub mod EndTextReferences
@@ -21,6 +22,8 @@ pub mod Erring
 pub mod Errors
 pub mod Feeding
 pub mod Finished
+pub mod FrontReferences
+pub mod FrontRuns
 pub mod FrontTags
 pub mod FrontTexts
 pub mod Fronts

@@ -64,17 +64,17 @@ module _ {T : Type 0} (step : NotedStep T) (erred : Fault → T → T) (cdata : 
       ∙ name-letters absorbs st (named EndTag []) word b s t w
 
 module _ {K H : Type 0} (Sink : Ghosts K H) where
-  end_tag-says : (old : Tokenizer K) (kind : RawKind) (name : List ℕ) (attributes : List Attribute) (c : ℕ) → list_all is_ascii_alphabetic old.word ≡ true → ends_at_tag kind ≡ true → ends_raw_text old.last_start_tag old.word c ≡ true → name ≡ map to_ascii_lowercase old.word → attributes ≡ []
+  end_tag-says : (old : Tokenizer K) (kind : RawKind) (name : List ℕ) (attributes : List Attribute) (c : ℕ) → list_all is_ascii_alphabetic old.raw_end.letters ≡ true → ends_at_tag kind ≡ true → ends_raw_text old.raw_end.name old.raw_end.letters c ≡ true → name ≡ map to_ascii_lowercase old.raw_end.letters → attributes ≡ []
       → (b : ℕ) (s : Sink.State × Notes ℕ) (t : List ℕ) → at Sink (state.RawEndTagName kind) old b s (c ∷ t)
       ≡ at Sink state.TagName (record old { tag = record { kind = EndTag; name = name; self_closing = false; attrs = attributes; had_duplicate_attributes = false }; state = state.TagName }) b s (c ∷ t)
   unfolding held_at
   end_tag-says old kind name attributes c w e fits n a b s t = rw (n, a)
-      (end_tag-read (noting Sink.step Sink.is_quiet) noting_error (noting_cdata Sink.asks_cdata) (noting_end Sink.ended) (rows_of old) slight-absorbed (standing old (InRaw kind)) kind old.word b s (c ∷ t) w refl e
-      (fitting-word old.last_start_tag old.word c t w (no_letter old.last_start_tag old.word c fits) ∙ fits))
+      (end_tag-read (noting Sink.step Sink.is_quiet) noting_error (noting_cdata Sink.asks_cdata) (noting_end Sink.ended) (rows_of old) slight-absorbed (standing old (InRaw kind)) kind old.raw_end.letters b s (c ∷ t) w refl e
+      (fitting-word old.raw_end.name old.raw_end.letters c t w (no_letter old.raw_end.name old.raw_end.letters c fits) ∙ fits))
 
   -- the whole fitting name was read, and the tag goes on
-  pub end_tag-kept : (old new : Tokenizer K) (kind : RawKind) (name : List ℕ) (attributes : List Attribute) (c : ℕ) (result : Result (ProcessResult H) ParseFault) → IsAt old (state.RawEndTagName kind) → list_all is_ascii_alphabetic old.word ≡ true → ends_at_tag kind ≡ true → ends_raw_text old.last_start_tag old.word c ≡ true
-      → name ≡ map to_ascii_lowercase old.word → attributes ≡ []
+  pub end_tag-kept : (old new : Tokenizer K) (kind : RawKind) (name : List ℕ) (attributes : List Attribute) (c : ℕ) (result : Result (ProcessResult H) ParseFault) → IsAt old (state.RawEndTagName kind) → list_all is_ascii_alphabetic old.raw_end.letters ≡ true → ends_at_tag kind ≡ true → ends_raw_text old.raw_end.name old.raw_end.letters c ≡ true
+      → name ≡ map to_ascii_lowercase old.raw_end.letters → attributes ≡ []
       → Keeps Sink (record old { tag = record { kind = EndTag; name = name; self_closing = false; attrs = attributes; had_duplicate_attributes = false }; state = state.TagName }) new c result → Keeps Sink old new c result
   end_tag-kept old new kind name attributes c result from w e fits n a h =
       keeps_silent Sink old (record old { tag = record { kind = EndTag; name = name; self_closing = false; attrs = attributes; had_duplicate_attributes = false }; state = state.TagName }) new c (state.RawEndTagName kind) state.TagName result from (record { state = refl; fresh = from.fresh }) refl refl (end_tag-says old kind name attributes c w e fits n a) h

@@ -185,7 +185,7 @@ kind-end_script word c t h e =
 
 -- A NAME THAT DOES NOT GO ON BY A LETTER
 
-next-shift : (a b : ℕ) → nat_lt (suc a) (suc b) ≡ nat_lt a b
+pub next-shift : (a b : ℕ) → nat_lt (suc a) (suc b) ≡ nat_lt a b
 next-shift a b = grind (arith, nat_tests)
 
 first-next : (m : ℕ) (x : Bool) → (nat_lt 0 (suc m) && x) ≡ false → x ≡ false

@@ -31,7 +31,7 @@ use Rattle.html_tokenizer.proofs.ShownTexts.{reading-shown}
 use Rattle.html_tokenizer.proofs.RawKinds.{kind-same, kind-dash, double_escaped}
 
 -- a character of raw text that begins no end tag and no reference
-pub raw-item : {K : Type 0} (k : Tokenizer K) (kind : RawKind) (x : Bool) (c : ℕ) (t : List ℕ) → (nat_eq c 60 && ends_at_tag kind && is_fitting_end k.last_start_tag t) ≡ false → (nat_eq c 38 && has_references kind) ≡ false
+pub raw-item : {K : Type 0} (k : Tokenizer K) (kind : RawKind) (x : Bool) (c : ℕ) (t : List ℕ) → (nat_eq c 60 && ends_at_tag kind && is_fitting_end k.raw_end.name t) ≡ false → (nat_eq c 38 && has_references kind) ≡ false
     → item (rows_of k) x (standing k (InRaw kind)) c t ≡ shown_character c (standing k (InRaw (kind_behind kind c t)))
 raw-item k kind x c t e f = rw (e, f) refl
 
@@ -45,7 +45,7 @@ unescaped kind (inr (inl e)) _ h = cc
 unescaped kind (inr (inr e)) _ h = cc
 
 -- "<" that is text
-pub open-item : {K : Type 0} (k : Tokenizer K) (kind : RawKind) (x : Bool) (t : List ℕ) → (ends_at_tag kind && is_fitting_end k.last_start_tag t) ≡ false
+pub open-item : {K : Type 0} (k : Tokenizer K) (kind : RawKind) (x : Bool) (t : List ℕ) → (ends_at_tag kind && is_fitting_end k.raw_end.name t) ≡ false
     → item (rows_of k) x (standing k (InRaw kind)) 60 t ≡ character 60 (standing k (InRaw (kind_behind kind 60 t)))
 open-item k kind x t e = rw e refl
 

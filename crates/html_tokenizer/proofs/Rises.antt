@@ -1,6 +1,6 @@
 -- How a number of errors rises that stops at the greatest number of 64 bits, by what is owed.
 use Rattle.std.proofs.Common.{◌≡◌, ◌∙◌, ℕ, zero, suc, ◌+◌, ◌≤◌, Bool, true, false, Option, Some, None, Ok, arith, refl, ap, sym, List, [], ◌∷◌, ◌++◌, nat_eq}
-use Rattle.std.specs.Prelude.{◌&&◌, min}
+use Rattle.std.specs.Prelude.{◌&&◌, ◌||◌, min}
 use Rattle.std.proofs.lemmas.Bool.{and_parts, and_from}
 use Rattle.std.proofs.lemmas.Bool.Decides.{nat_tests}
 use Rattle.html_tokens.specs.Item.{Fault, Grave, Slight, grave_if, slight_if, and_slight_if}
@@ -10,7 +10,7 @@ use Rattle.html_tokens.specs.declared.token.Token.{Token}
 use Rattle.html_tokens.specs.declared.token.Token.TheVariants.{ParseError}
 use Rattle.html_tokenizer.specs.Calls.{owed_for_text}
 use Rattle.html_tokenizer.specs.Forbidden.{is_forbidden}
-use Rattle.html_tokenizer.specs.Steps.{IsNoTag, Owed, nothing_owed, owed_for, owed_for_each, how_many, and_heard, together, Rises, and_more, more}
+use Rattle.html_tokenizer.specs.Steps.{IsNoTag, Owed, a_fault, nothing_owed, owed_for, owed_for_each, how_many, and_heard, together, Rises, and_more, more}
 
 capped : (a b c m n : ℕ) → min (a + m) 0xffff_ffff_ffff_ffff ≤ b → min (b + n) 0xffff_ffff_ffff_ffff ≤ c → min (a + (n + m)) 0xffff_ffff_ffff_ffff ≤ c
 capped a b c m n h k = omega arith
@@ -139,6 +139,23 @@ last-adds false x y e = record { faults = omega (arith, e); quiet = λ h. grind 
 -- a character more of which an error is told if it passes
 pub each-more : (passes : ℕ → Bool) (front : List ℕ) (c : ℕ) → IsNoMore (owed_for_each passes (front ++ c ∷ [])) (together (owed_for (grave_if (passes c))) (owed_for_each passes front))
 each-more passes front c = last-adds (passes c) (how_many passes (front ++ c ∷ [])) (how_many passes front) (how_many-both passes front (c ∷ []))
+
+-- two faults of an item say no less than that it has one of them
+pub either-no-more : (a b : Bool) → IsNoMore (owed_for (grave_if (a || b))) (together (owed_for (grave_if b)) (owed_for (grave_if a)))
+either-no-more true true = record { faults = omega arith; quiet = λ e. absurd cc }
+either-no-more true false = record { faults = omega arith; quiet = λ e. absurd cc }
+either-no-more false true = record { faults = omega arith; quiet = λ e. absurd cc }
+either-no-more false false = record { faults = omega arith; quiet = λ e. refl }
+
+pub or-no-more : (a b : Bool) → IsNoMore (owed_for (grave_if (b || a))) (together (owed_for (grave_if b)) (owed_for (grave_if a)))
+or-no-more true true = either-no-more true true
+or-no-more true false = either-no-more true false
+or-no-more false true = either-no-more false true
+or-no-more false false = either-no-more false false
+
+-- two faults say no less than one
+pub again-no-more : IsNoMore a_fault (together a_fault a_fault)
+again-no-more = either-no-more true true
 
 -- where these are not told a text owes nothing on its own
 pub text-no-more : (t : List ℕ) (owed : Owed) → IsNoMore (together owed (owed_for_text false t)) owed

@@ -16,6 +16,7 @@ use Rattle.html_tokens.specs.Sink.{numbered}
 use Rattle.html_tokens.specs.Tags.{last_name, behind_tag, is_faulty_tag}
 use Rattle.html_tokenizer.specs.declared.tokenizer.Tokenizer.{Tokenizer}
 use Rattle.html_tokenizer.specs.Rest.{rows_of, standing, held_at}
+use Rattle.html_tokenizer.specs.Words.{FittingEnd}
 use Rattle.html_tokenizer.specs.Steps.{owed_for, IsAt, PausesAt, more, noted_by, Rises, state_behind, answer_to, FailsAmong, FallsAll, Fell, Stays, IsOfText, Erred, EndedTag, EndsTag, nothing_owed, owed_by, and_heard, reads}
 use Rattle.html_tokenizer.proofs.Glue.{at, fits-at, now-at, stays-then, fell-behind, fails-before}
 use Rattle.html_tokenizer.proofs.Rises.{heard-more, rises-heard}
@@ -46,7 +47,7 @@ module _ {K H : Type 0} (Sink : Ghosts K H) where
   reads-behind k (reply.RawData kind) b s notes t = refl
   reads-behind k (reply.EncodingIndicator label) b s notes t = refl
 
-  behind : (old new : Tokenizer K) → new.last_start_tag ≡ last_name old.tag.kind old.tag.name old.last_start_tag → behind_tag (standing old InData) old.tag ≡ standing new InData
+  behind : (old new : Tokenizer K) → new.raw_end.name ≡ last_name old.tag.kind old.tag.name old.raw_end.name → behind_tag (standing old InData) old.tag ≡ standing new InData
   behind old new h = rw h refl
 
   -- a reply that hands back control does so in data
@@ -57,7 +58,7 @@ module _ {K H : Type 0} (Sink : Ghosts K H) where
   paused-behind (reply.RawData kind) k before tag line at ok is = tt
   paused-behind (reply.EncodingIndicator label) k before tag line at ok is = (refl, at, record { before = before; sound = ok; tag = tag; line = line; is = is })
 
-  ended : (old new : Tokenizer K) (reply : TokenSinkResult H) → Sink.is_sound (Sink.view old.sink) → IsAt new (state_behind reply) → new.stream ≡ old.stream → new.last_start_tag ≡ last_name old.tag.kind old.tag.name old.last_start_tag
+  ended : (old new : Tokenizer K) (reply : TokenSinkResult H) → Sink.is_sound (Sink.view old.sink) → IsAt new (state_behind reply) → new.stream ≡ old.stream → new.raw_end.name ≡ last_name old.tag.kind old.tag.name old.raw_end.name
       → Sink.step (Sink.view old.sink) (TagToken old.tag) (line_number old.stream.breaks) ≡ Ok (Sink.view new.sink, numbered Sink.number reply) → Sink.is_sound (Sink.view new.sink) → Stays Sink old.sink new.sink → Rises Sink.errors (owed_by Sink old) old.sink new.sink
       → EndedTag Sink old new (answer_to reply)
   ended old new reply sound to stream last gives ok stays rises =
@@ -80,10 +81,10 @@ module _ {K H : Type 0} (Sink : Ghosts K H) where
       }
 
   -- The tag was told behind its error, if it has one.
-  pub tag-ended : (old mid new : Tokenizer K) (after : K) (last : Option (List ℕ)) (left tag : Tag) (line : ℕ) (reply : TokenSinkResult H) (result : ProcessResult H) → old.char_ref ≡ None → Sink.is_sound (Sink.view old.sink) → Erred Sink (owed_for (grave_if (is_faulty_tag old.tag))) old mid
-      → last ≡ last_name old.tag.kind old.tag.name old.last_start_tag → tag ≡ mid.tag → line ≡ line_number mid.stream.breaks
+  pub tag-ended : (old mid new : Tokenizer K) (after : K) (last : FittingEnd) (left tag : Tag) (line : ℕ) (reply : TokenSinkResult H) (result : ProcessResult H) → old.char_ref ≡ None → Sink.is_sound (Sink.view old.sink) → Erred Sink (owed_for (grave_if (is_faulty_tag old.tag))) old mid
+      → last.name ≡ last_name old.tag.kind old.tag.name old.raw_end.name → tag ≡ mid.tag → line ≡ line_number mid.stream.breaks
       → Sink.step (Sink.view mid.sink) (TagToken tag) line ≡ Ok (Sink.view after, numbered Sink.number reply) → Sink.is_sound (Sink.view after) → Stays Sink mid.sink after → Rises Sink.errors (and_heard (Sink.is_quiet (Sink.view mid.sink) (TagToken tag)) nothing_owed) mid.sink after
-      → new ≡ record mid { sink = after; state = state_behind reply; last_start_tag = last; tag = left } → result ≡ answer_to reply
+      → new ≡ record mid { sink = after; state = state_behind reply; raw_end = last; tag = left } → result ≡ answer_to reply
       → EndedTag Sink old new result
   tag-ended old mid new after last left tag line reply result fresh sound erred is_last is_tag is_line gives ok stays rises is answer =
       let gives' : Sink.step (Sink.view old.sink) (TagToken old.tag) (line_number old.stream.breaks) ≡ Ok (Sink.view after, numbered Sink.number reply) =
@@ -94,7 +95,7 @@ module _ {K H : Type 0} (Sink : Ghosts K H) where
       ∙ gives in
       let same_quiet : Sink.is_quiet (Sink.view mid.sink) (TagToken tag) ≡ Sink.is_quiet (Sink.view old.sink) (TagToken old.tag) =
       ap (λ x. Sink.is_quiet (Sink.view mid.sink) (TagToken x)) is_tag ∙ (ap (λ (k : Tokenizer K). Sink.is_quiet (Sink.view mid.sink) (TagToken k.tag)) erred.changed ∙ ap (λ s. Sink.is_quiet s (TagToken old.tag)) erred.sink) in
-      rw (is, answer) (ended old (record mid { sink = after; state = state_behind reply; last_start_tag = last; tag = left }) reply sound
+      rw (is, answer) (ended old (record mid { sink = after; state = state_behind reply; raw_end = last; tag = left }) reply sound
       (record { state = refl; fresh = ap (λ (k : Tokenizer K). k.char_ref) erred.changed ∙ fresh })
       (ap (λ (k : Tokenizer K). k.stream) erred.changed) is_last gives' ok (stays-then Sink old.sink mid.sink after erred.stays stays) (subst (λ q. Rises Sink.errors (and_heard q (owed_for (grave_if (is_faulty_tag old.tag)))) old.sink after) same_quiet (rises-heard Sink.errors (Sink.is_quiet (Sink.view mid.sink) (TagToken tag)) old.sink mid.sink after erred.rises rises)))
 

@@ -1,7 +1,10 @@
 -- What the machine makes of a run of text.
-use Rattle.std.proofs.Common.{◌≡◌, ◌≢◌, ◌∙◌, ℕ, ◌<◌, Bool, true, false, nat_eq, List, [], ◌∷◌, ◌++◌, length, Some, Result, Ok, Err, refl, sym, ap, arith, append_assoc, append-nil, inl, inr}
-use Rattle.std.specs.Prelude.{◌&&◌, ◌⊎◌, All, OnOk, IfErr}
+use Rattle.std.proofs.Common.{◌≡◌, ◌≢◌, ◌∙◌, ℕ, ◌<◌, Bool, true, false, nat_eq, List, [], ◌∷◌, ◌++◌, length, Some, Result, Ok, Err, refl, sym, ap, subst, arith, append_assoc, append-nil, inl, inr}
+use Rattle.std.specs.Prelude.{◌&&◌, ◌⊎◌, All, OnOk, IfErr, map}
+use Rattle.std.specs.Char.{to_ascii_lowercase}
 use Rattle.std.proofs.lemmas.Bool.{and_parts, and_from}
+use Rattle.std.proofs.lemmas.Bool.Decides.{nat_tests}
+use Rattle.std.proofs.lemmas.List.{map-append}
 use Rattle.std.proofs.lemmas.List.Elements.{All-head, All-tail}
 use Rattle.markup.specs.declared.fault.ParseFault.{ParseFault}
 use Rattle.markup.specs.declared.fault.ParseFault.TheVariants.{Memory}
@@ -17,7 +20,7 @@ use Rattle.html_tokens.specs.declared.states.State.{State}
 use Rattle.html_tokens.specs.declared.states.State.TheVariants as state
 use Rattle.html_tokens.specs.declared.token.Token.TheVariants.{CharacterTokens}
 use Rattle.html_tokens.specs.declared.sink.TokenSink.{Ghosts}
-use Rattle.html_tokens.specs.Characters.{ends_word, shown}
+use Rattle.html_tokens.specs.Characters.{ends_attribute_name, ends_word, lowered, shown}
 use Rattle.html_tokens.specs.Item.{Fault, Place, InData, InPlaintext, InRaw, Stand, character}
 use Rattle.html_tokens.specs.Items.{item}
 use Rattle.html_tokens.specs.Notes.{NotedStep, Notes, noting, noting_error, noting_cdata, noting_end}
@@ -32,7 +35,8 @@ use Rattle.html_tokenizer.specs.declared.tokenizer.Tokenizer.{Tokenizer}
 use Rattle.html_tokenizer.specs.Quotes.{quote_of}
 use Rattle.html_tokenizer.specs.Rest.{rows_of, standing, held_at}
 use Rattle.html_tokenizer.specs.Steps.{Owed, Erred, Fell, IsAt, more, Tells, Took, how_many, now, nothing_owed, owed_for_each, and_heard, together, reads}
-use Rattle.html_tokenizer.specs.Stops.{with_breaks, raw_stops, value_stops, state_stops, IsRunAt}
+use Rattle.html_tokenizer.specs.Stops.{with_breaks, attribute_stops, raw_stops, value_stops, state_stops, IsRunAt}
+use Rattle.html_tokenizer.proofs.AttributeNames.{name-more}
 use Rattle.html_tokenizer.proofs.AttributeValues.{quoted-more, unquoted-held}
 use Rattle.html_tokenizer.proofs.Comments.{bogus-push, comment-push}
 use Rattle.html_tokenizer.proofs.Glue.{at, now-at, now-target, erred-now, at_erred, sound_erred, token-fails, told-next, stays-same, stays-then, fell-same, no-break, fits-at}
@@ -43,6 +47,16 @@ use Rattle.html_tokenizer.proofs.Runs.{reading-text, told-more}
 use Rattle.html_tokenizer.proofs.RunStops.{run-at}
 use Rattle.html_tokenizer.proofs.ShownTexts.{shown-itself}
 use Rattle.html_tokenizer.proofs.Sets.{differs, not-member}
+
+-- a character of an attribute's name that is no U+0000
+pub lowered-same : (c : ℕ) → nat_eq c 0 ≡ false → lowered c ≡ to_ascii_lowercase c
+lowered-same c e = grind (arith, nat_tests, e)
+
+-- what is not in the set ends no attribute's name
+pub name-goes_on : (c : ℕ) → has attribute_stops.bits c ≡ false → ends_attribute_name c ≡ false
+name-goes_on c lacks =
+    let bits = attribute_stops.bits in
+    rw (not-member bits c 9 refl lacks, not-member bits c 10 refl lacks, not-member bits c 12 refl lacks, not-member bits c 32 refl lacks, not-member bits c 47 refl lacks, not-member bits c 62 refl lacks, not-member bits c 61 refl lacks) refl
 
 -- READINGS
 
@@ -242,6 +256,32 @@ module _ {K H : Type 0} (Sink : Ghosts K H) where
   value-run old value.DoubleQuoted run quoted from ok set are lacking =
       quoted-run old value.DoubleQuoted 34 (value_stops value.DoubleQuoted).bits run from ok refl refl refl refl refl (lacking-in (value_stops value.DoubleQuoted) set run are lacking)
 
+  -- what is read of a name
+  lowered-run : (before front : List ℕ) (c : ℕ) → nat_eq c 0 ≡ false → before ++ map to_ascii_lowercase (front ++ c ∷ []) ≡ (before ++ map to_ascii_lowercase front) ++ lowered c ∷ []
+  lowered-run before front c e =
+      ap (λ u. before ++ u) (map-append to_ascii_lowercase front (c ∷ []) ∙ ap (λ d. map to_ascii_lowercase front ++ d ∷ []) (sym (lowered-same c e)))
+      ∙ sym (append_assoc before (map to_ascii_lowercase front) (lowered c ∷ []))
+
+  name-run : (old : Tokenizer K) (run : List ℕ) → IsAt old state.AttributeName → Sink.is_sound (Sink.view old.sink) → All (λ c. has attribute_stops.bits c ≡ false) run
+      → TookRun Sink old (record old { attribute_name = old.attribute_name ++ map to_ascii_lowercase run }) run
+  name-run old run from ok lacking =
+      let bits = attribute_stops.bits in
+      let machine : List ℕ → Tokenizer K = λ front. record old { attribute_name = old.attribute_name ++ map to_ascii_lowercase front } in
+      let whole : TookRun Sink (machine []) (machine run) run =
+      run-held machine bits refl (λ front. ok) (λ front. fits-at old state.AttributeName from)
+      (λ front c lacks. name-more Sink (machine front) c (old.attribute_name ++ map to_ascii_lowercase (front ++ c ∷ [])) (record { state = from.state; fresh = from.fresh }) ok (name-goes_on c lacks) (lowered-run old.attribute_name front c (not-member bits c 0 refl lacks)))
+      [] run lacking in
+      subst (λ name. TookRun Sink (record old { attribute_name = name }) (machine run) run) (append-nil old.attribute_name) whole
+
+  -- a run was taken in an attribute's name
+  pub name_run-kept : (old : Tokenizer K) (front run : List ℕ) (result : Result (Unit {0}) ParseFault) → IsRunAt old run → Sink.is_sound (Sink.view old.sink) → old.state ≡ state.AttributeName
+      → OnOk result (front ≡ old.attribute_name ++ map to_ascii_lowercase run) → IfErr result (λ fault. fault ≡ Memory)
+      → KeepsRun Sink old (record old { attribute_name = front }) run result
+  name_run-kept old front run result runs ok is grown fault =
+      let from = run-at old run runs in
+      held-kept old (λ front. record old { attribute_name = front }) front (old.attribute_name ++ map to_ascii_lowercase run) run result grown fault (fell-same Sink old.sink old.sink refl ok)
+      (name-run old run (record { state = is; fresh = from.0.fresh }) ok (lacking-in attribute_stops runs.stops run (rw is at from.1) runs.lacking))
+
   -- a run was taken in a value in quotes
   pub value_run-kept : (old : Tokenizer K) (kind : AttrValueKind) (front run : List ℕ) (result : Result (Unit {0}) ParseFault) → kind ≢ value.Unquoted → IsRunAt old run → Sink.is_sound (Sink.view old.sink) → old.state ≡ state.AttributeValue kind
       → OnOk result (front ≡ old.attribute_value ++ run) → IfErr result (λ fault. fault ≡ Memory)
@@ -304,23 +344,24 @@ module _ {K H : Type 0} (Sink : Ghosts K H) (laws : SinkLaws Sink.is_sound Sink.
   place-says old place bits run unbroken filled lacking plain b s h t =
       run-told (λ p. Sink.is_sound p.0) (noting Sink.step Sink.is_quiet) noting_error (noting_cdata Sink.asks_cdata) (noting_end Sink.ended) (rows_of old) (noting-lawful Sink.is_sound Sink.step Sink.ended Sink.is_quiet laws) bits unbroken (standing old place) plain b s h run t (line_number b) filled lacking
 
-  text-says : (old : Tokenizer K) (st : State) (set : SmallCharSet) (run : List ℕ) → state_stops st ≡ Some set → ((kind : AttrValueKind) → st ≢ state.AttributeValue kind) → st ≢ state.BogusComment → st ≢ state.Comment
+  text-says : (old : Tokenizer K) (st : State) (set : SmallCharSet) (run : List ℕ) → state_stops st ≡ Some set → ((kind : AttrValueKind) → st ≢ state.AttributeValue kind) → st ≢ state.BogusComment → st ≢ state.Comment → st ≢ state.AttributeName
       → 0 < length run → All (λ c. has set.bits c ≡ false) run → RunSays Sink st old run
   unfolding held_at
-  text-says old state.Data set run are e f g filled lacking =
+  text-says old state.Data set run are e f g n filled lacking =
       place-says old InData (with_breaks (38 ∷ 60 ∷ [])).bits run refl filled (lacking-in (with_breaks (38 ∷ 60 ∷ [])) set run are lacking) (data-plain old)
-  text-says old state.Plaintext set run are e f g filled lacking =
+  text-says old state.Plaintext set run are e f g n filled lacking =
       place-says old InPlaintext (with_breaks []).bits run refl filled (lacking-in (with_breaks []) set run are lacking) (plaintext-plain old)
-  text-says old (state.RawData kind) set run are e f g filled lacking =
+  text-says old (state.RawData kind) set run are e f g n filled lacking =
       place-says old (InRaw kind) (raw_stops kind).bits run (raw-unbroken kind) filled (lacking-in (raw_stops kind) set run are lacking) (raw-plain old kind)
-  text-says old (state.AttributeValue kind) set run are e f g filled lacking = absurd (e kind refl)
-  text-says old state.BogusComment set run are e f g filled lacking = absurd (f refl)
-  text-says old state.Comment set run are e f g filled lacking = absurd (g refl)
-  text-says old _ set run are e f g filled lacking = absurd cc
+  text-says old (state.AttributeValue kind) set run are e f g n filled lacking = absurd (e kind refl)
+  text-says old state.BogusComment set run are e f g n filled lacking = absurd (f refl)
+  text-says old state.Comment set run are e f g n filled lacking = absurd (g refl)
+  text-says old state.AttributeName set run are e f g n filled lacking = absurd (n refl)
+  text-says old _ set run are e f g n filled lacking = absurd cc
 
   -- a run was told as text
-  pub text_run-kept : (old new : Tokenizer K) (run : List ℕ) (result : Result (Unit {0}) ParseFault) → IsRunAt old run → Sink.is_sound (Sink.view old.sink) → ((kind : AttrValueKind) → old.state ≢ state.AttributeValue kind) → old.state ≢ state.BogusComment → old.state ≢ state.Comment
+  pub text_run-kept : (old new : Tokenizer K) (run : List ℕ) (result : Result (Unit {0}) ParseFault) → IsRunAt old run → Sink.is_sound (Sink.view old.sink) → ((kind : AttrValueKind) → old.state ≢ state.AttributeValue kind) → old.state ≢ state.BogusComment → old.state ≢ state.Comment → old.state ≢ state.AttributeName
       → Tells Sink nothing_owed (CharacterTokens run) old new result → KeepsRun Sink old new run result
-  text_run-kept old new run result runs ok e f g told =
+  text_run-kept old new run result runs ok e f g n told =
       let from = run-at old run runs in
-      run-kept Sink old new run old.state result from.0 ok told (text-says old old.state runs.stops run from.1 e f g runs.filled runs.lacking)
+      run-kept Sink old new run old.state result from.0 ok told (text-says old old.state runs.stops run from.1 e f g n runs.filled runs.lacking)

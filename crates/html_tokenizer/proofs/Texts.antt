@@ -33,7 +33,7 @@ module _ {K H : Type 0} (Sink : Ghosts K H) where
 
   -- the same of a new tokenizer, from where its options have it
   pub is-new : (k : Tokenizer K) (sink : K) (opts : TokenizerOpts) → k.sink ≡ sink → k.stream.breaks ≡ 0 → k.stream.ignore_lf ≡ false → k.stream.discard_bom ≡ opts.discard_bom → k.stream.has_ended ≡ false → k.stream.has_failed ≡ false → k.stream.exact_errors ≡ opts.exact_errors
-      → k.char_ref ≡ None → k.last_start_tag ≡ opts.last_start_tag_name → is_text_state k.state ≡ true → first_place opts.initial_state ≡ first_place (Some k.state) → Sink.is_sound (Sink.view sink)
+      → k.char_ref ≡ None → k.raw_end.name ≡ opts.last_start_tag_name → is_text_state k.state ≡ true → first_place opts.initial_state ≡ first_place (Some k.state) → Sink.is_sound (Sink.view sink)
       → IsNew Sink k sink opts k.stream.table
   is-new k sink opts over breaks unread marked begun works exact none last text place ok = record {
     over = over;

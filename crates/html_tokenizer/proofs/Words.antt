@@ -16,11 +16,11 @@ pub and_parts : (a b : Bool) → (a && b) ≡ true → (a ≡ true) × (b ≡ tr
 and_parts true b h = (refl, h)
 and_parts false b h = absurd cc
 
-letter-ascii : (c : ℕ) → is_ascii_alphabetic c ≡ true → c < 128
+pub letter-ascii : (c : ℕ) → is_ascii_alphabetic c ≡ true → c < 128
 letter-ascii c h = grind (arith, nat_tests)
 
 -- what has a letter's lower case is a letter
-letter-of : (c d : ℕ) → is_ascii_alphabetic d ≡ true → to_ascii_lowercase c ≡ to_ascii_lowercase d → is_ascii_alphabetic c ≡ true
+pub letter-of : (c d : ℕ) → is_ascii_alphabetic d ≡ true → to_ascii_lowercase c ≡ to_ascii_lowercase d → is_ascii_alphabetic c ≡ true
 letter-of c d h e = grind (arith, nat_tests)
 
 pub letters-ascii : (w : List ℕ) → list_all is_ascii_alphabetic w ≡ true → IsAscii w
@@ -70,7 +70,7 @@ some_byte c rest e =
     let l : 1 ≤ length (encode c) = rw (length-encode c) (len_utf8_bounds c).0 in
     not_nothing (encode c) rest l e
 
-self-eq : (n : ℕ) → nat_eq n n ≡ true
+pub self-eq : (n : ℕ) → nat_eq n n ≡ true
 self-eq n = grind (arith, nat_tests)
 
 same-chars : (name w : List ℕ) → list_all is_ascii_alphabetic w ≡ true → map to_ascii_lowercase (encodes name) ≡ map to_ascii_lowercase w → same_any_case name w ≡ true

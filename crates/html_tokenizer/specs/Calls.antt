@@ -8,6 +8,7 @@ use Rattle.html_queue.specs.Queue.{Queue, Takes}
 use Rattle.html_tokens.specs.declared.replies.ProcessResult.{ProcessResult}
 use Rattle.html_tokens.specs.declared.replies.ProcessResult.TheVariants as flow
 use Rattle.html_tokens.specs.declared.replies.TokenSinkResult.TheVariants as reply
+use Rattle.html_tokens.specs.declared.states.RawKind.{RawKind}
 use Rattle.html_tokens.specs.declared.states.State.{State}
 use Rattle.html_tokens.specs.declared.states.State.TheVariants as state
 use Rattle.html_tokens.specs.declared.token.Token.TheVariants.{EOFToken}
@@ -31,6 +32,7 @@ use Rattle.html_tokenizer.specs.Pieces.{ComesAsRun}
 use Rattle.html_tokenizer.specs.Stops.{stops_of}
 use Rattle.html_queue.specs.declared.set.SmallCharSet.{SmallCharSet}
 use Rattle.html_tokenizer.specs.Rest.{rest, rows_of, standing, coming}
+use Rattle.html_tokenizer.specs.Words.{BeginsEnd, FittingEnd}
 use Rattle.html_tokenizer.specs.Steps.{IsAt, PausesAt, Owed, nothing_owed, owed_for_each, together, more, paused_by, noted_by, Rises, now, Stays, Fell, Fails, FailsAmong, Replied, reads}
 
 -- the pauses so far, and the one with which a call of `feed` hands back control
@@ -103,6 +105,10 @@ is_value _ = false
 abbrev pub HeldIn : List Row → State → Option (List ℕ) → Type 0
 HeldIn rows st None = Unit {0}
 HeldIn rows st (Some cs) = BeginsReference (is_value st) rows cs
+
+-- the letters that are held behind "</" in raw text, if they are, begin the name of the end tag that ends it
+abbrev pub EndHeldIn : State → FittingEnd → Type 0
+EndHeldIn st e = (kind : RawKind) → st ≡ state.RawEndTagName kind → BeginsEnd e.name e.letters
 
 module _ {K H : Type 0} (Sink : Ghosts K H) where
   -- what a further text makes of the sink and of what was noted
@@ -210,10 +216,11 @@ module _ {K H : Type 0} (Sink : Ghosts K H) where
   Moves old new from to (Ok result) = Moved old new from to result
   Moves old new from to (Err fault) = IsStuck old new.sink from to fault
 
-  -- Where a call ends so: with an empty queue, where of a reference no more is held than the front of one, or, at a pause, behind the ">" of a tag, of which this is the reply, with data to
+  -- Where a call ends so: with an empty queue, where of a reference no more is held than the front of one, and of the end tag of raw
+  -- text no more than letters that begin its name; or, at a pause, behind the ">" of a tag, of which this is the reply, with data to
   -- come and nothing held.
   abbrev pub Rests : TokenizerResult H → Tokenizer K → List ℕ → Queue → Type 0
-  Rests Done new taken to = (to.characters ≡ []) × HeldIn (rows_of new) new.state new.char_ref
+  Rests Done new taken to = (to.characters ≡ []) × HeldIn (rows_of new) new.state new.char_ref × EndHeldIn new.state new.raw_end
   Rests (Script handle) new taken to = (last_of taken ≡ 62) × IsAt new state.Data × Replied Sink new.sink (reply.Script (Sink.number handle))
   Rests (EncodingIndicator label) new taken to = (last_of taken ≡ 62) × IsAt new state.Data × Replied Sink new.sink (reply.EncodingIndicator label)
 

@@ -2,6 +2,7 @@
 use Rattle.std.specs.Prelude.{◌≡◌, ℕ, Bool, true, false, ◌&&◌, ◌||◌, not, nat_eq, List, [], ◌∷◌, ◌++◌, ◌≤◌, length, take, drop, Option, Some, None, if◌then◌else◌}
 use Rattle.std.specs.Char.{is_ascii_alphanumeric, is_ascii_digit, is_ascii_hexdigit}
 use Rattle.std.specs.List.{ends_with, list_all}
+use Rattle.std.specs.Option.{is_some}
 use Rattle.html_tokens.specs.declared.states.RawKind.TheVariants.{Rcdata}
 use Rattle.html_tokens.specs.declared.states.State.{State}
 use Rattle.html_tokens.specs.declared.states.State.TheVariants as state
@@ -11,6 +12,7 @@ use Rattle.html_tokens.specs.Table.{Row, longest, values_of}
 use Rattle.html_references.specs.References.{IsCheckedTable, is_front}
 use Rattle.html_tokenizer.specs.Forbidden.{is_forbidden}
 use Rattle.html_tokenizer.specs.declared.numbers.Found.{Found}
+use Rattle.html_tokenizer.specs.declared.numbers.ReferenceFaults.{ReferenceFaults}
 
 -- what names and digits are written with: letters, digits and ";"
 abbrev pub is_named_with : ℕ → Bool
@@ -130,6 +132,10 @@ is_faulty_by false in_value rows h hs follows = is_faulty_named in_value (longes
 abbrev pub is_faulty : Bool → List Row → List ℕ → Bool → Bool
 is_faulty in_value rows [] follows = false
 is_faulty in_value rows (h ∷ hs) follows = is_faulty_by (nat_eq h 35) in_value rows h hs follows
+
+-- whether a reference has an error: no ";" ends it, or what it names is faulty
+abbrev pub has_fault : ReferenceFaults → Bool
+has_fault f = f.lacks_semicolon || is_some f.fault
 
 -- a reference that is decided before c, whatever follows
 pub record IsDecided (rows : List Row) (cs : List ℕ) (c : ℕ) : Type 0 where

@@ -1,6 +1,7 @@
--- What is taken of tags from the front of a text at once.
-use Rattle.std.specs.Prelude.{◌≡◌, ℕ, true, false, nat_eq, List, [], ◌∷◌, ◌++◌, All, Some, map}
+-- What is taken of tags and references from the front of a text at once.
+use Rattle.std.specs.Prelude.{◌≡◌, ℕ, Bool, true, false, nat_eq, List, [], ◌∷◌, ◌++◌, All, Some, map}
 use Rattle.std.specs.Char.{is_ascii_alphabetic, to_ascii_lowercase}
+use Rattle.std.specs.List.{list_all}
 use Rattle.std.specs.Str.{IsUtf8, chars}
 use Rattle.html_queue.specs.Set.{has}
 use Rattle.html_queue.specs.declared.set.SmallCharSet.{SmallCharSet}
@@ -11,17 +12,21 @@ use Rattle.html_tokens.specs.declared.tags.TagKind.{TagKind}
 use Rattle.html_tokens.specs.declared.tags.TagKind.TheVariants.{StartTag, EndTag}
 use Rattle.html_tokens.specs.Tags.{named, with_attribute}
 use Rattle.html_tokenizer.specs.Calls.{TookRun}
+use Rattle.html_tokenizer.specs.CharRefs.{is_held, is_held_front}
 use Rattle.html_tokenizer.specs.declared.tokenizer.Tokenizer.{Tokenizer}
 use Rattle.html_tokenizer.specs.Quotes.{quote_of}
+use Rattle.html_tokenizer.specs.Rest.{rows_of}
 use Rattle.html_tokenizer.specs.Steps.{IsAt}
 use Rattle.html_tokenizer.specs.Stops.{with_breaks, value_stops}
+pub use Rattle.html_tokenizer.specs.Stops.{attribute_stops}
 
--- the characters at which a tag's name, and that of an attribute, is taken no further at once
+-- the characters at which a tag's name is taken no further at once
 abbrev pub name_stops : SmallCharSet
 name_stops = with_breaks (9 ∷ 12 ∷ 32 ∷ 47 ∷ 62 ∷ [])
 
-abbrev pub attribute_stops : SmallCharSet
-attribute_stops = with_breaks (9 ∷ 12 ∷ 32 ∷ 34 ∷ 39 ∷ 47 ∷ 60 ∷ 61 ∷ 62 ∷ [])
+-- the characters before which no name of a reference goes on
+abbrev pub reference_stops : SmallCharSet
+reference_stops = with_breaks (9 ∷ 12 ∷ 32 ∷ 38 ∷ 59 ∷ 60 ∷ [])
 
 -- no character of a text is in a set
 abbrev pub Lacks : SmallCharSet → List ℕ → Type 0
@@ -89,6 +94,16 @@ pub record IsAttribute (name value rest text : List ℕ) : Type 0 where
   pub filled : IsFilled (chars name)
   pub lacking : Lacks attribute_stops (chars name)
   pub quoted : IsQuoted value rest behind
+
+-- the bytes of a text are those of "&", a name, ";", and what follows them
+pub record IsReferenceAt (name rest text : List ℕ) : Type 0 where
+  pub whole : text ≡ 38 ∷ (name ++ 59 ∷ rest)
+  pub utf8 : IsUtf8 name
+
+-- some name of the table begins with these characters, and they are held; or none does, and nothing changed
+abbrev pub HoldsName : {K : Type 0} → Bool → Tokenizer K → Tokenizer K → List ℕ → Type 0
+HoldsName true old new cs = (new ≡ record old { char_ref = Some cs }) × (is_held_front (rows_of old) cs ≡ true) × (list_all is_held cs ≡ true)
+HoldsName false old new cs = new ≡ old
 
 -- the machine in a tag of this name
 abbrev pub opened_tag : {K : Type 0} → Tokenizer K → TagKind → List ℕ → Tokenizer K

@@ -32,7 +32,7 @@ pending (Some cs) = 38 ∷ cs
 
 -- where a reading stands at this place
 abbrev pub standing : {K : Type 0} → Tokenizer K → Place → Stand
-standing k place = record { place = place; last_start_tag = k.last_start_tag }
+standing k place = record { place = place; last_start_tag = k.raw_end.name }
 
 -- a doctype with one of its identifiers
 abbrev pub with_identifier : DoctypeIdKind → Doctype → List ℕ → Doctype
@@ -69,7 +69,7 @@ module _ {K T : Type 0} (step : NotedStep T) (erred : Fault → T → T) (cdata 
   held_at (state.RawLessThanSign (raw.ScriptDataEscaped script.DoubleEscaped)) k b s t = read_at (InRaw (kind_after (raw.ScriptDataEscaped script.DoubleEscaped) (codes "<") t)) k b s t
   held_at (state.RawLessThanSign kind) k b s t = read_at (InRaw kind) k b s (60 ∷ t)
   held_at (state.RawEndTagOpen kind) k b s t = read_at (InRaw kind) k b s (60 ∷ 47 ∷ t)
-  held_at (state.RawEndTagName kind) k b s t = read_at (InRaw kind) k b s (60 ∷ 47 ∷ (k.word ++ t))
+  held_at (state.RawEndTagName kind) k b s t = read_at (InRaw kind) k b s (60 ∷ 47 ∷ (k.raw_end.letters ++ t))
   held_at (state.ScriptDataEscapeStart script.Escaped) k b s t = read_at (InRaw (kind_after raw.ScriptData (codes "<!") t)) k b s t
   held_at (state.ScriptDataEscapeStart script.DoubleEscaped) k b s t = read_at (InRaw (kind_after (raw.ScriptDataEscaped script.Escaped) (60 ∷ k.word) t)) k b s t
   held_at state.ScriptDataEscapeStartDash k b s t = read_at (InRaw (kind_after raw.ScriptData (codes "<!-") t)) k b s t

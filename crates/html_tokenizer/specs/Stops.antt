@@ -23,6 +23,10 @@ with_breaks cs = record { bits = bits_of (0 ∷ 10 ∷ 13 ∷ cs) }
 abbrev pub HasBreaks : SmallCharSet → Type 0
 HasBreaks set = (has set.bits 0 ≡ true) × (has set.bits 10 ≡ true) × (has set.bits 13 ≡ true)
 
+-- text ends at "<" and "&"
+abbrev pub data_stops : SmallCharSet
+data_stops = with_breaks (38 ∷ 60 ∷ [])
+
 -- raw text ends at "<", text with references also at "&", and a script's escaped text at "-"
 abbrev pub raw_stops : RawKind → SmallCharSet
 raw_stops raw.Rcdata = with_breaks (38 ∷ 60 ∷ [])
@@ -36,11 +40,16 @@ value_stops value.Unquoted = with_breaks (9 ∷ 12 ∷ 32 ∷ 38 ∷ 62 ∷ [])
 value_stops value.SingleQuoted = with_breaks (38 ∷ 39 ∷ [])
 value_stops value.DoubleQuoted = with_breaks (34 ∷ 38 ∷ [])
 
--- where runs are read: in text, in values and in comments
+-- an attribute's name ends at white space, "/", "=" and ">"; and what is an error in it is taken by itself
+abbrev pub attribute_stops : SmallCharSet
+attribute_stops = with_breaks (9 ∷ 12 ∷ 32 ∷ 34 ∷ 39 ∷ 47 ∷ 60 ∷ 61 ∷ 62 ∷ [])
+
+-- where runs are read: in text, in names and values of attributes and in comments
 abbrev pub state_stops : State → Option SmallCharSet
-state_stops state.Data = Some (with_breaks (38 ∷ 60 ∷ []))
+state_stops state.Data = Some data_stops
 state_stops state.Plaintext = Some (with_breaks [])
 state_stops (state.RawData kind) = Some (raw_stops kind)
+state_stops state.AttributeName = Some attribute_stops
 state_stops (state.AttributeValue kind) = Some (value_stops kind)
 state_stops state.BogusComment = Some (with_breaks (62 ∷ []))
 state_stops state.Comment = Some (with_breaks (45 ∷ []))

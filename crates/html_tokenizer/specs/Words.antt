@@ -1,5 +1,5 @@
 -- Words of letters that may be the name of an end tag.
-use Rattle.std.specs.Prelude.{ℕ, Bool, true, false, ◌&&◌, nat_eq, nat_lt, length, slice_index, List, [], ◌∷◌, codes, Option, Some, None}
+use Rattle.std.specs.Prelude.{◌≡◌, ℕ, Bool, true, false, ◌&&◌, nat_eq, nat_lt, length, slice_index, List, [], ◌∷◌, ◌++◌, codes, Option, Some, None}
 use Rattle.std.specs.Char.{to_ascii_lowercase, is_ascii_alphabetic}
 use Rattle.html_tokens.specs.declared.states.RawKind.{RawKind}
 use Rattle.html_tokens.specs.declared.states.RawKind.TheVariants.{Rcdata, Rawtext, ScriptData, ScriptDataEscaped}
@@ -22,6 +22,34 @@ abbrev pub is_fitting : Option (List ℕ) → List ℕ → Bool
 is_fitting None word = false
 is_fitting (Some name) [] = false
 is_fitting (Some name) (c ∷ cs) = same_any_case name (c ∷ cs)
+
+-- whether a name begins with a word, in any case
+abbrev pub begins_any_case : List ℕ → List ℕ → Bool
+begins_any_case name [] = true
+begins_any_case [] (d ∷ ds) = false
+begins_any_case (c ∷ cs) (d ∷ ds) = nat_eq (to_ascii_lowercase c) (to_ascii_lowercase d) && begins_any_case cs ds
+
+-- the last start tag's name, and letters that were read behind "</" in raw text
+pub record FittingEnd : Type 0 where
+  pub name : Option (List ℕ)
+  pub letters : List ℕ
+
+-- whether that name begins with letters, if there are any
+abbrev pub begins_end : Option (List ℕ) → List ℕ → Bool
+begins_end last [] = true
+begins_end None (c ∷ cs) = false
+begins_end (Some name) (c ∷ cs) = begins_any_case name (c ∷ cs)
+
+-- Some letters behind a word, or none, make the name of both, in any case.
+pub record BeginsName (name word : List ℕ) : Type 0 where
+  pub more : List ℕ
+  pub whole : same_any_case name (word ++ more) ≡ true
+
+-- that name begins with these letters, if there are any
+abbrev pub BeginsEnd : Option (List ℕ) → List ℕ → Type 0
+BeginsEnd last [] = Unit {0}
+BeginsEnd None (c ∷ cs) = ⊥
+BeginsEnd (Some name) (c ∷ cs) = BeginsName name (c ∷ cs)
 
 -- whether a word, with this character behind it, is the fitting end tag's name
 abbrev pub ends_raw_text : Option (List ℕ) → List ℕ → ℕ → Bool

@@ -1,5 +1,5 @@
 //! The attributes of a tag (HTML Standard, sections 13.2.5.32 to 13.2.5.39).
-ghost use Rattle.std.specs.Prelude.{◌≡◌, [], Some, is_some, IfErr, OnOk};
+ghost use Rattle.std.specs.Prelude.{◌≡◌, [], Some, true, is_some, IfErr, OnOk};
 ghost use Rattle.std.specs.Str.{chars};
 ghost use Rattle.html_tokens.specs.Characters.{ends_attribute_name};
 ghost use Rattle.html_tokens.specs.Tags.{with_attribute, is_odd_first, is_odd_in_name, is_odd_unquoted};
@@ -65,6 +65,16 @@ fn unquoted_fault(c: char) -> Option<ErrorCode>
 }
 
 impl<Sink: TokenSink> Tokenizer<Sink> {
+    /// Notes that an attribute of the tag repeats one before it.
+    fn note_repeat(&mut self)
+        ensures { self.new ≡ record self.old { tag = record self.old.tag { had_duplicate_attributes = true } } }
+    {
+        if self.tag.had_duplicate_attributes {
+            self.repeats.add();
+        }
+        self.tag.had_duplicate_attributes = true;
+    }
+
     /// Adds the attribute that was read to the tag, or drops it where the tag has one of its name.
     pub(crate) fn finish_attribute(&mut self) -> Result<(), ParseFault>
         ensures ok { OnOk result (self.new ≡ record self.old { tag = with_attribute self.old.tag self.old.attribute_name self.old.attribute_value; attribute_name = []; attribute_value = [] }) }
@@ -76,7 +86,7 @@ impl<Sink: TokenSink> Tokenizer<Sink> {
         let name = LocalName::from_text(name);
         let value = mem::replace(&mut self.attribute_value, Text::empty(alloc));
         if self.tag.attrs.has_local_name(&name) {
-            self.tag.had_duplicate_attributes = true;
+            self.note_repeat();
             return Ok(());
         }
         let name = QualName::new(None, Namespace::none(), name);

@@ -10,6 +10,8 @@ use crate::doctype_states::no_doctype;
 use crate::error_code::ErrorCode;
 use crate::keyword::Keyword;
 use crate::letters::Letters;
+use crate::raw_end::RawEnd;
+use crate::repeats::Repeats;
 use crate::tag_states::nameless;
 use crate::tokenizer::{Stream, Tokenizer};
 use html_queue::BufferQueue;
@@ -73,8 +75,9 @@ impl<Sink: TokenSink> Tokenizer<Sink> {
             },
             state: first_state(opts.initial_state),
             char_ref: None,
-            last_start_tag: opts.last_start_tag_name,
+            raw_end: RawEnd::new(alloc, opts.last_start_tag_name),
             tag: nameless(alloc),
+            repeats: Repeats::none(),
             attribute_name: Text::empty(alloc),
             attribute_value: Text::empty(alloc),
             comment: Text::empty(alloc),

@@ -2,11 +2,13 @@
 ghost use Rattle.std.specs.Prelude.{◌≡◌, IfOk, IfErr, OnErr};
 ghost use Rattle.markup.specs.declared.fault.ParseFault.TheVariants.{Memory};
 ghost use Rattle.html_tokenizer.specs.Calls.{IsReady, KeepsText, Moves, NextsAt, Runs};
-ghost use Rattle.html_tokenizer.specs.Fronts.{ReadsTags};
+ghost use Rattle.html_tokenizer.specs.Fronts.{IsInTag, ReadsTags};
 ghost use Rattle.html_tokenizer.specs.Stops.{IsRunAt};
 
+use crate::front_references::reference_of;
 use crate::front_tags::opening_of;
 use crate::piece::Piece;
+use crate::text_runs::data_stops;
 use crate::tokenizer::Tokenizer;
 use html_queue::BufferQueue;
 use html_tokens::ProcessResult;
@@ -52,6 +54,49 @@ impl<Sink: TokenSink> Tokenizer<Sink> {
         }
     }
 
+    /// Takes a run of text of data from the front of the input, or else what comes next.
+    fn move_by_run(
+        &mut self,
+        input: &mut BufferQueue,
+    ) -> Result<ProcessResult<Sink::Handle>, ParseFault>
+        requires ready { IsReady Sink.TokenSink self.old }
+        requires tags { ReadsTags self.old }
+        ensures { Moves Sink.TokenSink self.old self.new input.old input.new result }
+    {
+        let (run, _rest) = data_stops().split(input.as_str());
+        if run.is_empty() {
+            return self.move_by_piece(input);
+        }
+        let width = run.len();
+        let made = Text::from_str(self.stream.alloc, run)?;
+        self.stream.ignore_lf = false;
+        input.skip(width);
+        self.take_text(made)
+    }
+
+    /// Holds a reference by name from the front of the input at once, or else takes what comes next.
+    fn move_by_reference(
+        &mut self,
+        input: &mut BufferQueue,
+    ) -> Result<ProcessResult<Sink::Handle>, ParseFault>
+        requires ready { IsReady Sink.TokenSink self.old }
+        requires tags { ReadsTags self.old }
+        ensures { Moves Sink.TokenSink self.old self.new input.old input.new result }
+    {
+        let text = input.as_str();
+        let Some((name, rest)) = reference_of(text) else {
+            return self.move_by_run(input);
+        };
+        let holds = self.hold_name(name)?;
+        if !holds {
+            return self.move_by_piece(input);
+        }
+        self.stream.ignore_lf = false;
+        let width = text.len() - rest.len();
+        input.skip(width);
+        Ok(ProcessResult::Continue)
+    }
+
     /// Takes the beginning of a tag from the front of the input at once, or else what comes next.
     fn move_by_tag(
         &mut self,
@@ -63,13 +108,31 @@ impl<Sink: TokenSink> Tokenizer<Sink> {
     {
         let text = input.as_str();
         let Some(opening) = opening_of(text) else {
-            return self.move_by_piece(input);
+            return self.move_by_reference(input);
         };
         self.stream.ignore_lf = false;
         let rest = self.take_opening(opening)?;
         let width = text.len() - rest.len();
         input.skip(width);
         Ok(ProcessResult::Continue)
+    }
+
+    /// Takes what comes next of the input behind a tag's name or a value in quotes, where `>` ends the tag.
+    fn move_in_tag(
+        &mut self,
+        input: &mut BufferQueue,
+    ) -> Result<ProcessResult<Sink::Handle>, ParseFault>
+        requires ready { IsReady Sink.TokenSink self.old }
+        requires at { IsInTag self.old }
+        ensures { Moves Sink.TokenSink self.old self.new input.old input.new result }
+    {
+        let Some(c) = self.stream.next_char(input) else {
+            return Ok(ProcessResult::Suspend);
+        };
+        if c == '>' {
+            return self.emit_tag();
+        }
+        self.take(c)
     }
 
     /// Takes what comes next of the input.
@@ -82,6 +145,9 @@ impl<Sink: TokenSink> Tokenizer<Sink> {
     {
         if self.reads_tags() {
             return self.move_by_tag(input);
+        }
+        if self.is_in_tag() {
+            return self.move_in_tag(input);
         }
         self.move_by_piece(input)
     }
@@ -97,7 +163,10 @@ impl<Sink: TokenSink> Tokenizer<Sink> {
         loop {
             match self.move_on(input)? {
                 ProcessResult::Continue => {}
-                ProcessResult::Suspend => return Ok(TokenizerResult::Done),
+                ProcessResult::Suspend => {
+                    let _letters = self.raw_end.as_str();
+                    return Ok(TokenizerResult::Done);
+                }
                 ProcessResult::Script(handle) => return Ok(TokenizerResult::Script(handle)),
                 ProcessResult::EncodingIndicator(label) => {
                     return Ok(TokenizerResult::EncodingIndicator(label));

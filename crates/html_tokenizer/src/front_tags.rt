@@ -10,7 +10,7 @@ ghost use Rattle.html_tokenizer.specs.Quotes.{quote_of};
 ghost use Rattle.html_tokenizer.specs.Steps.{IsAt};
 
 use crate::tag_states::nameless;
-use crate::text_runs::{BREAKS, value_stops};
+use crate::text_runs::{BREAKS, attribute_stops, value_stops};
 use crate::tokenizer::Tokenizer;
 use html_queue::SmallCharSet;
 use html_tokens::TagKind;
@@ -27,26 +27,8 @@ fn name_stops() -> SmallCharSet
     }
 }
 
-/// The same of an attribute's name, and what is an error in it.
-fn attribute_stops() -> SmallCharSet
-    ensures { result ≡ Fronts.attribute_stops }
-{
-    SmallCharSet {
-        bits: BREAKS
-            | 1 << 9
-            | 1 << 12
-            | 1 << 32
-            | 1 << 34
-            | 1 << 39
-            | 1 << 47
-            | 1 << 60
-            | 1 << 61
-            | 1 << 62,
-    }
-}
-
 /// What follows an ASCII character at the front of a text, if it stands there.
-fn behind(text: &str, byte: u8) -> Option<&str>
+pub(crate) fn behind(text: &str, byte: u8) -> Option<&str>
     requires ascii { byte < 128 }
     ensures whole { IfSome result (λ rest. text.now ≡ byte ∷ rest.now) }
     ensures utf8 { IfSome result (λ rest. IsUtf8 rest.now) }
@@ -169,6 +151,17 @@ impl<Sink: TokenSink> Tokenizer<Sink> {
             && self.char_ref.is_none()
             && !self.stream.exact_errors
             && !self.stream.discard_bom
+    }
+
+    /// Whether the machine stands behind a tag's name or behind a value in quotes.
+    pub(crate) fn is_in_tag(&self) -> bool
+        ensures { result ≡ true → IsInTag self.now }
+    {
+        self.char_ref.is_none()
+            && matches!(
+                self.state,
+                State::TagName | State::AfterAttributeValueQuoted
+            )
     }
 
     /// Begins a tag with this name.

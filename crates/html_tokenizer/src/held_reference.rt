@@ -37,6 +37,14 @@ impl HeldReference {
         }
     }
 
+    /// What was read of a name.
+    pub(crate) fn of_name(text: Text) -> HeldReference
+        requires { list_all is_held text ≡ true }
+        ensures { result ≡ text }
+    {
+        HeldReference { text }
+    }
+
     /// Puts a character at the end.
     pub(crate) fn push(&mut self, c: char) -> Result<(), ParseFault>
         requires { is_held c ≡ true }

@@ -1,5 +1,5 @@
 //! Words of ASCII letters.
-ghost use Rattle.std.specs.Prelude.{codes, ◌≡◌, ◌∷◌, [], ◌++◌, true, map, IfOk, IfErr, OnOk, length, ◌==◌};
+ghost use Rattle.std.specs.Prelude.{codes, ◌≡◌, ◌∷◌, [], ◌++◌, true, map, IfOk, IfErr, OnOk, OnErr, length, ◌==◌};
 ghost use Rattle.std.specs.Char.{is_ascii_alphabetic, to_ascii_lowercase};
 ghost use Rattle.std.specs.List.{list_all};
 ghost use Rattle.std.specs.Str.{chars};
@@ -42,6 +42,7 @@ impl Letters {
     pub(crate) fn push(&mut self, letter: char) -> Result<(), ParseFault>
         requires { is_ascii_alphabetic letter ≡ true }
         ensures ok { OnOk result (self.new ≡ self.old ++ letter ∷ []) }
+        ensures err { OnErr result (self.new ≡ self.old) }
         ensures fault { IfErr result (λ fault. fault ≡ Memory) }
     {
         self.text.push(letter)
@@ -98,6 +99,15 @@ impl Letters {
         ensures letters { list_all is_ascii_alphabetic self.now ≡ true }
     {
         self.is_any_case("script")
+    }
+
+    /// The same letters.
+    pub(crate) fn copied(&self, alloc: Global) -> Result<Letters, ParseFault>
+        ensures ok { IfOk result (λ word. word ≡ self.now) }
+        ensures fault { IfErr result (λ fault. fault ≡ Memory) }
+    {
+        let text = Text::from_str(alloc, self.text.as_str())?;
+        Ok(Letters { text })
     }
 
     /// The letters lowered.

@@ -3,7 +3,7 @@ ghost use Rattle.std.specs.Prelude.{◌≡◌, ◌≤◌, ◌∷◌, [], ◌++�
 ghost use Rattle.std.specs.Option.{is_some, option_map, unwrap_or};
 ghost use Rattle.html_tokens.specs.Characters.{run};
 ghost use Rattle.html_tokens.specs.Reference;
-ghost use Rattle.html_tokenizer.specs.CharRefs.{are_digits, base_of, is_faulty_digits, is_faulty_number, is_faulty_numeric, is_number_front, reference_of, stops};
+ghost use Rattle.html_tokenizer.specs.CharRefs.{are_digits, base_of, has_fault, is_faulty_digits, is_faulty_number, is_faulty_numeric, is_number_front, reference_of, stops};
 
 use crate::characters::is_forbidden;
 use crate::error_code::ErrorCode;
@@ -226,26 +226,38 @@ fn number_fault(number: u32) -> Option<ErrorCode>
     }
 }
 
-/// The error of digits behind a prefix, if they have one.
-fn digits_fault(hex: bool, text: &[u8]) -> Option<ErrorCode>
-    ensures { is_some result ≡ is_faulty_digits hex text.now }
+/// The errors of a reference, in the order in which they are told.
+#[derive(Clone, Copy)]
+pub struct ReferenceFaults {
+    /// Whether no `;` ends it.
+    pub(crate) lacks_semicolon: bool,
+    /// The error of what it names, if it has one.
+    pub(crate) fault: Option<ErrorCode>,
+}
+
+/// The errors of digits behind a prefix.
+fn digits_faults(hex: bool, text: &[u8]) -> ReferenceFaults
+    ensures { has_fault result ≡ is_faulty_digits hex text.now }
 {
     let count = digit_run(hex, text);
     if count == 0 {
-        return Some(ErrorCode::AbsenceOfDigitsInNumericCharacterReference);
+        return ReferenceFaults {
+            lacks_semicolon: false,
+            fault: Some(ErrorCode::AbsenceOfDigitsInNumericCharacterReference),
+        };
     }
-    if semicolon(&text[count..]) == 0 {
-        return Some(ErrorCode::MissingSemicolonAfterCharacterReference);
+    ReferenceFaults {
+        lacks_semicolon: semicolon(&text[count..]) == 0,
+        fault: number_fault(number(hex, &text[..count])),
     }
-    number_fault(number(hex, &text[..count]))
 }
 
-/// The error of a numeric reference behind `&#`, if it has one.
-pub(crate) fn numeric_fault(text: &[u8]) -> Option<ErrorCode>
-    ensures { is_some result ≡ is_faulty_numeric text.now }
+/// The errors of a numeric reference behind `&#`.
+pub(crate) fn numeric_faults(text: &[u8]) -> ReferenceFaults
+    ensures { has_fault result ≡ is_faulty_numeric text.now }
 {
     match text {
-        [b'x' | b'X', digits @ ..] => digits_fault(true, digits),
-        _ => digits_fault(false, text),
+        [b'x' | b'X', digits @ ..] => digits_faults(true, digits),
+        _ => digits_faults(false, text),
     }
 }

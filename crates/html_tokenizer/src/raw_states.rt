@@ -1,16 +1,15 @@
 //! Text that only its own end tag ends (HTML Standard, sections 13.2.5.2 to 13.2.5.4, 13.2.5.9 to 13.2.5.17 and 13.2.5.20 to 13.2.5.30).
-ghost use Rattle.std.specs.Prelude.{◌≡◌, ◌∷◌, ◌++◌, ◌⊎◌, ℕ, List, true, false};
+ghost use Rattle.std.specs.Prelude.{◌≡◌, ◌∷◌, true, false};
 ghost use Rattle.std.specs.Char.{is_ascii_alphabetic};
 ghost use Rattle.std.specs.List.{list_all};
 ghost use Rattle.html_tokens.specs.declared.states.State.TheVariants as state;
 ghost use Rattle.html_tokens.specs.declared.states.RawKind.TheVariants as raw;
 ghost use Rattle.html_tokens.specs.declared.states.ScriptEscapeKind.TheVariants as script;
 ghost use Rattle.html_tokens.specs.declared.token.Token.TheVariants.{CharacterTokens};
-ghost use Rattle.html_tokens.specs.RawText.{ends_at_tag, has_references, is_fitting_end};
+ghost use Rattle.html_tokens.specs.RawText.{ends_at_tag, has_references};
 ghost use Rattle.html_tokenizer.specs.Steps.{IsAt, Tells, Keeps, nothing_owed};
 ghost use Rattle.html_tokenizer.specs.Words.{ends_raw_text, may_escape};
 
-use crate::characters::ends_tag_name;
 use crate::held_reference::HeldReference;
 use crate::letters::Letters;
 use crate::tokenizer::Tokenizer;
@@ -202,11 +201,13 @@ impl<Sink: TokenSink> Tokenizer<Sink> {
         requires sound { Sink.is_sound (Sink.view self.old.sink) }
         ensures { Keeps Sink.TokenSink self.old self.new c result }
     {
-        let no_letters = Letters::new(self.stream.alloc);
-        if self.goes_on_name(kind, &no_letters, c) {
-            self.word = Letters::first(self.stream.alloc, c)?;
+        if self.raw_end.begins_with(self.stream.alloc, c) {
+            self.raw_end.begin(self.stream.alloc, c)?;
             self.state = State::RawEndTagName(kind);
             return Ok(ProcessResult::Continue);
+        }
+        if !ends_at_tag(kind) {
+            return self.double_escaped_end_tag_open(kind, c);
         }
         self.state = State::RawData(kind);
         self.tell_two('<', '/')?;
@@ -223,14 +224,14 @@ impl<Sink: TokenSink> Tokenizer<Sink> {
         requires sound { Sink.is_sound (Sink.view self.old.sink) }
         ensures { Keeps Sink.TokenSink self.old self.new c result }
     {
-        if self.goes_on_name(kind, &self.word, c) {
-            self.word.push(c)?;
+        if self.raw_end.goes_on_by(c) {
+            self.raw_end.push(c)?;
             return Ok(ProcessResult::Continue);
         }
         if !ends_at_tag(kind) {
             return self.double_escaped_end_tag(kind, c);
         }
-        if self.ends_raw_text(c) {
+        if self.raw_end.ends_before(c) {
             return self.raw_end_tag(kind, c);
         }
         self.state = State::RawData(kind);
@@ -246,11 +247,11 @@ impl<Sink: TokenSink> Tokenizer<Sink> {
     ) -> Result<ProcessResult<Sink::Handle>, ParseFault>
         requires at { IsAt self.old (state.RawEndTagName kind) }
         requires held { ends_at_tag kind ≡ true }
-        requires ends { ends_raw_text self.old.last_start_tag self.old.word c ≡ true }
+        requires ends { ends_raw_text self.old.raw_end.name self.old.raw_end.letters c ≡ true }
         requires sound { Sink.is_sound (Sink.view self.old.sink) }
         ensures { Keeps Sink.TokenSink self.old self.new c result }
     {
-        let name = self.word.lowered(self.stream.alloc)?;
+        let name = self.raw_end.lowered(self.stream.alloc)?;
         self.tag = Tag {
             kind: TagKind::EndTag,
             name: LocalName::from_text(name),
@@ -262,7 +263,24 @@ impl<Sink: TokenSink> Tokenizer<Sink> {
         self.tag_name_state(c)
     }
 
-    /// Text escaped twice, in which no end tag is held.
+    /// Behind `</` in text escaped twice, in which no end tag is held.
+    fn double_escaped_end_tag_open(
+        &mut self,
+        kind: RawKind,
+        c: char,
+    ) -> Result<ProcessResult<Sink::Handle>, ParseFault>
+        requires at { IsAt self.old (state.RawEndTagOpen kind) }
+        requires told { ends_at_tag kind ≡ false }
+        requires sound { Sink.is_sound (Sink.view self.old.sink) }
+        ensures { Keeps Sink.TokenSink self.old self.new c result }
+    {
+        self.word = Letters::new(self.stream.alloc);
+        self.state = State::ScriptDataDoubleEscapeEnd;
+        self.tell_two('<', '/')?;
+        self.script_data_double_escape_end_state(c)
+    }
+
+    /// The same behind letters.
     fn double_escaped_end_tag(
         &mut self,
         kind: RawKind,
@@ -273,53 +291,23 @@ impl<Sink: TokenSink> Tokenizer<Sink> {
         requires sound { Sink.is_sound (Sink.view self.old.sink) }
         ensures { Keeps Sink.TokenSink self.old self.new c result }
     {
+        self.word = self.raw_end.copied(self.stream.alloc)?;
         self.state = State::ScriptDataDoubleEscapeEnd;
         self.tell_end_tag()?;
         self.script_data_double_escape_end_state(c)
     }
 
-    /// Whether a word goes on by a character as the name of the end tag that ends text of this kind.
-    fn goes_on_name(&self, kind: RawKind, word: &Letters, c: char) -> bool
-        ensures letter { result ≡ true → is_ascii_alphabetic c ≡ true }
-        ensures apart { result ≡ false → ends_raw_text self.now.last_start_tag word.now c ≡ false → (t : List ℕ) → is_fitting_end self.now.last_start_tag (47 ∷ (word.now ++ c ∷ t)) ≡ false }
-        ensures kind { result ≡ false → (is_ascii_alphabetic c ≡ false) ⊎ (ends_at_tag kind ≡ true) }
-    {
-        let _letters = word.as_str();
-        if !c.is_ascii_alphabetic() {
-            return false;
-        }
-        if !ends_at_tag(kind) {
-            return true;
-        }
-        match &self.last_start_tag {
-            Some(name) => word.is_next_in(name.as_str(), c),
-            None => false,
-        }
-    }
-
-    /// Whether the word that is held, with this character behind it, is the fitting end tag's name.
-    fn ends_raw_text(&self, c: char) -> bool
-        ensures { result ≡ ends_raw_text self.now.last_start_tag self.now.word c }
-    {
-        match &self.last_start_tag {
-            Some(name) => {
-                !self.word.is_empty() && self.word.is_any_case(name.as_str()) && ends_tag_name(c)
-            }
-            None => false,
-        }
-    }
-
     /// Hands out the end tag that is held, which was text.
     pub(crate) fn tell_end_tag(&mut self) -> Result<(), ParseFault>
         requires sound { Sink.is_sound (Sink.view self.old.sink) }
-        ensures is { Tells Sink.TokenSink nothing_owed (CharacterTokens (60 ∷ 47 ∷ self.old.word)) self.old self.new result }
-        ensures letters { list_all is_ascii_alphabetic self.old.word ≡ true }
+        ensures is { Tells Sink.TokenSink nothing_owed (CharacterTokens (60 ∷ 47 ∷ self.old.raw_end.letters)) self.old self.new result }
+        ensures letters { list_all is_ascii_alphabetic self.old.raw_end.letters ≡ true }
     {
         let mut text = Text::empty(self.stream.alloc);
-        let word = self.word.as_str();
+        let letters = self.raw_end.as_str();
         text.push('<')?;
         text.push('/')?;
-        text.push_str(word)?;
+        text.push_str(letters)?;
         self.tell(Token::CharacterTokens(text))
     }
 }

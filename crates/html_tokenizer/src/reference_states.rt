@@ -4,11 +4,14 @@ ghost use Rattle.html_tokens.specs.Reference.{fault_of_reference};
 ghost use Rattle.html_tokens.specs.declared.states.RawKind.TheVariants as raw;
 ghost use Rattle.html_tokens.specs.declared.states.State.TheVariants as state;
 ghost use Rattle.html_tokens.specs.declared.token.Token.TheVariants.{CharacterTokens};
-ghost use Rattle.html_tokenizer.specs.CharRefs.{IsDecided, is_held_front, may_hold, resolved};
+ghost use Rattle.html_tokenizer.specs.CharRefs.{IsDecided, has_fault, is_held_front, may_hold, resolved};
 ghost use Rattle.html_tokenizer.specs.Rest.{rows_of};
-ghost use Rattle.html_tokenizer.specs.Steps.{IsAt, Keeps, Tells, owed_for};
+ghost use Rattle.html_tokenizer.specs.Steps.{IsAt, Keeps, Errs, Tells, owed_for};
+ghost use Rattle.html_tokens.specs.Item.{grave_if};
 
+use crate::error_code::ErrorCode;
 use crate::held_reference::HeldReference;
+use crate::numbers::ReferenceFaults;
 use crate::references::{decided, goes_on_at, may_go_on, push_resolved};
 use crate::tokenizer::Tokenizer;
 use html_tokens::sink::TokenSink;
@@ -17,6 +20,18 @@ use html_tokens::{ProcessResult, Token};
 use markup::{ParseFault, Text};
 
 impl<Sink: TokenSink> Tokenizer<Sink> {
+    /// Tells the errors of a reference.
+    fn tell_reference_faults(&mut self, faults: ReferenceFaults) -> Result<(), ParseFault>
+        requires sound { Sink.is_sound (Sink.view self.old.sink) }
+        ensures { Errs Sink.TokenSink (owed_for (grave_if (has_fault faults))) self.old self.new result }
+    {
+        self.tell_if(
+            faults.lacks_semicolon,
+            ErrorCode::MissingSemicolonAfterCharacterReference,
+        )?;
+        self.tell_fault(faults.fault)
+    }
+
     /// Hands out what a reference in text stands for.
     pub(crate) fn tell_reference(&mut self, held: &HeldReference) -> Result<(), ParseFault>
         requires sound { Sink.is_sound (Sink.view self.old.sink) }
@@ -25,11 +40,8 @@ impl<Sink: TokenSink> Tokenizer<Sink> {
         let decision = decided(&self.stream.table, false, held, false);
         let mut text = Text::empty(self.stream.alloc);
         push_resolved(&mut text, decision.found, held)?;
-        let token = Token::CharacterTokens(text);
-        match decision.fault {
-            Some(message) => self.tell_faulty(message, token),
-            None => self.tell(token),
-        }
+        self.tell_reference_faults(decision.faults)?;
+        self.tell(Token::CharacterTokens(text))
     }
 
     /// A reference ends in data.
@@ -75,7 +87,7 @@ impl<Sink: TokenSink> Tokenizer<Sink> {
         ensures { Keeps Sink.TokenSink (record self.old { char_ref = Some held.now }) self.new c result }
     {
         let decision = decided(&self.stream.table, true, held, goes_on_at(c));
-        self.tell_fault(decision.fault)?;
+        self.tell_reference_faults(decision.faults)?;
         push_resolved(&mut self.attribute_value, decision.found, held)?;
         self.attribute_value_state(kind, c)
     }

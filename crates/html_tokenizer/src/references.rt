@@ -11,7 +11,7 @@ ghost use Rattle.html_tokens.specs.Table.{values};
 
 use crate::error_code::ErrorCode;
 use crate::held_reference::HeldReference;
-use crate::numbers::{self, Found};
+use crate::numbers::{self, Found, ReferenceFaults};
 use html_references::References;
 use html_tokens::table::ReferenceRow;
 use markup::{ParseFault, Text};
@@ -126,41 +126,50 @@ fn row_found(row: &ReferenceRow) -> Found
 pub(crate) struct Decision {
     /// The reference, or none where `&` is text.
     pub(crate) found: Option<Found>,
-    /// The error that it has, if it has one.
-    pub(crate) fault: Option<ErrorCode>,
+    /// Its errors.
+    pub(crate) faults: ReferenceFaults,
 }
 
-/// The error of a name that is in no table, if it has one: `;` ends it.
-fn unknown_fault(text: &str) -> Option<ErrorCode>
-    ensures { is_some result ≡ (not (nat_eq (length text.now) 1) && CharRefs.ends_in_semicolon text.now) }
+/// What has no error.
+const NO_FAULTS: ReferenceFaults = ReferenceFaults {
+    lacks_semicolon: false,
+    fault: None,
+};
+
+/// The errors of a name that is in no table, if it has one: `;` ends it.
+fn unknown_faults(text: &str) -> ReferenceFaults
+    ensures { CharRefs.has_fault result ≡ (not (nat_eq (length text.now) 1) && CharRefs.ends_in_semicolon text.now) }
 {
     if text.len() != 1 && text.as_bytes().ends_with(b";") {
-        return Some(ErrorCode::UnknownNamedCharacterReference);
+        return ReferenceFaults {
+            lacks_semicolon: false,
+            fault: Some(ErrorCode::UnknownNamedCharacterReference),
+        };
     }
-    None
+    NO_FAULTS
 }
 
-/// The error of a name of the table, if it has one: it has no `;`.
-fn name_fault(name: &str) -> Option<ErrorCode>
-    ensures { is_some result ≡ not (CharRefs.ends_in_semicolon name.now) }
+/// The errors of a name of the table, if it has one: it has no `;`.
+fn name_faults(name: &str) -> ReferenceFaults
+    ensures { CharRefs.has_fault result ≡ not (CharRefs.ends_in_semicolon name.now) }
 {
-    if name.as_bytes().ends_with(b";") {
-        return None;
+    ReferenceFaults {
+        lacks_semicolon: !name.as_bytes().ends_with(b";"),
+        fault: None,
     }
-    Some(ErrorCode::MissingSemicolonAfterCharacterReference)
 }
 
 /// A named reference, by what was held and whether `=`, a letter or a digit follows.
 fn named(table: &References, in_value: bool, text: &str, follows: bool) -> Decision
     requires { chars text.now ≡ text.now }
     ensures found { option_map CharRefs.reference_of result.found ≡ CharRefs.named_before in_value (longest table.now text.now) text.now follows }
-    ensures fault { is_some result.fault ≡ CharRefs.is_faulty_named in_value (longest table.now text.now) text.now follows }
+    ensures fault { CharRefs.has_fault result.faults ≡ CharRefs.is_faulty_named in_value (longest table.now text.now) text.now follows }
 {
     let _rows = table.rows();
     let Some(row) = table.longest(text) else {
         return Decision {
             found: None,
-            fault: unknown_fault(text),
+            faults: unknown_faults(text),
         };
     };
     let found = row_found(row);
@@ -172,29 +181,29 @@ fn named(table: &References, in_value: bool, text: &str, follows: bool) -> Decis
     ) {
         return Decision {
             found: None,
-            fault: None,
+            faults: NO_FAULTS,
         };
     }
     Decision {
         found: Some(found),
-        fault: name_fault(name_of(row)),
+        faults: name_faults(name_of(row)),
     }
 }
 
 /// The reference that was held, by whether `=`, a letter or a digit follows.
 fn find(table: &References, in_value: bool, held: &HeldReference, follows: bool) -> Decision
     ensures found { option_map CharRefs.reference_of result.found ≡ CharRefs.decided in_value table.now held.now follows }
-    ensures fault { is_some result.fault ≡ CharRefs.is_faulty in_value table.now held.now follows }
+    ensures fault { CharRefs.has_fault result.faults ≡ CharRefs.is_faulty in_value table.now held.now follows }
 {
     let text = held.as_str();
     match text.as_bytes().first() {
         None => Decision {
             found: None,
-            fault: None,
+            faults: NO_FAULTS,
         },
         Some(b'#') => Decision {
             found: numbers::numeric(&text.as_bytes()[1..]),
-            fault: numbers::numeric_fault(&text.as_bytes()[1..]),
+            faults: numbers::numeric_faults(&text.as_bytes()[1..]),
         },
         Some(_) => named(table, in_value, text, follows),
     }
@@ -208,7 +217,7 @@ pub(crate) fn decided(
     follows: bool,
 ) -> Decision
     ensures is { option_map CharRefs.reference_of result.found ≡ CharRefs.decided in_value table.now held.now follows }
-    ensures fault { is_some result.fault ≡ CharRefs.is_faulty in_value table.now held.now follows }
+    ensures fault { CharRefs.has_fault result.faults ≡ CharRefs.is_faulty in_value table.now held.now follows }
     ensures within { IfSome result.found (λ found. found.len ≤ length held.now) }
 {
     find(table, in_value, held, follows)

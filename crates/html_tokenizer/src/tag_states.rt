@@ -1,6 +1,6 @@
 //! Tags up to their attributes, and their end (HTML Standard, sections 13.2.5.8, 13.2.5.32 and 13.2.5.40).
-ghost use Rattle.std.specs.Prelude.{◌≡◌, [], None, IfOk, IfErr, is_some};
-ghost use Rattle.html_tokens.specs.Tags.{is_faulty_end, is_faulty_tag, or_last, own_name};
+ghost use Rattle.std.specs.Prelude.{◌≡◌, [], None, IfOk, IfErr, not};
+ghost use Rattle.html_tokens.specs.Tags.{is_empty, is_faulty_end, is_faulty_tag, or_last, own_name};
 ghost use Rattle.html_tokens.specs.declared.states.State.TheVariants as state;
 ghost use Rattle.html_tokens.specs.declared.tags.TagKind.TheVariants.{EndTag, StartTag};
 ghost use Rattle.html_tokens.specs.Tags.{named};
@@ -10,6 +10,7 @@ ghost use Rattle.html_tokens.specs.Item.{grave_if};
 
 use crate::characters::{is_white_space, lowered};
 use crate::error_code::ErrorCode;
+use crate::repeats::Repeats;
 use crate::tokenizer::Tokenizer;
 use html_tokens::sink::TokenSink;
 use html_tokens::states::State;
@@ -31,30 +32,11 @@ pub(crate) fn nameless(alloc: Global) -> Tag
     }
 }
 
-/// The error of an end tag that has more than its name, if it has.
-fn end_tag_fault(tag: &Tag) -> Option<ErrorCode>
-    ensures { is_some result ≡ is_faulty_end EndTag tag.now }
+/// Whether a tag has attributes.
+fn has_attributes(tag: &Tag) -> bool
+    ensures { result ≡ not (is_empty tag.now.attrs) }
 {
-    if tag.self_closing {
-        return Some(ErrorCode::EndTagWithTrailingSolidus);
-    }
-    if !tag.attrs.is_empty() {
-        return Some(ErrorCode::EndTagWithAttributes);
-    }
-    None
-}
-
-/// The error of a tag, if it has one: a repeated attribute, or more than a name in an end tag.
-fn tag_fault(tag: &Tag) -> Option<ErrorCode>
-    ensures { is_some result ≡ is_faulty_tag tag.now }
-{
-    if tag.had_duplicate_attributes {
-        return Some(ErrorCode::DuplicateAttribute);
-    }
-    match tag.kind {
-        TagKind::StartTag => None,
-        TagKind::EndTag => end_tag_fault(tag),
-    }
+    !tag.attrs.is_empty()
 }
 
 impl<Sink: TokenSink> Tokenizer<Sink> {
@@ -74,20 +56,56 @@ impl<Sink: TokenSink> Tokenizer<Sink> {
 
     /// Keeps a name as that of the last start tag, if there is one.
     fn keep_last_start_tag(&mut self, name: Option<Text>)
-        ensures { self.new ≡ record self.old { last_start_tag = or_last name self.old.last_start_tag } }
+        ensures changed { self.new ≡ record self.old { raw_end = self.new.raw_end } }
+        ensures name { self.new.raw_end.name ≡ or_last name self.old.raw_end.name }
     {
-        if name.is_some() {
-            self.last_start_tag = name;
+        self.raw_end.keep_name(self.stream.alloc, name);
+    }
+
+    /// Tells an error for each attribute of the tag that is read which repeats one before it (section 13.2.5.33).
+    fn tell_repeats(&mut self) -> Result<(), ParseFault>
+        requires sound { Sink.is_sound (Sink.view self.old.sink) }
+        ensures { Errs Sink.TokenSink (owed_for (grave_if self.old.tag.had_duplicate_attributes)) self.old self.new result }
+    {
+        if !self.tag.had_duplicate_attributes {
+            return Ok(());
+        }
+        self.tell_error(ErrorCode::DuplicateAttribute)?;
+        for _repeat in 0..self.repeats.count() {
+            self.tell_error(ErrorCode::DuplicateAttribute)?;
+        }
+        self.repeats = Repeats::none();
+        Ok(())
+    }
+
+    /// Tells what an end tag has besides its name, attributes and a solidus (section 13.2.5).
+    fn tell_end_tag_faults(&mut self) -> Result<(), ParseFault>
+        requires sound { Sink.is_sound (Sink.view self.old.sink) }
+        ensures { Errs Sink.TokenSink (owed_for (grave_if (is_faulty_end EndTag self.old.tag))) self.old self.new result }
+    {
+        let has_attributes = has_attributes(&self.tag);
+        self.tell_if(has_attributes, ErrorCode::EndTagWithAttributes)?;
+        self.tell_if(self.tag.self_closing, ErrorCode::EndTagWithTrailingSolidus)
+    }
+
+    /// The same of the tag that is read, where it is an end tag.
+    fn tell_end_faults(&mut self) -> Result<(), ParseFault>
+        requires sound { Sink.is_sound (Sink.view self.old.sink) }
+        ensures { Errs Sink.TokenSink (owed_for (grave_if (is_faulty_end self.old.tag.kind self.old.tag))) self.old self.new result }
+    {
+        match self.tag.kind {
+            TagKind::StartTag => Ok(()),
+            TagKind::EndTag => self.tell_end_tag_faults(),
         }
     }
 
-    /// Tells an error, if the tag that is read is faulty.
+    /// Tells the errors of the tag that is read, if it is faulty.
     fn tell_faulty_tag(&mut self) -> Result<(), ParseFault>
         requires sound { Sink.is_sound (Sink.view self.old.sink) }
         ensures { Errs Sink.TokenSink (owed_for (grave_if (is_faulty_tag self.old.tag))) self.old self.new result }
     {
-        let fault = tag_fault(&self.tag);
-        self.tell_fault(fault)
+        self.tell_repeats()?;
+        self.tell_end_faults()
     }
 
     /// Goes where the reply to a tag has it.

@@ -40,6 +40,9 @@ impl<Sink: TokenSink> Tokenizer<Sink> {
         requires fits { fits_in (rows_of self.old) self.old.char_ref self.old.state ≡ true }
         ensures { Keeps Sink.TokenSink self.old self.new c result }
     {
+        if self.char_ref.is_none() {
+            return self.step(c);
+        }
         match self.char_ref.take() {
             Some(held) => self.reference_state(held, c),
             None => self.step(c),

@@ -14,6 +14,15 @@ use markup::{ParseFault, Text};
 /// NUL, line feed and carriage return.
 pub(crate) const BREAKS: u64 = 1 << 0 | 1 << 10 | 1 << 13;
 
+/// The characters of data that are no plain text.
+pub(crate) fn data_stops() -> SmallCharSet
+    ensures { result ≡ stops.data_stops }
+{
+    SmallCharSet {
+        bits: BREAKS | 1 << 38 | 1 << 60,
+    }
+}
+
 /// The characters of raw text of this kind that are no plain text.
 fn raw_stops(kind: RawKind) -> SmallCharSet
     ensures { result ≡ stops.raw_stops kind }
@@ -28,6 +37,24 @@ fn raw_stops(kind: RawKind) -> SmallCharSet
         RawKind::ScriptDataEscaped(_) => SmallCharSet {
             bits: BREAKS | 1 << 45 | 1 << 60,
         },
+    }
+}
+
+/// What ends an attribute's name, and what is an error in it.
+pub(crate) fn attribute_stops() -> SmallCharSet
+    ensures { result ≡ stops.attribute_stops }
+{
+    SmallCharSet {
+        bits: BREAKS
+            | 1 << 9
+            | 1 << 12
+            | 1 << 32
+            | 1 << 34
+            | 1 << 39
+            | 1 << 47
+            | 1 << 60
+            | 1 << 61
+            | 1 << 62,
     }
 }
 
@@ -58,11 +85,10 @@ impl<Sink: TokenSink> Tokenizer<Sink> {
             return None;
         }
         match self.state {
-            State::Data => Some(SmallCharSet {
-                bits: BREAKS | 1 << 38 | 1 << 60,
-            }),
+            State::Data => Some(data_stops()),
             State::Plaintext => Some(SmallCharSet { bits: BREAKS }),
             State::RawData(kind) => Some(raw_stops(kind)),
+            State::AttributeName => Some(attribute_stops()),
             State::AttributeValue(kind) => Some(value_stops(kind)),
             State::BogusComment => Some(SmallCharSet {
                 bits: BREAKS | 1 << 62,
@@ -81,6 +107,7 @@ impl<Sink: TokenSink> Tokenizer<Sink> {
         ensures { KeepsRun Sink.TokenSink self.old self.new run result }
     {
         match self.state {
+            State::AttributeName => self.attribute_name.push_lowered(run.as_str()),
             State::AttributeValue(kind) => self.take_value_run(kind, &run),
             State::BogusComment | State::Comment => self.comment.append(&run),
             _ => self.tell(Token::CharacterTokens(run)),

@@ -4,6 +4,8 @@ use crate::error_code::ErrorCode;
 use crate::held_reference::HeldReference;
 use crate::keyword::Keyword;
 use crate::letters::Letters;
+use crate::raw_end::RawEnd;
+use crate::repeats::Repeats;
 use html_references::References;
 use html_tokens::states::State;
 use html_tokens::{Doctype, Tag};
@@ -39,10 +41,12 @@ pub struct Tokenizer<Sink> {
     pub(crate) state: State,
     /// What stands behind the `&` of a reference that may go on.
     pub(crate) char_ref: Option<HeldReference>,
-    /// The name of the last start tag, if one was told.
-    pub(crate) last_start_tag: Option<Text>,
+    /// The end tag that ends raw text: the last start tag's name, and what was read of it.
+    pub(crate) raw_end: RawEnd,
     /// The tag that is read.
     pub(crate) tag: Tag,
+    /// How many of its attributes repeat one, beyond the first that does.
+    pub(crate) repeats: Repeats,
     /// The name of the attribute that is read.
     pub(crate) attribute_name: Text,
     /// The value of the attribute that is read.
@@ -55,7 +59,7 @@ pub struct Tokenizer<Sink> {
     pub(crate) fault: ErrorCode,
     /// Characters that were read of a name or an identifier.
     pub(crate) temporary: Text,
-    /// The letters that were read of the name of an end tag, or of `script`.
+    /// The letters that were read of `script`.
     pub(crate) word: Letters,
     /// What was read of a word behind `<!` or behind a doctype's name.
     pub(crate) keyword: Keyword,

@@ -10,16 +10,15 @@ use Rattle.html_tokens.specs.declared.tags.TagKind.TheVariants.{StartTag, EndTag
 use Rattle.html_tokens.specs.declared.token.Token.{Token}
 use Rattle.html_tokens.specs.declared.token.Token.TheVariants.{DoctypeToken, TagToken, CommentToken, CharacterTokens, NullCharacterToken, EOFToken, ParseError as ErrorToken}
 use Rattle.html_rules.specs.Actions.{act}
-use Rattle.html_rules.specs.Choice.{choose}
 use Rattle.html_rules.specs.Conditions.{holds}
-use Rattle.html_rules.specs.ForeignContent.{ends_foreign, is_end_tag, is_html_element, is_start_tag, pop_foreign}
+use Rattle.html_rules.specs.ForeignContent.{is_end_tag, is_start_tag}
 use Rattle.html_rules.specs.Modes.Foreign.{in_foreign_content}
 use Rattle.html_rules.specs.Names.{Html, MathMl, Svg, Other, element_name_of}
 use Rattle.html_rules.specs.Rules.{Turn, first_fit, fits, most_modes, rows, using_rules_for}
 use Rattle.html_rules.specs.Sets.{mathml_names_of, svg_names_of}
 use Rattle.html_rules.specs.Shape.{is_at_root}
-use Rattle.html_rules.specs.Stack.{left_from, parse_error, pop_until_current}
-use Rattle.html_rules.specs.State.{Open, State, is_in}
+use Rattle.html_rules.specs.Stack.{parse_error}
+use Rattle.html_rules.specs.State.{State}
 use Rattle.html_rules.specs.Table.{Row, row, Class, AnythingElse, StartTags, Action, Nothing, Then, When, ParseError, CloseItem, EnterForeign, InsertForeign, PopForeign, PushHeadElem, RemoveHeadElem, Conclusion, Done, Acknowledged, Using, UsingThen, UsingCurrentMode}
 use Rattle.html_rules.specs.Tokens.{class_fits}
 use Rattle.html_rules.specs.declared.insertion_mode.InsertionMode.{InsertionMode}
@@ -30,7 +29,6 @@ use Rattle.html_rules_laws.specs.Upright.{MayCome, Upright, is_first, is_head_st
 use Rattle.html_rules_laws.proofs.Bools.{both, no, or_by}
 use Rattle.html_rules_laws.proofs.FirstFit.{by_fit, class_of_fits}
 use Rattle.html_rules_laws.proofs.Settling.Kinds.{Kind, StartsBut, EndsBut, Texts, Nulls, TheEnd, Others, is_of}
-use Rattle.html_rules_laws.proofs.Soundness.Steps.{html-root}
 use Rattle.html_rules_laws.proofs.Upright.Heads.{root-clear}
 use Rattle.html_rules_laws.proofs.Upright.Poised.{Poised, act-poised}
 use Rattle.html_rules_laws.proofs.Upright.Turns.{is_pop, poised-of, popped-mode, popped-poised, popped-root}

@@ -86,8 +86,8 @@ fn hint_of(attributes: &[Attribute]) -> Option<&str>
 impl<'a> Told<'a> {
     /// The encoding that a tag names, if it names one.
     #[tactic(auto, unfolding(html_rules::specs::Encodings::encoding_hint))]
-    fn encoding_hint(self) -> Option<&'a str>
-        ensures { Gives (encoding_hint (attributes_of (token_of self.entry.content))) result }
+    fn encoding_hint(&self) -> Option<&'a str>
+        ensures { Gives (encoding_hint (attributes_of (token_of self.now.content))) result }
     {
         match self.content {
             Content::Tag(tag) => hint_of(tag.attrs.as_slice()),
@@ -116,10 +116,10 @@ impl<Sink: TreeSink> Construction<Sink> {
         &mut self,
         ends: &'static Conclusion,
         script: Sink::Handle,
-        told: Told<'_>,
+        told: &Told<'_>,
     ) -> Result<Next<Sink::Handle>, ParseFault>
-        ensures ok { IfOk result (λ next. (a : Answers) (f : Forest) (using : Mode → Token → State → Turn) → concluded using (conclusion_of ends.now) (token_of told.entry.content) (Sink.node script) (state_of a self.old f) ≡ next_turn Sink.node using next (token_of told.entry.content) (state_of a self.new f)) }
-        ensures may { IfOk result (λ next. (n : ℕ) (a : Answers) (f : Forest) → MayConclude (MayUse n) (using_rules_for n) (conclusion_of ends.now) (token_of told.entry.content) (state_of a self.old f) → MayGoOn (MayUse n) (using_rules_for n) next (token_of told.entry.content) (state_of a self.new f)) }
+        ensures ok { IfOk result (λ next. (a : Answers) (f : Forest) (using : Mode → Token → State → Turn) → concluded using (conclusion_of ends.now) (token_of told.now.content) (Sink.node script) (state_of a self.old f) ≡ next_turn Sink.node using next (token_of told.now.content) (state_of a self.new f)) }
+        ensures may { IfOk result (λ next. (n : ℕ) (a : Answers) (f : Forest) → MayConclude (MayUse n) (using_rules_for n) (conclusion_of ends.now) (token_of told.now.content) (state_of a self.old f) → MayGoOn (MayUse n) (using_rules_for n) next (token_of told.now.content) (state_of a self.new f)) }
         ensures stands { OnOk result ((f : Forest) → Stands f self.old → Stands f self.new) }
         ensures fault { IfErr result (λ fault. fault ≡ Memory) }
     {

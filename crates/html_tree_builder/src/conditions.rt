@@ -212,8 +212,8 @@ impl<Sink: TreeSink> Construction<Sink> {
 
 impl Told<'_> {
     /// Whether the attribute `type` is `hidden`, in any case.
-    pub(crate) fn is_type_hidden(self) -> bool
-        ensures { result ≡ is_type_hidden (token_of self.entry.content) }
+    pub(crate) fn is_type_hidden(&self) -> bool
+        ensures { result ≡ is_type_hidden (token_of self.now.content) }
     {
         match self.content {
             Content::Tag(tag) => is_hidden(value_of(tag.attrs.as_slice(), "type")),
@@ -222,8 +222,8 @@ impl Told<'_> {
     }
 
     /// Whether there is an attribute that ends foreign content at `font`.
-    pub(crate) fn has_font_attributes(self) -> bool
-        ensures { result ≡ has_font_attributes (token_of self.entry.content) }
+    pub(crate) fn has_font_attributes(&self) -> bool
+        ensures { result ≡ has_font_attributes (token_of self.now.content) }
     {
         match self.content {
             Content::Tag(tag) => tag.attrs.as_slice().iter().any(|a| is_font_attribute(a)),

@@ -7,7 +7,7 @@ use std::alloc::Global;
 use std::borrow::CowStr;
 
 /// A token that was not expected.
-fn unexpected(told: Told<'_>) -> &'static str {
+fn unexpected(told: &Told<'_>) -> &'static str {
     match told.content {
         Content::Tag(tag) => match tag.kind {
             TagKind::StartTag => "unexpected start tag",
@@ -48,7 +48,7 @@ fn name_of(mode: InsertionMode) -> &'static str {
 }
 
 /// The same, with the tag's name and the mode.
-fn exactly(alloc: Global, told: Told<'_>, mode: InsertionMode) -> Result<String, ParseFault> {
+fn exactly(alloc: Global, told: &Told<'_>, mode: InsertionMode) -> Result<String, ParseFault> {
     let mut message = String::new(alloc);
     message.push_str(unexpected(told))?;
     message.push_str(" ")?;
@@ -62,7 +62,7 @@ fn exactly(alloc: Global, told: Told<'_>, mode: InsertionMode) -> Result<String,
 /// What the sink is told of a token that was not expected; if `exact`, with the tag's name and the mode, where there is memory for that.
 pub(crate) fn of_token(
     alloc: Global,
-    told: Told<'_>,
+    told: &Told<'_>,
     mode: InsertionMode,
     exact: bool,
 ) -> CowStr<'static> {

@@ -30,8 +30,8 @@ const NO_ROW: &Row = &Row {
 
 impl Told<'_> {
     /// Whether a part of a table may have a row for it: of a tag, whether its name is in one of the part's sets.
-    fn may_be_in(self, part: Part) -> bool
-        ensures { result ≡ may_be_in self.entry.class.sets part (token_of self.entry.content) }
+    fn may_be_in(&self, part: &Part) -> bool
+        ensures { result ≡ may_be_in self.now.class.sets part.now (token_of self.now.content) }
     {
         match self.content {
             Content::Tag(tag) => match tag.kind {
@@ -45,9 +45,9 @@ impl Told<'_> {
 
 impl<Sink: TreeSink> Construction<Sink> {
     /// Whether a condition holds for a token.
-    pub(crate) fn holds(&self, sink: &Sink, condition: &Condition, told: Told<'_>) -> bool
-        requires { IsTold told }
-        ensures { (a : Answers) (f : Forest) → result ≡ holds (condition_of condition.now) (token_of told.entry.content) (state_of a self.now f) }
+    pub(crate) fn holds(&self, sink: &Sink, condition: &Condition, told: &Told<'_>) -> bool
+        requires { IsTold told.now }
+        ensures { (a : Answers) (f : Forest) → result ≡ holds (condition_of condition.now) (token_of told.now.content) (state_of a self.now f) }
     {
         match condition {
             Condition::Always => true,
@@ -83,17 +83,17 @@ impl<Sink: TreeSink> Construction<Sink> {
     }
 
     /// Whether a row is for a token.
-    fn fits(&self, sink: &Sink, row: &Row, told: Told<'_>) -> bool
-        requires { IsTold told }
-        ensures { (a : Answers) (f : Forest) → result ≡ fits (row_of row.now) (token_of told.entry.content) (state_of a self.now f) }
+    fn fits(&self, sink: &Sink, row: &Row, told: &Told<'_>) -> bool
+        requires { IsTold told.now }
+        ensures { (a : Answers) (f : Forest) → result ≡ fits (row_of row.now) (token_of told.now.content) (state_of a self.now f) }
     {
         told.fits(row.on) && self.holds(sink, &row.when, told)
     }
 
     /// The first row that is for a token, if there is one.
-    fn find(&self, sink: &Sink, rows: &'static [Row], told: Told<'_>) -> Option<&'static Row>
-        requires { IsTold told }
-        ensures { (a : Answers) (f : Forest) (rest : List RuleRow) → first_fit (rows_of rows.now ++ rest) (token_of told.entry.content) (state_of a self.now f) ≡ row_or result (first_fit rest (token_of told.entry.content) (state_of a self.now f)) }
+    fn find(&self, sink: &Sink, rows: &'static [Row], told: &Told<'_>) -> Option<&'static Row>
+        requires { IsTold told.now }
+        ensures { (a : Answers) (f : Forest) (rest : List RuleRow) → first_fit (rows_of rows.now ++ rest) (token_of told.now.content) (state_of a self.now f) ≡ row_or result (first_fit rest (token_of told.now.content) (state_of a self.now f)) }
     {
         for row in rows {
             if self.fits(sink, row, told) {
@@ -104,9 +104,9 @@ impl<Sink: TreeSink> Construction<Sink> {
     }
 
     /// The first row that is for a token, or what a token takes that no row is for.
-    fn first_in(&self, sink: &Sink, rows: &'static [Row], told: Told<'_>) -> &'static Row
-        requires { IsTold told }
-        ensures { (a : Answers) (f : Forest) → row_of result.now ≡ first_fit (rows_of rows.now) (token_of told.entry.content) (state_of a self.now f) }
+    fn first_in(&self, sink: &Sink, rows: &'static [Row], told: &Told<'_>) -> &'static Row
+        requires { IsTold told.now }
+        ensures { (a : Answers) (f : Forest) → row_of result.now ≡ first_fit (rows_of rows.now) (token_of told.now.content) (state_of a self.now f) }
     {
         match self.find(sink, rows, told) {
             Some(row) => row,
@@ -115,10 +115,10 @@ impl<Sink: TreeSink> Construction<Sink> {
     }
 
     /// The first row of a part that is for a token, if there is one.
-    fn find_in(&self, sink: &Sink, part: Part, told: Told<'_>) -> Option<&'static Row>
-        requires told { IsTold told }
-        requires covered { is_covered part ≡ true }
-        ensures { (a : Answers) (f : Forest) (rest : List RuleRow) → first_fit (rows_of part.rows.now ++ rest) (token_of told.entry.content) (state_of a self.now f) ≡ row_or result (first_fit rest (token_of told.entry.content) (state_of a self.now f)) }
+    fn find_in(&self, sink: &Sink, part: &Part, told: &Told<'_>) -> Option<&'static Row>
+        requires told { IsTold told.now }
+        requires covered { is_covered part.now ≡ true }
+        ensures { (a : Answers) (f : Forest) (rest : List RuleRow) → first_fit (rows_of part.now.rows.now ++ rest) (token_of told.now.content) (state_of a self.now f) ≡ row_or result (first_fit rest (token_of told.now.content) (state_of a self.now f)) }
     {
         if told.may_be_in(part) {
             self.find(sink, part.rows, told)
@@ -131,14 +131,14 @@ impl<Sink: TreeSink> Construction<Sink> {
     fn find_in_both(
         &self,
         sink: &Sink,
-        front: Part,
-        back: Part,
-        told: Told<'_>,
+        front: &Part,
+        back: &Part,
+        told: &Told<'_>,
     ) -> Option<&'static Row>
-        requires told { IsTold told }
-        requires front { is_covered front ≡ true }
-        requires back { is_covered back ≡ true }
-        ensures { (a : Answers) (f : Forest) (rest : List RuleRow) → first_fit (rows_of front.rows.now ++ (rows_of back.rows.now ++ rest)) (token_of told.entry.content) (state_of a self.now f) ≡ row_or result (first_fit rest (token_of told.entry.content) (state_of a self.now f)) }
+        requires told { IsTold told.now }
+        requires front { is_covered front.now ≡ true }
+        requires back { is_covered back.now ≡ true }
+        ensures { (a : Answers) (f : Forest) (rest : List RuleRow) → first_fit (rows_of front.now.rows.now ++ (rows_of back.now.rows.now ++ rest)) (token_of told.now.content) (state_of a self.now f) ≡ row_or result (first_fit rest (token_of told.now.content) (state_of a self.now f)) }
     {
         match self.find_in(sink, front, told) {
             Some(row) => Some(row),
@@ -147,22 +147,22 @@ impl<Sink: TreeSink> Construction<Sink> {
     }
 
     /// The same of all parts of a table.
-    fn find_in_parts(&self, sink: &Sink, rows: Rows, told: Told<'_>) -> Option<&'static Row>
-        requires told { IsTold told }
-        requires covered { are_covered rows ≡ true }
-        ensures { (a : Answers) (f : Forest) → first_fit (all_rows rows) (token_of told.entry.content) (state_of a self.now f) ≡ row_or result (first_fit (rows_of rows.last.now) (token_of told.entry.content) (state_of a self.now f)) }
+    fn find_in_parts(&self, sink: &Sink, rows: &Rows, told: &Told<'_>) -> Option<&'static Row>
+        requires told { IsTold told.now }
+        requires covered { are_covered rows.now ≡ true }
+        ensures { (a : Answers) (f : Forest) → first_fit (all_rows rows.now) (token_of told.now.content) (state_of a self.now f) ≡ row_or result (first_fit (rows_of rows.now.last.now) (token_of told.now.content) (state_of a self.now f)) }
     {
-        match self.find_in_both(sink, rows.first, rows.second, told) {
+        match self.find_in_both(sink, &rows.first, &rows.second, told) {
             Some(row) => Some(row),
-            None => self.find_in_both(sink, rows.third, rows.fourth, told),
+            None => self.find_in_both(sink, &rows.third, &rows.fourth, told),
         }
     }
 
     /// The row of a table that a token takes.
-    fn first_of(&self, sink: &Sink, rows: Rows, told: Told<'_>) -> &'static Row
-        requires told { IsTold told }
-        requires covered { are_covered rows ≡ true }
-        ensures { (a : Answers) (f : Forest) → row_of result.now ≡ first_fit (all_rows rows) (token_of told.entry.content) (state_of a self.now f) }
+    fn first_of(&self, sink: &Sink, rows: &Rows, told: &Told<'_>) -> &'static Row
+        requires told { IsTold told.now }
+        requires covered { are_covered rows.now ≡ true }
+        ensures { (a : Answers) (f : Forest) → row_of result.now ≡ first_fit (all_rows rows.now) (token_of told.now.content) (state_of a self.now f) }
     {
         match self.find_in_parts(sink, rows, told) {
             Some(row) => row,
@@ -171,17 +171,22 @@ impl<Sink: TreeSink> Construction<Sink> {
     }
 
     /// The row of a mode that a token takes.
-    pub(crate) fn first_row(&self, sink: &Sink, mode: InsertionMode, told: Told<'_>) -> &'static Row
-        requires { IsTold told }
-        ensures { (a : Answers) (f : Forest) → row_of result.now ≡ first_fit (rows mode) (token_of told.entry.content) (state_of a self.now f) }
+    pub(crate) fn first_row(
+        &self,
+        sink: &Sink,
+        mode: InsertionMode,
+        told: &Told<'_>,
+    ) -> &'static Row
+        requires { IsTold told.now }
+        ensures { (a : Answers) (f : Forest) → row_of result.now ≡ first_fit (rows mode) (token_of told.now.content) (state_of a self.now f) }
     {
-        self.first_of(sink, rows_of_mode(mode), told)
+        self.first_of(sink, &rows_of_mode(mode), told)
     }
 
     /// The row of foreign content that a token takes.
-    pub(crate) fn first_foreign_row(&self, sink: &Sink, told: Told<'_>) -> &'static Row
-        requires { IsTold told }
-        ensures { (a : Answers) (f : Forest) → row_of result.now ≡ first_fit in_foreign_content (token_of told.entry.content) (state_of a self.now f) }
+    pub(crate) fn first_foreign_row(&self, sink: &Sink, told: &Told<'_>) -> &'static Row
+        requires { IsTold told.now }
+        ensures { (a : Answers) (f : Forest) → row_of result.now ≡ first_fit in_foreign_content (token_of told.now.content) (state_of a self.now f) }
     {
         self.first_in(sink, rows_of_foreign_content(), told)
     }

@@ -18,8 +18,8 @@ use markup::{ParseFault, TreeSink};
 
 impl Told<'_> {
     /// Whether it is a start tag that closes itself.
-    fn is_self_closing(self) -> bool
-        ensures { result ≡ is_self_closing (token_of self.entry.content) }
+    fn is_self_closing(&self) -> bool
+        ensures { result ≡ is_self_closing (token_of self.now.content) }
     {
         match self.content {
             Content::Tag(tag) => tag.kind == TagKind::StartTag && tag.self_closing,
@@ -31,8 +31,8 @@ impl Told<'_> {
 impl<Sink: TreeSink> Construction<Sink> {
     /// A self-closing flag that was not acknowledged is an error.
     #[tactic(auto, unfolding(html_rules::specs::Stack::parse_error))]
-    fn check_acknowledged(&self, sink: &mut Sink, acknowledged: bool, told: Told<'_>)
-        ensures state { (a : Answers) → state_of a self.now (Sink.forest sink.new) ≡ check_acknowledged acknowledged (token_of told.entry.content) (state_of a self.now (Sink.forest sink.old)) }
+    fn check_acknowledged(&self, sink: &mut Sink, acknowledged: bool, told: &Told<'_>)
+        ensures state { (a : Answers) → state_of a self.now (Sink.forest sink.new) ≡ check_acknowledged acknowledged (token_of told.now.content) (state_of a self.now (Sink.forest sink.old)) }
         ensures stands { Stands (Sink.forest sink.old) self.now → Stands (Sink.forest sink.new) self.now }
     {
         if !acknowledged && told.is_self_closing() {
@@ -44,18 +44,18 @@ impl<Sink: TreeSink> Construction<Sink> {
     pub(crate) fn settle(
         &mut self,
         sink: &mut Sink,
-        told: Told<'_>,
+        told: &Told<'_>,
         turns: &mut Turns,
     ) -> Result<TokenSinkResult<Sink::Handle>, ParseFault>
-        requires told { IsTold told }
+        requires told { IsTold told.now }
         requires stands { Stands (Sink.forest sink.old) self.old }
-        requires may { MayCome (token_of told.content) (built Sink.TreeSink self.old (Sink.forest sink.old)) }
-        requires settled { (settle (token_of told.content) (built Sink.TreeSink self.old (Sink.forest sink.old))).is_settled ≡ true }
-        ensures state { OnOk result (built Sink.TreeSink self.new (Sink.forest sink.new) ≡ (settle (token_of told.entry.content) (built Sink.TreeSink self.old (Sink.forest sink.old))).state) }
-        ensures reply { IfOk result (λ reply. numbered Sink.node reply ≡ (settle (token_of told.entry.content) (built Sink.TreeSink self.old (Sink.forest sink.old))).reply) }
+        requires may { MayCome (token_of told.now.content) (built Sink.TreeSink self.old (Sink.forest sink.old)) }
+        requires settled { (settle (token_of told.now.content) (built Sink.TreeSink self.old (Sink.forest sink.old))).is_settled ≡ true }
+        ensures state { OnOk result (built Sink.TreeSink self.new (Sink.forest sink.new) ≡ (settle (token_of told.now.content) (built Sink.TreeSink self.old (Sink.forest sink.old))).state) }
+        ensures reply { IfOk result (λ reply. numbered Sink.node reply ≡ (settle (token_of told.now.content) (built Sink.TreeSink self.old (Sink.forest sink.old))).reply) }
         ensures stands { OnOk result (Stands (Sink.forest sink.new) self.new) }
-        ensures counted { OnOk result (turns.new.count ≡ turns.old.count + (settle (token_of told.entry.content) (built Sink.TreeSink self.old (Sink.forest sink.old))).turns) }
-        ensures most { turns.new.count ≤ turns.old.count + (settle (token_of told.entry.content) (built Sink.TreeSink self.old (Sink.forest sink.old))).turns }
+        ensures counted { OnOk result (turns.new.count ≡ turns.old.count + (settle (token_of told.now.content) (built Sink.TreeSink self.old (Sink.forest sink.old))).turns) }
+        ensures most { turns.new.count ≤ turns.old.count + (settle (token_of told.now.content) (built Sink.TreeSink self.old (Sink.forest sink.old))).turns }
         ensures fault { IfErr result (λ fault. fault ≡ Memory) }
     {
         loop {

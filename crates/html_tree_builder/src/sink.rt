@@ -89,15 +89,15 @@ impl<Sink: TreeSink> TreeBuilder<Sink> {
     /// Takes a token that nothing stands against. Where memory is wanting the builder has failed.
     fn take_or_fail(
         &mut self,
-        token: Token,
+        token: &mut Token,
         line: u64,
     ) -> Result<TokenSinkResult<Sink::Handle>, ParseFault>
         requires usable { Usable (hushed (built Sink.TreeSink self.old.construction (Sink.forest self.old.sink))) }
         requires going { self.old.construction.has_ended ≡ false }
         requires works { self.old.has_failed ≡ false }
-        ensures taken { IsTaken Sink.node token (built Sink.TreeSink self.old.construction (Sink.forest self.old.sink)) (built Sink.TreeSink self.new.construction (Sink.forest self.new.sink)) result }
+        ensures taken { IsTaken Sink.node token.old (built Sink.TreeSink self.old.construction (Sink.forest self.old.sink)) (built Sink.TreeSink self.new.construction (Sink.forest self.new.sink)) result }
         ensures failed { self.new.has_failed ≡ fails result }
-        ensures counted { OnOk result (self.new.turns.count ≡ self.old.turns.count + turns_of token (built Sink.TreeSink self.old.construction (Sink.forest self.old.sink))) }
+        ensures counted { OnOk result (self.new.turns.count ≡ self.old.turns.count + turns_of token.old (built Sink.TreeSink self.old.construction (Sink.forest self.old.sink))) }
         ensures most { self.new.turns.count ≤ self.old.turns.count + most_turns self.old.construction.stack.open_elems }
         ensures fault { IfErr result (λ fault. fault ≡ Memory) }
     {
@@ -112,6 +112,35 @@ impl<Sink: TreeSink> TreeBuilder<Sink> {
                 Err(fault)
             }
         }
+    }
+
+    /// Takes a token, unless something stands against it.
+    fn take_token(
+        &mut self,
+        token: &mut Token,
+        line_number: u64,
+    ) -> Result<TokenSinkResult<Sink::Handle>, ParseFault>
+        requires { self.old.has_failed ≡ false → Usable (hushed (built Sink.TreeSink self.old.construction (Sink.forest self.old.sink))) }
+        ensures gives { Gives Sink.node (step (hushed (built Sink.TreeSink self.old.construction (Sink.forest self.old.sink))) token.old line_number) result (hushed (built Sink.TreeSink self.new.construction (Sink.forest self.new.sink))) }
+        ensures failed_before { tells_failed result ≡ self.old.has_failed }
+        ensures failed_after { self.new.has_failed ≡ fails result }
+        ensures unchanged { OnRefused result (hushed (built Sink.TreeSink self.new.construction (Sink.forest self.new.sink)) ≡ hushed (built Sink.TreeSink self.old.construction (Sink.forest self.old.sink))) }
+        ensures same_errors { OnRefused result ((Sink.forest self.new.sink).errors ≡ (Sink.forest self.old.sink).errors) }
+        ensures counts { Counts (is_quiet (hushed (built Sink.TreeSink self.old.construction (Sink.forest self.old.sink))) token.old) token.old result (Sink.forest self.old.sink).errors (Sink.forest self.new.sink).errors }
+        ensures sound { self.new.has_failed ≡ false → Usable (hushed (built Sink.TreeSink self.new.construction (Sink.forest self.new.sink))) }
+        ensures counted { OnOk result (self.new.turns.count ≡ self.old.turns.count + turns_of token.old (built Sink.TreeSink self.old.construction (Sink.forest self.old.sink))) }
+        ensures most { self.new.turns.count ≤ self.old.turns.count + most_turns self.old.construction.stack.open_elems }
+    {
+        if self.has_failed {
+            return Err(ParseFault::Failed);
+        }
+        if self.construction.has_ended() {
+            return Err(ParseFault::Ended);
+        }
+        if self.construction.bars(token) {
+            return Err(ParseFault::TokenInText);
+        }
+        self.take_or_fail(token, line_number)
     }
 }
 
@@ -165,16 +194,8 @@ impl<Sink: TreeSink> TokenSink for TreeBuilder<Sink> {
         ensures counted { OnOk result (self.new.turns.count ≡ self.old.turns.count + turns_of token (built Sink.TreeSink self.old.construction (Sink.forest self.old.sink))) }
         ensures most { self.new.turns.count ≤ self.old.turns.count + most_turns self.old.construction.stack.open_elems }
     {
-        if self.has_failed {
-            return Err(ParseFault::Failed);
-        }
-        if self.construction.has_ended() {
-            return Err(ParseFault::Ended);
-        }
-        if self.construction.bars(&token) {
-            return Err(ParseFault::TokenInText);
-        }
-        self.take_or_fail(token, line_number)
+        let mut token = token;
+        self.take_token(&mut token, line_number)
     }
 
     fn end(&mut self) {

@@ -26,6 +26,8 @@ use html_names::{ElementClass, doctype_error_and_quirks};
 use html_rules::InsertionMode;
 use html_tokens::{Doctype, Tag, Token, TokenSinkResult};
 use markup::{LocalName, ParseFault, TreeSink};
+use std::borrow::CowStr;
+use std::mem;
 
 impl<'a> Told<'a> {
     /// A tag.
@@ -59,15 +61,15 @@ impl<Sink: TreeSink> Construction<Sink> {
     fn settle_told(
         &mut self,
         sink: &mut Sink,
-        told: Told<'_>,
+        told: &Told<'_>,
         turns: &mut Turns,
     ) -> Result<TokenSinkResult<Sink::Handle>, ParseFault>
-        requires told { IsTold told }
+        requires told { IsTold told.now }
         requires usable { Usable (built Sink.TreeSink self.old (Sink.forest sink.old)) }
         requires going { self.old.has_ended ≡ false }
-        ensures state { OnOk result (built Sink.TreeSink self.new (Sink.forest sink.new) ≡ (settle (token_of told.entry.content) (built Sink.TreeSink self.old (Sink.forest sink.old))).state) }
-        ensures reply { IfOk result (λ reply. numbered Sink.node reply ≡ (settle (token_of told.entry.content) (built Sink.TreeSink self.old (Sink.forest sink.old))).reply) }
-        ensures counted { OnOk result (turns.new.count ≡ turns.old.count + (settle (token_of told.entry.content) (built Sink.TreeSink self.old (Sink.forest sink.old))).turns) }
+        ensures state { OnOk result (built Sink.TreeSink self.new (Sink.forest sink.new) ≡ (settle (token_of told.now.content) (built Sink.TreeSink self.old (Sink.forest sink.old))).state) }
+        ensures reply { IfOk result (λ reply. numbered Sink.node reply ≡ (settle (token_of told.now.content) (built Sink.TreeSink self.old (Sink.forest sink.old))).reply) }
+        ensures counted { OnOk result (turns.new.count ≡ turns.old.count + (settle (token_of told.now.content) (built Sink.TreeSink self.old (Sink.forest sink.old))).turns) }
         ensures most { turns.new.count ≤ turns.old.count + most_turns self.old.stack.open_elems }
         ensures fault { IfErr result (λ fault. fault ≡ Memory) }
     {
@@ -83,7 +85,7 @@ impl<Sink: TreeSink> Construction<Sink> {
     {
         let name = LocalName::empty(self.alloc);
         let told = Told::of(Content::Characters(character), &name);
-        drop(self.settle_told(sink, told, &mut Turns::none())?);
+        drop(self.settle_told(sink, &told, &mut Turns::none())?);
         Ok(())
     }
 
@@ -107,6 +109,7 @@ impl<Sink: TreeSink> Construction<Sink> {
     }
 
     /// Takes characters, which may be none. A line feed at their front is dropped where that is asked for.
+    #[inline(never)]
     fn take_characters(&mut self, sink: &mut Sink, text: &str) -> Result<(), ParseFault>
         requires usable { Usable (built Sink.TreeSink self.old (Sink.forest sink.old)) }
         requires going { self.old.has_ended ≡ false }
@@ -161,6 +164,7 @@ impl<Sink: TreeSink> Construction<Sink> {
     }
 
     /// Takes a doctype.
+    #[inline(never)]
     fn take_doctype(&mut self, sink: &mut Sink, doctype: Doctype) -> Result<(), ParseFault>
         requires stands { Stands (Sink.forest sink.old) self.old }
         ensures ok { OnOk result ((a : Answers) → state_of a self.new (Sink.forest sink.new) ≡ doctype_taken self.old.mode doctype (state_of a self.old (Sink.forest sink.old))) }
@@ -179,15 +183,15 @@ impl<Sink: TreeSink> Construction<Sink> {
     fn take_told(
         &mut self,
         sink: &mut Sink,
-        told: Told<'_>,
+        told: &Told<'_>,
         turns: &mut Turns,
     ) -> Result<TokenSinkResult<Sink::Handle>, ParseFault>
-        requires told { IsTold told }
+        requires told { IsTold told.now }
         requires usable { Usable (built Sink.TreeSink self.old (Sink.forest sink.old)) }
         requires going { self.old.has_ended ≡ false }
-        ensures state { OnOk result (built Sink.TreeSink self.new (Sink.forest sink.new) ≡ (settle (token_of told.entry.content) (set_ignore_lf false (built Sink.TreeSink self.old (Sink.forest sink.old)))).state) }
-        ensures reply { IfOk result (λ reply. numbered Sink.node reply ≡ (settle (token_of told.entry.content) (set_ignore_lf false (built Sink.TreeSink self.old (Sink.forest sink.old)))).reply) }
-        ensures counted { OnOk result (turns.new.count ≡ turns.old.count + (settle (token_of told.entry.content) (set_ignore_lf false (built Sink.TreeSink self.old (Sink.forest sink.old)))).turns) }
+        ensures state { OnOk result (built Sink.TreeSink self.new (Sink.forest sink.new) ≡ (settle (token_of told.now.content) (set_ignore_lf false (built Sink.TreeSink self.old (Sink.forest sink.old)))).state) }
+        ensures reply { IfOk result (λ reply. numbered Sink.node reply ≡ (settle (token_of told.now.content) (set_ignore_lf false (built Sink.TreeSink self.old (Sink.forest sink.old)))).reply) }
+        ensures counted { OnOk result (turns.new.count ≡ turns.old.count + (settle (token_of told.now.content) (set_ignore_lf false (built Sink.TreeSink self.old (Sink.forest sink.old)))).turns) }
         ensures most { turns.new.count ≤ turns.old.count + most_turns self.old.stack.open_elems }
         ensures fault { IfErr result (λ fault. fault ≡ Memory) }
     {
@@ -195,25 +199,45 @@ impl<Sink: TreeSink> Construction<Sink> {
         self.settle_told(sink, told, turns)
     }
 
-    /// Takes a token. An error is told on, and an empty text changes nothing. Its turns are counted, unless it is text.
-    #[tactic(auto, unfolding(html_rules::specs::Step::taken, html_rules::specs::Stack::parse_error))]
-    pub(crate) fn take(
+    /// Takes a tag.
+    #[inline(never)]
+    fn take_tag(
         &mut self,
         sink: &mut Sink,
-        token: Token,
+        tag: &Tag,
         turns: &mut Turns,
     ) -> Result<TokenSinkResult<Sink::Handle>, ParseFault>
         requires usable { Usable (built Sink.TreeSink self.old (Sink.forest sink.old)) }
         requires going { self.old.has_ended ≡ false }
-        ensures state { OnOk result (built Sink.TreeSink self.new (Sink.forest sink.new) ≡ (came_of token (built Sink.TreeSink self.old (Sink.forest sink.old))).state) }
-        ensures reply { IfOk result (λ reply. numbered Sink.node reply ≡ (came_of token (built Sink.TreeSink self.old (Sink.forest sink.old))).reply) }
-        ensures counted { OnOk result (turns.new.count ≡ turns.old.count + turns_of token (built Sink.TreeSink self.old (Sink.forest sink.old))) }
+        ensures state { OnOk result (built Sink.TreeSink self.new (Sink.forest sink.new) ≡ (settle (TagToken tag.now) (set_ignore_lf false (built Sink.TreeSink self.old (Sink.forest sink.old)))).state) }
+        ensures reply { IfOk result (λ reply. numbered Sink.node reply ≡ (settle (TagToken tag.now) (set_ignore_lf false (built Sink.TreeSink self.old (Sink.forest sink.old)))).reply) }
+        ensures counted { OnOk result (turns.new.count ≡ turns.old.count + (settle (TagToken tag.now) (set_ignore_lf false (built Sink.TreeSink self.old (Sink.forest sink.old)))).turns) }
+        ensures most { turns.new.count ≤ turns.old.count + most_turns self.old.stack.open_elems }
+        ensures fault { IfErr result (λ fault. fault ≡ Memory) }
+    {
+        self.take_told(sink, &Told::of_tag(tag), turns)
+    }
+
+    /// Takes a token, of which an error's message and a doctype are taken out. An error is told on, and an empty text changes nothing. Its
+    /// turns are counted, unless it is text.
+    #[tactic(auto, unfolding(html_rules::specs::Step::taken, html_rules::specs::Stack::parse_error))]
+    pub(crate) fn take(
+        &mut self,
+        sink: &mut Sink,
+        token: &mut Token,
+        turns: &mut Turns,
+    ) -> Result<TokenSinkResult<Sink::Handle>, ParseFault>
+        requires usable { Usable (built Sink.TreeSink self.old (Sink.forest sink.old)) }
+        requires going { self.old.has_ended ≡ false }
+        ensures state { OnOk result (built Sink.TreeSink self.new (Sink.forest sink.new) ≡ (came_of token.old (built Sink.TreeSink self.old (Sink.forest sink.old))).state) }
+        ensures reply { IfOk result (λ reply. numbered Sink.node reply ≡ (came_of token.old (built Sink.TreeSink self.old (Sink.forest sink.old))).reply) }
+        ensures counted { OnOk result (turns.new.count ≡ turns.old.count + turns_of token.old (built Sink.TreeSink self.old (Sink.forest sink.old))) }
         ensures most { turns.new.count ≤ turns.old.count + most_turns self.old.stack.open_elems }
         ensures fault { IfErr result (λ fault. fault ≡ Memory) }
     {
         match token {
             Token::ParseError(message) => {
-                sink.parse_error(message);
+                sink.parse_error(mem::replace(message, CowStr::Borrowed("")));
                 Ok(TokenSinkResult::Continue)
             }
             Token::CharacterTokens(text) => {
@@ -222,17 +246,18 @@ impl<Sink: TreeSink> Construction<Sink> {
             }
             Token::DoctypeToken(doctype) => {
                 self.set_ignore_lf(false);
-                self.take_doctype(sink, doctype)?;
+                self.take_doctype(sink, mem::replace(doctype, Doctype::default()))?;
                 Ok(TokenSinkResult::Continue)
             }
-            Token::TagToken(tag) => self.take_told(sink, Told::of_tag(&tag), turns),
-            Token::CommentToken(text) => self.take_nameless(sink, Content::Comment(&text), turns),
+            Token::TagToken(tag) => self.take_tag(sink, tag, turns),
+            Token::CommentToken(text) => { self.take_nameless(sink, Content::Comment(text), turns) }
             Token::NullCharacterToken => self.take_nameless(sink, Content::Null, turns),
             Token::EOFToken => self.take_nameless(sink, Content::EndOfFile, turns),
         }
     }
 
     /// Takes what is neither text nor a doctype nor a tag.
+    #[inline(never)]
     fn take_nameless(
         &mut self,
         sink: &mut Sink,
@@ -249,6 +274,6 @@ impl<Sink: TreeSink> Construction<Sink> {
         ensures fault { IfErr result (λ fault. fault ≡ Memory) }
     {
         let name = LocalName::empty(self.alloc);
-        self.take_told(sink, Told::of(content, &name), turns)
+        self.take_told(sink, &Told::of(content, &name), turns)
     }
 }

@@ -49,8 +49,8 @@ pub(crate) fn is_white(text: &str) -> bool
 
 impl<'a> Told<'a> {
     /// The text of characters or of a comment; else none.
-    pub(crate) fn text(self) -> &'a str
-        ensures { chars result.now ≡ text_of (token_of self.entry.content) }
+    pub(crate) fn text(&self) -> &'a str
+        ensures { chars result.now ≡ text_of (token_of self.now.content) }
     {
         match self.content {
             Content::Characters(text) => text,
@@ -62,8 +62,8 @@ impl<'a> Told<'a> {
     }
 
     /// A copy of the attributes of a tag; else none.
-    pub(crate) fn attributes(self, alloc: Global) -> Result<Attributes, ParseFault>
-        ensures ok { IfOk result (λ attributes. attributes ≡ attributes_of (token_of self.entry.content)) }
+    pub(crate) fn attributes(&self, alloc: Global) -> Result<Attributes, ParseFault>
+        ensures ok { IfOk result (λ attributes. attributes ≡ attributes_of (token_of self.now.content)) }
         ensures fault { IfErr result (λ fault. fault ≡ Memory) }
     {
         match self.content {
@@ -75,9 +75,9 @@ impl<'a> Told<'a> {
 
 impl Told<'_> {
     /// Whether it is a tag of a kind whose name is in a set.
-    fn is_tag_in(self, kind: TagKind, set: TagSet) -> bool
-        requires { IsTold self }
-        ensures { result ≡ is_tag_in kind set (token_of self.entry.content) }
+    fn is_tag_in(&self, kind: TagKind, set: TagSet) -> bool
+        requires { IsTold self.now }
+        ensures { result ≡ is_tag_in kind set (token_of self.now.content) }
     {
         match self.content {
             Content::Tag(tag) => tag.kind == kind && self.class.is_in(set),
@@ -86,8 +86,8 @@ impl Told<'_> {
     }
 
     /// Whether it is a tag of a kind.
-    fn is_tag(self, kind: TagKind) -> bool
-        ensures { result ≡ is_tag kind (token_of self.entry.content) }
+    fn is_tag(&self, kind: TagKind) -> bool
+        ensures { result ≡ is_tag kind (token_of self.now.content) }
     {
         match self.content {
             Content::Tag(tag) => tag.kind == kind,
@@ -96,9 +96,9 @@ impl Told<'_> {
     }
 
     /// Whether it is in a class.
-    pub(crate) fn fits(self, class: Class) -> bool
-        requires { IsTold self }
-        ensures { result ≡ class_fits (class_of class) (token_of self.entry.content) }
+    pub(crate) fn fits(&self, class: Class) -> bool
+        requires { IsTold self.now }
+        ensures { result ≡ class_fits (class_of class) (token_of self.now.content) }
     {
         match class {
             Class::StartTags(set) => self.is_tag_in(TagKind::StartTag, set),

@@ -25,13 +25,13 @@ impl<Sink: TreeSink> Construction<Sink> {
         &mut self,
         sink: &mut Sink,
         mode: InsertionMode,
-        told: Told<'_>,
+        told: &Told<'_>,
         left: u8,
     ) -> Result<Ending<Sink::Handle>, ParseFault>
-        requires told { IsTold told }
+        requires told { IsTold told.now }
         requires stands { Stands (Sink.forest sink.old) self.old }
-        requires may { MayUse left mode (token_of told.content) (built Sink.TreeSink self.old (Sink.forest sink.old)) }
-        ensures ok { IfOk result (λ ending. turn_of (built Sink.TreeSink self.new (Sink.forest sink.new)) (ending_of Sink.node ending) ≡ using_rules_for left mode (token_of told.entry.content) (built Sink.TreeSink self.old (Sink.forest sink.old))) }
+        requires may { MayUse left mode (token_of told.now.content) (built Sink.TreeSink self.old (Sink.forest sink.old)) }
+        ensures ok { IfOk result (λ ending. turn_of (built Sink.TreeSink self.new (Sink.forest sink.new)) (ending_of Sink.node ending) ≡ using_rules_for left mode (token_of told.now.content) (built Sink.TreeSink self.old (Sink.forest sink.old))) }
         ensures stands { OnOk result (Stands (Sink.forest sink.new) self.new) }
         ensures fault { IfErr result (λ fault. fault ≡ Memory) }
     {
@@ -48,13 +48,13 @@ impl<Sink: TreeSink> Construction<Sink> {
         &mut self,
         sink: &mut Sink,
         row: &'static Row,
-        told: Told<'_>,
+        told: &Told<'_>,
         left: u8,
     ) -> Result<Ending<Sink::Handle>, ParseFault>
-        requires told { IsTold told }
+        requires told { IsTold told.now }
         requires stands { Stands (Sink.forest sink.old) self.old }
-        requires may { MayTakeRow (MayUse left) (using_rules_for left) (row_of row.now) (token_of told.content) (built Sink.TreeSink self.old (Sink.forest sink.old)) }
-        ensures ok { IfOk result (λ ending. turn_of (built Sink.TreeSink self.new (Sink.forest sink.new)) (ending_of Sink.node ending) ≡ turn_by_row (using_rules_for left) (row_of row.now) (token_of told.entry.content) (built Sink.TreeSink self.old (Sink.forest sink.old))) }
+        requires may { MayTakeRow (MayUse left) (using_rules_for left) (row_of row.now) (token_of told.now.content) (built Sink.TreeSink self.old (Sink.forest sink.old)) }
+        ensures ok { IfOk result (λ ending. turn_of (built Sink.TreeSink self.new (Sink.forest sink.new)) (ending_of Sink.node ending) ≡ turn_by_row (using_rules_for left) (row_of row.now) (token_of told.now.content) (built Sink.TreeSink self.old (Sink.forest sink.old))) }
         ensures stands { OnOk result (Stands (Sink.forest sink.new) self.new) }
         ensures fault { IfErr result (λ fault. fault ≡ Memory) }
     {
@@ -70,13 +70,13 @@ impl<Sink: TreeSink> Construction<Sink> {
         &mut self,
         sink: &mut Sink,
         next: Next<Sink::Handle>,
-        told: Told<'_>,
+        told: &Told<'_>,
         left: u8,
     ) -> Result<Ending<Sink::Handle>, ParseFault>
-        requires told { IsTold told }
+        requires told { IsTold told.now }
         requires stands { Stands (Sink.forest sink.old) self.old }
-        requires may { MayGoOn (MayUse left) (using_rules_for left) next (token_of told.content) (built Sink.TreeSink self.old (Sink.forest sink.old)) }
-        ensures ok { IfOk result (λ ending. turn_of (built Sink.TreeSink self.new (Sink.forest sink.new)) (ending_of Sink.node ending) ≡ next_turn Sink.node (using_rules_for left) next (token_of told.entry.content) (built Sink.TreeSink self.old (Sink.forest sink.old))) }
+        requires may { MayGoOn (MayUse left) (using_rules_for left) next (token_of told.now.content) (built Sink.TreeSink self.old (Sink.forest sink.old)) }
+        ensures ok { IfOk result (λ ending. turn_of (built Sink.TreeSink self.new (Sink.forest sink.new)) (ending_of Sink.node ending) ≡ next_turn Sink.node (using_rules_for left) next (token_of told.now.content) (built Sink.TreeSink self.old (Sink.forest sink.old))) }
         ensures stands { OnOk result (Stands (Sink.forest sink.new) self.new) }
         ensures fault { IfErr result (λ fault. fault ≡ Memory) }
     {
@@ -95,12 +95,12 @@ impl<Sink: TreeSink> Construction<Sink> {
     pub(crate) fn turn(
         &mut self,
         sink: &mut Sink,
-        told: Told<'_>,
+        told: &Told<'_>,
     ) -> Result<Ending<Sink::Handle>, ParseFault>
-        requires told { IsTold told }
+        requires told { IsTold told.now }
         requires stands { Stands (Sink.forest sink.old) self.old }
-        requires may { MayTurn (token_of told.content) (built Sink.TreeSink self.old (Sink.forest sink.old)) }
-        ensures ok { IfOk result (λ ending. turn_of (built Sink.TreeSink self.new (Sink.forest sink.new)) (ending_of Sink.node ending) ≡ turn (token_of told.entry.content) (built Sink.TreeSink self.old (Sink.forest sink.old))) }
+        requires may { MayTurn (token_of told.now.content) (built Sink.TreeSink self.old (Sink.forest sink.old)) }
+        ensures ok { IfOk result (λ ending. turn_of (built Sink.TreeSink self.new (Sink.forest sink.new)) (ending_of Sink.node ending) ≡ turn (token_of told.now.content) (built Sink.TreeSink self.old (Sink.forest sink.old))) }
         ensures stands { OnOk result (Stands (Sink.forest sink.new) self.new) }
         ensures fault { IfErr result (λ fault. fault ≡ Memory) }
     {

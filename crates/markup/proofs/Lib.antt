@@ -16,5 +16,6 @@ pub mod DistinctNames
 pub mod Permutations
 pub mod RisingTexts
 pub mod PlainTexts
+mod PlacedNames
 pub mod WholeTrees
 pub mod WalkCalls

@@ -9,6 +9,7 @@ pub mod Namespaces
 pub mod Attributes
 pub mod AttributeIndex
 pub mod KnownNames
+pub mod KnownSlots
 pub mod Escape
 pub mod Trees
 pub mod WrittenRows

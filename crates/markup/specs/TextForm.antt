@@ -5,5 +5,5 @@ use Rattle.markup.specs.declared.text_form.TextForm.{TextForm}
 use Rattle.markup.specs.declared.text_form.TextForm.TheVariants.{Short, Long}
 
 abbrev pub form_bytes : TextForm → List ℕ
-form_bytes (Short short alloc) = short.bytes
+form_bytes (Short short alloc) = short
 form_bytes (Long text) = string_bytes text

@@ -14,8 +14,8 @@ use crate::text::Text;
 use std::alloc::Global;
 use std::collections::BTreeMap;
 
-// So many attributes are looked through one by one.
-const MANY: usize = 16;
+/// So many attributes are looked through one by one.
+pub(crate) const MANY: usize = 16;
 
 /// The places of attributes by their local names.
 #[derive(Debug, Drop)]

@@ -8,7 +8,7 @@ ghost use Rattle.markup.specs.Equality.{attribute_eq};
 ghost use Rattle.markup.specs.Forest.{with_missing};
 ghost use Rattle.markup.specs.declared.fault.ParseFault.TheVariants.{Memory};
 
-use crate::attribute_index::{self, AttributeIndex};
+use crate::attribute_index::{self, AttributeIndex, MANY};
 use crate::fault::ParseFault;
 use crate::names::{LocalName, QualName};
 use crate::text::Text;
@@ -116,7 +116,11 @@ impl Attributes {
         ensures fault { IfErr result (λ fault. fault ≡ Memory) }
     {
         self.list.reserve(1)?;
-        self.index = put_last(&mut self.list, self.index.take(), attribute);
+        if self.index.is_none() && self.list.len() < MANY {
+            self.list.push_reserved(attribute);
+        } else {
+            self.index = put_last(&mut self.list, self.index.take(), attribute);
+        }
         Ok(())
     }
 
@@ -186,11 +190,12 @@ impl Attributes {
         ensures ok { IfOk result (λ copied. copied ≡ self.now) }
         ensures err { IfErr result (λ fault. fault ≡ Memory) }
     {
-        let mut copied = Attributes::new(alloc);
+        let mut list = Vec::with_capacity(alloc, self.list.len())?;
         for attribute in self.as_slice() {
-            copied.push(attribute.copy(alloc)?)?;
+            list.push_reserved(attribute.copy(alloc)?);
         }
-        Ok(copied)
+        let index = attribute_index::of(None, alloc, list.as_slice());
+        Ok(Attributes { list, index })
     }
 }
 

@@ -3,6 +3,10 @@ ghost use Rattle.std.specs.Prelude.{◌≡◌, false, map, IfSome, IfNone};
 ghost use Rattle.std.specs.List.{list_any};
 ghost use Rattle.std.specs.Str.{bytes_eq, chars};
 ghost use Rattle.markup.specs.KnownNames.{names, IsNameAt};
+ghost use Rattle.markup.specs.KnownSlots.{name_hash, place_at};
+ghost use Rattle.markup.specs.declared.known_slots.TheConstants.{SHIFTS, SLOTS};
+
+use crate::known_slots::{SHIFTS, SLOTS};
 
 /// The known names, in the order of their characters and without repeats: of elements and of attributes, those of SVG both
 /// as they are and as a tag has them, in lower case.
@@ -94,15 +98,48 @@ fn table() -> &'static [&'static str]
     &NAMES
 }
 
+/// The hash of a name, by its bytes.
+fn hash_of(name: &str) -> u32
+    ensures { result ≡ name_hash name.now }
+{
+    let mut hash: u32 = 0;
+    for byte in name.as_bytes() {
+        hash = hash.wrapping_mul(31).wrapping_add(*byte as u32);
+    }
+    hash
+}
+
+/// How far the slots are shifted, lent.
+fn shifts() -> &'static [u16; 256]
+    ensures { result.now ≡ SHIFTS }
+{
+    &SHIFTS
+}
+
+/// The places of known names, lent.
+fn slots() -> &'static [u16; 1024]
+    ensures { result.now ≡ SLOTS }
+{
+    &SLOTS
+}
+
+/// The place that a known name with this hash has. Another text's hash may lead to any place.
+fn place_of(hash: u32) -> u16
+    ensures { result ≡ place_at hash }
+{
+    let hash = hash as usize;
+    let shift = shifts()[hash % 256] as usize;
+    slots()[(hash / 256 + shift) % 1024]
+}
+
 /// The known name that a text is, if it is one.
 pub(crate) fn known_name(name: &str) -> Option<KnownName>
     ensures found { IfSome result (λ known. IsNameAt known.place (chars name.now)) }
     ensures missing { IfNone result (list_any (bytes_eq (chars name.now)) names ≡ false) }
 {
-    match table().binary_search(&name) {
-        Ok(place) => Some(KnownName {
-            place: place as u16,
-        }),
-        Err(_) => None,
+    let place = place_of(hash_of(name));
+    match table().get(place as usize) {
+        Some(known) if *known == name => Some(KnownName { place }),
+        _ => None,
     }
 }

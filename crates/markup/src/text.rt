@@ -15,7 +15,7 @@ use std::cmp::Ordering;
 use std::hash::{Hash, Hasher};
 use std::marker::Model;
 
-/// An owned text. A contract sees the list of its characters. Short texts, of at most 24 bytes, take no memory of their own.
+/// An owned text. A contract sees the list of its characters. Short texts, of at most 30 bytes, take no memory of their own.
 #[derive(Debug, Drop)]
 pub struct Text {
     form: TextForm,
@@ -97,7 +97,9 @@ impl Text {
         ensures ok { IfOk result (λ copied. copied ≡ self.now) }
         ensures err { IfErr result (λ fault. fault ≡ Memory) }
     {
-        Text::from_str(alloc, self.as_str())
+        Ok(Text {
+            form: self.form.copy(alloc)?,
+        })
     }
 
     /// Drops all characters, and keeps the memory.

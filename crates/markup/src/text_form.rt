@@ -3,16 +3,13 @@ ghost use Rattle.std.specs.Prelude.{◌≡◌, ◌++◌, [], IfOk, is_ok, if◌t
 ghost use Rattle.std.specs.Str.{IsUtf8};
 ghost use Rattle.std.specs.String.{string_bytes};
 
-use arrayvec::ArrayString;
+use crate::short_text::ShortText;
 use std::alloc::{AllocError, Global};
-
-// How many bytes a short text has at most: four fifths of the texts and values of real pages have at most 22.
-const ROOM: usize = 24;
 
 /// A short text lies within the value, a longer one in memory of its own. A short text has what it would grow in.
 #[derive(Debug, Drop)]
 pub(crate) enum TextForm {
-    Short(ArrayString<24>, Global),
+    Short(ShortText, Global),
     Long(String),
 }
 
@@ -23,16 +20,28 @@ impl TextForm {
     pub(crate) fn empty(alloc: Global) -> TextForm
         ensures { form_bytes result ≡ [] }
     {
-        TextForm::Short(ArrayString::new(), alloc)
+        TextForm::Short(ShortText::new(), alloc)
     }
 
     /// The bytes of characters that are lent.
     pub(crate) fn from_str(alloc: Global, text: &str) -> Result<TextForm, AllocError>
         ensures { IfOk result (λ form. form_bytes form ≡ text.now) }
     {
-        match ArrayString::from(text) {
-            Ok(short) => Ok(TextForm::Short(short, alloc)),
-            Err(_) => Ok(TextForm::Long(String::from_str(alloc, text)?)),
+        let mut short = ShortText::new();
+        if !short.has_room(text.len()) {
+            return Ok(TextForm::Long(String::from_str(alloc, text)?));
+        }
+        short.push_str(text);
+        Ok(TextForm::Short(short, alloc))
+    }
+
+    /// The same bytes, short where they fit.
+    pub(crate) fn copy(&self, alloc: Global) -> Result<TextForm, AllocError>
+        ensures { IfOk result (λ form. form_bytes form ≡ form_bytes self.now) }
+    {
+        match self {
+            TextForm::Short(short, _) => Ok(TextForm::Short(short.copy(), alloc)),
+            TextForm::Long(text) => TextForm::from_str(alloc, text.as_str()),
         }
     }
 
@@ -79,17 +88,13 @@ impl TextForm {
         ensures utf8 { IsUtf8 (form_bytes self.old) }
     {
         match self {
-            TextForm::Long(text) => text.push(character),
-            TextForm::Short(short, alloc) => {
-                let front = short.as_str();
-                if character.len_utf8() <= ROOM - front.len() {
-                    short.push(character);
-                } else {
-                    let mut bytes = [0; 4];
-                    let long = joined(*alloc, front, character.encode_utf8(&mut bytes))?;
-                    *self = TextForm::Long(long);
-                }
+            TextForm::Short(short, _) if character.is_ascii() && short.has_room(1) => {
+                short.push_ascii(character as u8);
                 Ok(())
+            }
+            _ => {
+                let mut bytes = [0; 4];
+                self.push_str(character.encode_utf8(&mut bytes))
             }
         }
     }
@@ -101,14 +106,13 @@ impl TextForm {
     {
         match self {
             TextForm::Long(text) => text.push_str(more),
+            TextForm::Short(short, _) if short.has_room(more.len()) => {
+                short.push_str(more);
+                Ok(())
+            }
             TextForm::Short(short, alloc) => {
-                let front = short.as_str();
-                if more.len() <= ROOM - front.len() {
-                    short.push_str(more);
-                } else {
-                    let long = joined(*alloc, front, more)?;
-                    *self = TextForm::Long(long);
-                }
+                let long = joined(*alloc, short.as_str(), more)?;
+                *self = TextForm::Long(long);
                 Ok(())
             }
         }

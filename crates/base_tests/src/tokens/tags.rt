@@ -2,7 +2,7 @@
 
 use super::text;
 use html_tokens::{Tag, TagKind};
-use markup::{Attribute, Attributes, LocalName, Namespace, ParseFault, QualName};
+use markup::{Attribute, Attributes, LocalName, Namespace, ParseFault, QualName, Text};
 use std::alloc::Global;
 use std::test::Fail;
 
@@ -40,51 +40,20 @@ pub fn tag(
     })
 }
 
-// Tags, and whether each is `<a b=1 c=2>` but for the order of its attributes.
-const TAGS: &[(TagKind, &str, &[Pair], bool)] = &[
-    (TagKind::StartTag, "a", &[("b", "1"), ("c", "2")], true),
-    (TagKind::StartTag, "a", &[("c", "2"), ("b", "1")], true),
-    (TagKind::EndTag, "a", &[("b", "1"), ("c", "2")], false),
-    (TagKind::StartTag, "p", &[("b", "1"), ("c", "2")], false),
-    (TagKind::StartTag, "a", &[("b", "1")], false),
-    (
-        TagKind::StartTag,
-        "a",
-        &[("b", "1"), ("c", "2"), ("c", "2")],
-        false,
-    ),
-    (TagKind::StartTag, "a", &[("b", "1"), ("b", "1")], false),
-    (TagKind::StartTag, "a", &[("b", "2"), ("c", "1")], false),
-    (TagKind::StartTag, "a", &[], false),
-];
+// Names, and the value that is found by each in `<a b=1 c=2 b=3>`.
+const VALUES: &[(&str, Option<&str>)] = &[("b", Some("1")), ("c", Some("2")), ("d", None)];
 
-#[test]
-fn order_of_attributes_counts_for_nothing(rt: HostRuntime) -> Result<(), Fail> {
-    let first = tag(
-        rt.alloc(),
-        TagKind::StartTag,
-        "a",
-        &[("b", "1"), ("c", "2")],
-    )?;
-    for &(kind, tag_name, pairs, is_same) in TAGS {
-        let mut other = tag(rt.alloc(), kind, tag_name, pairs)?;
-        other.self_closing = true;
-        assert_eq!(rt; first.equiv_modulo_attr_order(&other), is_same);
-        assert_eq!(rt; other.equiv_modulo_attr_order(&first), is_same);
-    }
-    Ok(())
+// The value of a name in that tag.
+fn value_of(alloc: Global, sought: &str) -> Result<Option<Text>, ParseFault> {
+    let pairs = &[("b", "1"), ("c", "2"), ("b", "3")];
+    let found = tag(alloc, TagKind::StartTag, "a", pairs)?;
+    found.get_attribute(alloc, &name(alloc, sought)?)
 }
 
 #[test]
 fn first_attribute_of_a_name_is_found(rt: HostRuntime) -> Result<(), Fail> {
-    let found = tag(
-        rt.alloc(),
-        TagKind::StartTag,
-        "a",
-        &[("b", "1"), ("c", "2"), ("b", "3")],
-    )?;
-    for (sought, value) in [("b", Some("1")), ("c", Some("2")), ("d", None)] {
-        let answer = found.get_attribute(rt.alloc(), &name(rt.alloc(), sought)?)?;
+    for &(sought, value) in VALUES {
+        let answer = value_of(rt.alloc(), sought)?;
         assert_eq!(rt; answer.as_ref().map(|text| text.as_str()), value);
     }
     Ok(())

@@ -55,13 +55,23 @@ fn first_behind(rows: &[ReferenceRow], order: &[usize], text: &[u8]) -> usize
     }
 }
 
+// Whether some name goes on behind what is held, by the index of the first name that stands behind it.
+fn goes_on_at(rows: &[ReferenceRow], order: &[usize], index: usize, held: &[u8]) -> bool
+    requires order { IsOrder rows.now order.now }
+    requires behind { (i : ℕ) → index ≤ i → i < length order.now → IsBefore held.now (ordered_name rows.now order.now i) }
+    requires first { (i : ℕ) → i < length order.now → IsBefore held.now (ordered_name rows.now order.now i) → index ≤ i }
+    ensures { result ≡ goes_on rows.now held.now }
+{
+    index < order.len() && ordered_bytes(rows, order, index).starts_with(held)
+}
+
 // Whether some name goes on behind what is held.
 pub fn goes_on(rows: &[ReferenceRow], order: &[usize], held: &[u8]) -> bool
     requires { IsOrder rows.now order.now }
     ensures { result ≡ goes_on rows.now held.now }
 {
     let index = first_behind(rows, order, held);
-    index < order.len() && ordered_bytes(rows, order, index).starts_with(held)
+    goes_on_at(rows, order, index, held)
 }
 
 // The place of the row of a name.
@@ -81,14 +91,14 @@ pub fn is_front(rows: &[ReferenceRow], order: &[usize], text: &[u8]) -> bool
     requires { IsOrder rows.now order.now }
     ensures { result ≡ is_front rows.now text.now }
 {
-    match find(rows, order, text) {
-        Some(_) => true,
-        None => goes_on(rows, order, text),
+    match search(rows, order, text) {
+        Ok(_) => true,
+        Err(index) => goes_on_at(rows, order, index, text),
     }
 }
 
-// The place of the row with the longest name that a text begins with.
-pub fn longest(rows: &[ReferenceRow], order: &[usize], text: &[u8]) -> Option<usize>
+// The place of the row with the longest name that a text begins with, one character more at a time.
+fn longest_front(rows: &[ReferenceRow], order: &[usize], text: &[u8]) -> Option<usize>
     requires { IsOrder rows.now order.now }
     ensures within { IfSome result (λ place. place < length rows.now) }
     ensures longest { option_and_then (slice_get rows.now) result ≡ longest rows.now text.now }
@@ -100,4 +110,16 @@ pub fn longest(rows: &[ReferenceRow], order: &[usize], text: &[u8]) -> Option<us
         longest = find(rows, order, &text[..end]).or(longest);
     }
     longest
+}
+
+// The place of the row with the longest name that a text begins with, be it all of the text.
+pub fn longest(rows: &[ReferenceRow], order: &[usize], text: &[u8]) -> Option<usize>
+    requires { IsOrder rows.now order.now }
+    ensures within { IfSome result (λ place. place < length rows.now) }
+    ensures longest { option_and_then (slice_get rows.now) result ≡ longest rows.now text.now }
+{
+    match find(rows, order, text) {
+        Some(place) => Some(place),
+        None => longest_front(rows, order, text),
+    }
 }

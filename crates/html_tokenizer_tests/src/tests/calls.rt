@@ -11,6 +11,7 @@ use markup::ParseFault;
 use std::alloc::Global;
 use std::process::Abort;
 use std::test::Fail;
+use text_pieces::in_two;
 
 /// A tokenizer of a page that was fed a text.
 fn behind<S: TokenSink + Drop>(
@@ -134,6 +135,63 @@ fn assert_told(rt: &impl Abort, alloc: Global, row: (&str, &str, &str)) -> Resul
 fn what_is_decided_is_told_before_the_end(rt: HostRuntime) -> Result<(), Fail> {
     for &row in TOLD {
         assert_told(&rt, rt.alloc(), row)?;
+    }
+    Ok(())
+}
+
+// Raw text behind a start tag of a title, and what is told of it before the end is.
+const TOLD_IN_TITLES: &[(&str, &str)] = &[
+    ("</ab", "</ab"),
+    ("</ti", ""),
+    ("</TiT", ""),
+    ("</title", ""),
+    ("</titles", "</titles"),
+    ("a</tx</tit", "a</tx"),
+    ("a</", "a"),
+    ("</title</t", "</title"),
+];
+
+/// A tokenizer that was fed these pieces.
+fn fed<S: TokenSink + Drop>(
+    alloc: Global,
+    sink: S,
+    setting: Setting,
+    pieces: Vec<String>,
+) -> Result<Tokenizer<S>, ParseFault>
+    requires { S.is_sound (S.view sink) }
+{
+    let mut tokenizer = tokenizer_over(alloc, sink, setting)?;
+    let mut input = BufferQueue::new();
+    for piece in pieces {
+        feed_piece(&mut tokenizer, &mut input, piece)?;
+    }
+    Ok(tokenizer)
+}
+
+/// Sees what these pieces of a title tell before the end.
+fn assert_title(
+    rt: &impl Abort,
+    alloc: Global,
+    pieces: Vec<String>,
+    told: &str,
+) -> Result<(), ParseFault> {
+    let setting = Setting {
+        initial_state: Some(State::RawData(RawKind::Rcdata)),
+        last_start_tag: Some("title"),
+        ..PAGE
+    };
+    let tokenizer = fed(alloc, list_of(alloc, setting), setting, pieces)?;
+    assert_eq!(rt; tokenizer.sink.text.as_str(), told);
+    Ok(())
+}
+
+#[test]
+fn no_more_of_raw_text_is_held_than_may_end_it(rt: HostRuntime) -> Result<(), Fail> {
+    for &(text, told) in TOLD_IN_TITLES {
+        for place in 0..=text.chars().count() {
+            let pieces = in_two(rt.alloc(), text, place)?;
+            assert_title(&rt, rt.alloc(), pieces, told)?;
+        }
     }
     Ok(())
 }

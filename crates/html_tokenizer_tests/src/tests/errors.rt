@@ -93,6 +93,19 @@ const TAGS: &[Row] = &[
     ("a<b c", " eof-in-tag"),
     ("<a b='", " eof-in-tag"),
     ("<a b='&", " eof-in-tag"),
+    (
+        "<x x=1 x=2 X=3>",
+        " duplicate-attribute duplicate-attribute",
+    ),
+    (
+        "<x x x x><x x><x x x>",
+        " duplicate-attribute duplicate-attribute duplicate-attribute",
+    ),
+    ("</x x x>", " duplicate-attribute end-tag-with-attributes"),
+    (
+        "</x x/>",
+        " end-tag-with-attributes end-tag-with-trailing-solidus",
+    ),
     ("</a b>", " end-tag-with-attributes"),
     ("</a/>", " end-tag-with-trailing-solidus"),
     ("</>x<a", " missing-end-tag-name eof-in-tag"),
@@ -185,10 +198,25 @@ fn faulty_doctypes_tell_errors(rt: HostRuntime) -> Result<(), Fail> {
 const TEXTS: &[Row] = &[
     ("&#x80;", " control-character-reference"),
     ("&#xFDD0;", " noncharacter-character-reference"),
-    ("&#13x", " missing-semicolon-after-character-reference"),
+    (
+        "&#13x",
+        " missing-semicolon-after-character-reference control-character-reference",
+    ),
     ("&#x;", " absence-of-digits-in-numeric-character-reference"),
     ("&#", " absence-of-digits-in-numeric-character-reference"),
     ("&#0;", " null-character-reference"),
+    (
+        "&#0",
+        " missing-semicolon-after-character-reference null-character-reference",
+    ),
+    (
+        "&#1111111111",
+        " missing-semicolon-after-character-reference character-reference-outside-unicode-range",
+    ),
+    (
+        "<a b='&#xD800 '>",
+        " missing-semicolon-after-character-reference surrogate-character-reference",
+    ),
     ("&#xD800;", " surrogate-character-reference"),
     ("&#x110000;", " character-reference-outside-unicode-range"),
     ("&notit;", " missing-semicolon-after-character-reference"),

@@ -20,7 +20,8 @@ use markup::{ParseFault, QuirksMode, TreeSink};
 impl<Sink: TreeSink> Construction<Sink> {
     /// The sink is told that a token was not expected.
     #[tactic(auto, unfolding(html_rules::specs::Stack::parse_error))]
-    fn tell_unexpected(&self, sink: &mut Sink, told: Told<'_>)
+    #[inline(never)]
+    fn tell_unexpected(&self, sink: &mut Sink, told: &Told<'_>)
         ensures { (a : Answers) → state_of a self.now (Sink.forest sink.new) ≡ parse_error (state_of a self.now (Sink.forest sink.old)) }
     {
         let message = errors::of_token(self.alloc, told, self.mode, self.opts.exact_errors);
@@ -34,14 +35,14 @@ impl<Sink: TreeSink> Construction<Sink> {
         sink: &mut Sink,
         first: &Action,
         more: &Action,
-        told: Told<'_>,
+        told: &Told<'_>,
     ) -> Result<(), ParseFault>
-        requires told { IsTold told }
+        requires told { IsTold told.now }
         requires stands { Stands (Sink.forest sink.old) self.old }
-        requires may { MayAct (Then (action_of first.now) (action_of more.now)) (token_of told.content) (built Sink.TreeSink self.old (Sink.forest sink.old)) }
-        ensures ok { OnOk result (built Sink.TreeSink self.new (Sink.forest sink.new) ≡ act (action_of first.now) (token_of told.entry.content) (built Sink.TreeSink self.old (Sink.forest sink.old))) }
+        requires may { MayAct (Then (action_of first.now) (action_of more.now)) (token_of told.now.content) (built Sink.TreeSink self.old (Sink.forest sink.old)) }
+        ensures ok { OnOk result (built Sink.TreeSink self.new (Sink.forest sink.new) ≡ act (action_of first.now) (token_of told.now.content) (built Sink.TreeSink self.old (Sink.forest sink.old))) }
         ensures stands { OnOk result (Stands (Sink.forest sink.new) self.new) }
-        ensures may { OnOk result (MayAct (action_of more.now) (token_of told.entry.content) (built Sink.TreeSink self.new (Sink.forest sink.new))) }
+        ensures may { OnOk result (MayAct (action_of more.now) (token_of told.now.content) (built Sink.TreeSink self.new (Sink.forest sink.new))) }
         ensures fault { IfErr result (λ fault. fault ≡ Memory) }
     {
         let _ = more;
@@ -55,12 +56,12 @@ impl<Sink: TreeSink> Construction<Sink> {
         &mut self,
         sink: &mut Sink,
         action: &Action,
-        told: Told<'_>,
+        told: &Told<'_>,
     ) -> Result<(), ParseFault>
-        requires told { IsTold told }
+        requires told { IsTold told.now }
         requires stands { Stands (Sink.forest sink.old) self.old }
-        requires may { MayAct (action_of action.now) (token_of told.content) (built Sink.TreeSink self.old (Sink.forest sink.old)) }
-        ensures ok { OnOk result (built Sink.TreeSink self.new (Sink.forest sink.new) ≡ act (action_of action.now) (token_of told.entry.content) (built Sink.TreeSink self.old (Sink.forest sink.old))) }
+        requires may { MayAct (action_of action.now) (token_of told.now.content) (built Sink.TreeSink self.old (Sink.forest sink.old)) }
+        ensures ok { OnOk result (built Sink.TreeSink self.new (Sink.forest sink.new) ≡ act (action_of action.now) (token_of told.now.content) (built Sink.TreeSink self.old (Sink.forest sink.old))) }
         ensures fault { IfErr result (λ fault. fault ≡ Memory) }
     {
         match action {
@@ -150,12 +151,12 @@ impl<Sink: TreeSink> Construction<Sink> {
         &mut self,
         sink: &mut Sink,
         action: &Action,
-        told: Told<'_>,
+        told: &Told<'_>,
     ) -> Result<(), ParseFault>
-        requires told { IsTold told }
+        requires told { IsTold told.now }
         requires stands { Stands (Sink.forest sink.old) self.old }
-        requires may { MayAct (action_of action.now) (token_of told.content) (built Sink.TreeSink self.old (Sink.forest sink.old)) }
-        ensures ok { OnOk result (built Sink.TreeSink self.new (Sink.forest sink.new) ≡ act (action_of action.now) (token_of told.entry.content) (built Sink.TreeSink self.old (Sink.forest sink.old))) }
+        requires may { MayAct (action_of action.now) (token_of told.now.content) (built Sink.TreeSink self.old (Sink.forest sink.old)) }
+        ensures ok { OnOk result (built Sink.TreeSink self.new (Sink.forest sink.new) ≡ act (action_of action.now) (token_of told.now.content) (built Sink.TreeSink self.old (Sink.forest sink.old))) }
         ensures stands { OnOk result (Stands (Sink.forest sink.new) self.new) }
         ensures fault { IfErr result (λ fault. fault ≡ Memory) }
     {

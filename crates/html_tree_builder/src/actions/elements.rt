@@ -25,14 +25,15 @@ impl<Sink: TreeSink> Construction<Sink> {
     ghost use Rattle.html_rules.specs.Names.{Html};
 
     /// An element is inserted for a tag.
+    #[inline(never)]
     pub(crate) fn insert_element(
         &mut self,
         sink: &mut Sink,
-        told: Told<'_>,
+        told: &Told<'_>,
     ) -> Result<(), ParseFault>
-        requires told { IsTold told }
+        requires told { IsTold told.now }
         requires stands { Stands (Sink.forest sink.old) self.old }
-        ensures ok { OnOk result ((a : Answers) → state_of a self.new (Sink.forest sink.new) ≡ for_tag insert_element_for (token_of told.entry.content) (state_of a self.old (Sink.forest sink.old))) }
+        ensures ok { OnOk result ((a : Answers) → state_of a self.new (Sink.forest sink.new) ≡ for_tag insert_element_for (token_of told.now.content) (state_of a self.old (Sink.forest sink.old))) }
         ensures fault { IfErr result (λ fault. fault ≡ Memory) }
     {
         let Content::Tag(tag) = told.content else {
@@ -50,10 +51,11 @@ impl<Sink: TreeSink> Construction<Sink> {
     }
 
     /// An element is inserted for a tag, and popped at once.
-    pub(crate) fn insert_void(&mut self, sink: &mut Sink, told: Told<'_>) -> Result<(), ParseFault>
-        requires told { IsTold told }
+    #[inline(never)]
+    pub(crate) fn insert_void(&mut self, sink: &mut Sink, told: &Told<'_>) -> Result<(), ParseFault>
+        requires told { IsTold told.now }
         requires stands { Stands (Sink.forest sink.old) self.old }
-        ensures ok { OnOk result ((a : Answers) → state_of a self.new (Sink.forest sink.new) ≡ for_tag insert_and_pop_element_for (token_of told.entry.content) (state_of a self.old (Sink.forest sink.old))) }
+        ensures ok { OnOk result ((a : Answers) → state_of a self.new (Sink.forest sink.new) ≡ for_tag insert_and_pop_element_for (token_of told.now.content) (state_of a self.old (Sink.forest sink.old))) }
         ensures fault { IfErr result (λ fault. fault ≡ Memory) }
     {
         let Content::Tag(tag) = told.content else {
@@ -71,14 +73,15 @@ impl<Sink: TreeSink> Construction<Sink> {
     }
 
     /// An element is inserted for a tag, and listed.
+    #[inline(never)]
     pub(crate) fn insert_formatting(
         &mut self,
         sink: &mut Sink,
-        told: Told<'_>,
+        told: &Told<'_>,
     ) -> Result<(), ParseFault>
-        requires told { IsTold told }
+        requires told { IsTold told.now }
         requires stands { Stands (Sink.forest sink.old) self.old }
-        ensures ok { OnOk result ((a : Answers) → state_of a self.new (Sink.forest sink.new) ≡ for_tag create_formatting_element_for (token_of told.entry.content) (state_of a self.old (Sink.forest sink.old))) }
+        ensures ok { OnOk result ((a : Answers) → state_of a self.new (Sink.forest sink.new) ≡ for_tag create_formatting_element_for (token_of told.now.content) (state_of a self.old (Sink.forest sink.old))) }
         ensures fault { IfErr result (λ fault. fault ≡ Memory) }
     {
         let Content::Tag(tag) = told.content else {
@@ -91,6 +94,7 @@ impl<Sink: TreeSink> Construction<Sink> {
     }
 
     /// An element is inserted without a tag of its own.
+    #[inline(never)]
     pub(crate) fn insert_new(&mut self, sink: &mut Sink, name: Implied) -> Result<(), ParseFault>
         requires stands { Stands (Sink.forest sink.old) self.old }
         ensures ok { OnOk result ((a : Answers) → state_of a self.new (Sink.forest sink.new) ≡ insert_phantom (spelled name) (state_of a self.old (Sink.forest sink.old))) }
@@ -103,9 +107,10 @@ impl<Sink: TreeSink> Construction<Sink> {
     }
 
     /// The root is made, and opened.
-    pub(crate) fn create_root(&mut self, sink: &mut Sink, told: Told<'_>) -> Result<(), ParseFault>
+    #[inline(never)]
+    pub(crate) fn create_root(&mut self, sink: &mut Sink, told: &Told<'_>) -> Result<(), ParseFault>
         requires stands { Stands (Sink.forest sink.old) self.old }
-        ensures ok { OnOk result ((a : Answers) → state_of a self.new (Sink.forest sink.new) ≡ create_root (attributes_of (token_of told.entry.content)) (state_of a self.old (Sink.forest sink.old))) }
+        ensures ok { OnOk result ((a : Answers) → state_of a self.new (Sink.forest sink.new) ≡ create_root (attributes_of (token_of told.now.content)) (state_of a self.old (Sink.forest sink.old))) }
         ensures fault { IfErr result (λ fault. fault ≡ Memory) }
     {
         let attrs = told.attributes(self.alloc)?;
@@ -114,6 +119,7 @@ impl<Sink: TreeSink> Construction<Sink> {
     }
 
     /// The root is made without attributes, and opened.
+    #[inline(never)]
     pub(crate) fn create_new_root(&mut self, sink: &mut Sink) -> Result<(), ParseFault>
         requires stands { Stands (Sink.forest sink.old) self.old }
         ensures ok { OnOk result ((a : Answers) → state_of a self.new (Sink.forest sink.new) ≡ create_root [] (state_of a self.old (Sink.forest sink.old))) }
@@ -125,6 +131,7 @@ impl<Sink: TreeSink> Construction<Sink> {
     }
 
     /// Text is put at the appropriate place.
+    #[inline(never)]
     pub(crate) fn append_text(&mut self, sink: &mut Sink, text: &str) -> Result<(), ParseFault>
         requires stands { Stands (Sink.forest sink.old) self.old }
         ensures ok { OnOk result ((a : Answers) → state_of a self.new (Sink.forest sink.new) ≡ append_text (chars text.now) (state_of a self.old (Sink.forest sink.old))) }
@@ -136,6 +143,7 @@ impl<Sink: TreeSink> Construction<Sink> {
     }
 
     /// A comment is put at the appropriate place.
+    #[inline(never)]
     pub(crate) fn append_comment(&mut self, sink: &mut Sink, text: &str) -> Result<(), ParseFault>
         requires stands { Stands (Sink.forest sink.old) self.old }
         ensures ok { OnOk result ((a : Answers) → state_of a self.new (Sink.forest sink.new) ≡ append_comment (chars text.now) (state_of a self.old (Sink.forest sink.old))) }
@@ -148,6 +156,7 @@ impl<Sink: TreeSink> Construction<Sink> {
     }
 
     /// A comment is put last into the document.
+    #[inline(never)]
     pub(crate) fn append_comment_to_doc(
         &mut self,
         sink: &mut Sink,
@@ -163,6 +172,7 @@ impl<Sink: TreeSink> Construction<Sink> {
     }
 
     /// A comment is put last into the root.
+    #[inline(never)]
     pub(crate) fn append_comment_to_html(
         &mut self,
         sink: &mut Sink,
@@ -178,13 +188,14 @@ impl<Sink: TreeSink> Construction<Sink> {
     }
 
     /// The root gets attributes that it lacks.
+    #[inline(never)]
     pub(crate) fn add_attributes_to_root(
         &mut self,
         sink: &mut Sink,
-        told: Told<'_>,
+        told: &Told<'_>,
     ) -> Result<(), ParseFault>
         requires stands { Stands (Sink.forest sink.old) self.old }
-        ensures ok { OnOk result ((a : Answers) → state_of a self.new (Sink.forest sink.new) ≡ add_attributes_to_root (attributes_of (token_of told.entry.content)) (state_of a self.old (Sink.forest sink.old))) }
+        ensures ok { OnOk result ((a : Answers) → state_of a self.new (Sink.forest sink.new) ≡ add_attributes_to_root (attributes_of (token_of told.now.content)) (state_of a self.old (Sink.forest sink.old))) }
         ensures fault { IfErr result (λ fault. fault ≡ Memory) }
     {
         let attrs = told.attributes(self.alloc)?;
@@ -193,13 +204,14 @@ impl<Sink: TreeSink> Construction<Sink> {
     }
 
     /// The body gets attributes that it lacks.
+    #[inline(never)]
     pub(crate) fn add_attributes_to_body(
         &mut self,
         sink: &mut Sink,
-        told: Told<'_>,
+        told: &Told<'_>,
     ) -> Result<(), ParseFault>
         requires stands { Stands (Sink.forest sink.old) self.old }
-        ensures ok { OnOk result ((a : Answers) → state_of a self.new (Sink.forest sink.new) ≡ add_attributes_to_body (attributes_of (token_of told.entry.content)) (state_of a self.old (Sink.forest sink.old))) }
+        ensures ok { OnOk result ((a : Answers) → state_of a self.new (Sink.forest sink.new) ≡ add_attributes_to_body (attributes_of (token_of told.now.content)) (state_of a self.old (Sink.forest sink.old))) }
         ensures fault { IfErr result (λ fault. fault ≡ Memory) }
     {
         let attrs = told.attributes(self.alloc)?;
@@ -208,6 +220,7 @@ impl<Sink: TreeSink> Construction<Sink> {
     }
 
     /// The body leaves its parent, and all but the root leave the stack.
+    #[inline(never)]
     pub(crate) fn remove_body(&mut self, sink: &mut Sink)
         requires stands { Stands (Sink.forest sink.old) self.old }
         ensures { (a : Answers) → state_of a self.new (Sink.forest sink.new) ≡ remove_body (state_of a self.old (Sink.forest sink.old)) }
@@ -269,6 +282,7 @@ impl<Sink: TreeSink> Construction<Sink> {
     }
 
     /// "Any other end tag" in a body.
+    #[inline(never)]
     pub(crate) fn any_other_end_tag(
         &mut self,
         sink: &mut Sink,

@@ -32,10 +32,10 @@ fn own_namespace(namespace: Foreign) -> Namespace
 
 impl<'a> Told<'a> {
     /// What decides which rules take it.
-    fn shape(self) -> TokenShape<'a>
-        requires { IsTold self }
+    fn shape(&self) -> TokenShape<'a>
+        requires { IsTold self.now }
         ensures shaped { IsShaped result }
-        ensures shape { HasShape (token_of self.entry.content) result }
+        ensures shape { HasShape (token_of self.now.content) result }
     {
         match self.content {
             Content::Tag(tag) => match tag.kind {
@@ -52,24 +52,25 @@ impl<'a> Told<'a> {
 
 impl<Sink: TreeSink> Construction<Sink> {
     /// Whether the rules of foreign content hold for a token.
-    pub(crate) fn is_foreign(&self, sink: &Sink, told: Told<'_>) -> bool
-        requires told { IsTold told }
+    pub(crate) fn is_foreign(&self, sink: &Sink, told: &Told<'_>) -> bool
+        requires told { IsTold told.now }
         requires stands { Stands (Sink.forest sink.now) self.now }
-        ensures { result ≡ is_foreign (built Sink.TreeSink self.now (Sink.forest sink.now)) (token_of told.entry.content) }
+        ensures { result ≡ is_foreign (built Sink.TreeSink self.now (Sink.forest sink.now)) (token_of told.now.content) }
     {
         self.stack
             .is_foreign(sink, lent(&self.context_elem), told.shape())
     }
 
     /// A template is inserted for a tag, or becomes a shadow root.
+    #[inline(never)]
     pub(crate) fn insert_template(
         &mut self,
         sink: &mut Sink,
-        told: Told<'_>,
+        told: &Told<'_>,
     ) -> Result<(), ParseFault>
-        requires told { IsTold told }
+        requires told { IsTold told.now }
         requires stands { Stands (Sink.forest sink.old) self.old }
-        ensures ok { OnOk result (built Sink.TreeSink self.new (Sink.forest sink.new) ≡ for_tag insert_template (token_of told.entry.content) (built Sink.TreeSink self.old (Sink.forest sink.old))) }
+        ensures ok { OnOk result (built Sink.TreeSink self.new (Sink.forest sink.new) ≡ for_tag insert_template (token_of told.now.content) (built Sink.TreeSink self.old (Sink.forest sink.old))) }
         ensures fault { IfErr result (λ fault. fault ≡ Memory) }
     {
         let Content::Tag(tag) = told.content else {
@@ -95,14 +96,15 @@ impl<Sink: TreeSink> Construction<Sink> {
     }
 
     /// A `math` or an `svg` element is inserted for a tag.
+    #[inline(never)]
     pub(crate) fn enter_foreign(
         &mut self,
         sink: &mut Sink,
         namespace: Foreign,
-        told: Told<'_>,
+        told: &Told<'_>,
     ) -> Result<(), ParseFault>
         requires stands { Stands (Sink.forest sink.old) self.old }
-        ensures ok { OnOk result ((a : Answers) → state_of a self.new (Sink.forest sink.new) ≡ for_tag (enter_foreign (namespace_of namespace)) (token_of told.entry.content) (state_of a self.old (Sink.forest sink.old))) }
+        ensures ok { OnOk result ((a : Answers) → state_of a self.new (Sink.forest sink.new) ≡ for_tag (enter_foreign (namespace_of namespace)) (token_of told.now.content) (state_of a self.old (Sink.forest sink.old))) }
         ensures fault { IfErr result (λ fault. fault ≡ Memory) }
     {
         let Content::Tag(tag) = told.content else {
@@ -120,13 +122,14 @@ impl<Sink: TreeSink> Construction<Sink> {
     }
 
     /// An element is inserted in the namespace of the adjusted current node.
+    #[inline(never)]
     pub(crate) fn insert_foreign(
         &mut self,
         sink: &mut Sink,
-        told: Told<'_>,
+        told: &Told<'_>,
     ) -> Result<(), ParseFault>
         requires stands { Stands (Sink.forest sink.old) self.old }
-        ensures ok { OnOk result ((a : Answers) → state_of a self.new (Sink.forest sink.new) ≡ for_tag foreign_start (token_of told.entry.content) (state_of a self.old (Sink.forest sink.old))) }
+        ensures ok { OnOk result ((a : Answers) → state_of a self.new (Sink.forest sink.new) ≡ for_tag foreign_start (token_of told.now.content) (state_of a self.old (Sink.forest sink.old))) }
         ensures fault { IfErr result (λ fault. fault ≡ Memory) }
     {
         let Content::Tag(tag) = told.content else {

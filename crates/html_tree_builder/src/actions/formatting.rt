@@ -14,6 +14,7 @@ impl<Sink: TreeSink> Construction<Sink> {
     ghost use Rattle.html_rules.specs.Names.{Html};
 
     /// "Run the adoption agency algorithm" for a name.
+    #[inline(never)]
     pub(crate) fn adoption_agency(
         &mut self,
         sink: &mut Sink,
@@ -31,6 +32,7 @@ impl<Sink: TreeSink> Construction<Sink> {
     }
 
     /// The same for `nobr`.
+    #[inline(never)]
     pub(crate) fn adopt_nobr(&mut self, sink: &mut Sink) -> Result<(), ParseFault>
         requires stands { Stands (Sink.forest sink.old) self.old }
         ensures ok { OnOk result ((a : Answers) → state_of a self.new (Sink.forest sink.new) ≡ adoption_agency (codes "nobr") (state_of a self.old (Sink.forest sink.old))) }
@@ -43,6 +45,7 @@ impl<Sink: TreeSink> Construction<Sink> {
     }
 
     /// An `a` that is listed is closed.
+    #[inline(never)]
     pub(crate) fn close_misnested_a(&mut self, sink: &mut Sink) -> Result<(), ParseFault>
         requires stands { Stands (Sink.forest sink.old) self.old }
         ensures ok { OnOk result ((a : Answers) → state_of a self.new (Sink.forest sink.new) ≡ handle_misnested_a_tags (state_of a self.old (Sink.forest sink.old))) }

@@ -19,14 +19,15 @@ use markup::{Attributes, ParseFault, Text, TreeSink};
 
 impl<Sink: TreeSink> Construction<Sink> {
     /// A tag's element is inserted under another name, and popped at once.
+    #[inline(never)]
     pub(crate) fn insert_void_as(
         &mut self,
         sink: &mut Sink,
         name: Implied,
-        told: Told<'_>,
+        told: &Told<'_>,
     ) -> Result<(), ParseFault>
         requires stands { Stands (Sink.forest sink.old) self.old }
-        ensures ok { OnOk result ((a : Answers) → state_of a self.new (Sink.forest sink.new) ≡ for_tag (λ tag. insert_and_pop_element_for (record tag { name = spelled name })) (token_of told.entry.content) (state_of a self.old (Sink.forest sink.old))) }
+        ensures ok { OnOk result ((a : Answers) → state_of a self.new (Sink.forest sink.new) ≡ for_tag (λ tag. insert_and_pop_element_for (record tag { name = spelled name })) (token_of told.now.content) (state_of a self.old (Sink.forest sink.old))) }
         ensures fault { IfErr result (λ fault. fault ≡ Memory) }
     {
         let Content::Tag(tag) = told.content else {
@@ -48,6 +49,7 @@ impl<Sink: TreeSink> Construction<Sink> {
     }
 
     /// An element is inserted without a tag of its own, and popped at once.
+    #[inline(never)]
     pub(crate) fn insert_new_void(
         &mut self,
         sink: &mut Sink,
@@ -73,6 +75,7 @@ impl<Sink: TreeSink> Construction<Sink> {
     }
 
     /// U+FFFD is put at the appropriate place.
+    #[inline(never)]
     pub(crate) fn append_replacement(&mut self, sink: &mut Sink) -> Result<(), ParseFault>
         requires stands { Stands (Sink.forest sink.old) self.old }
         ensures ok { OnOk result ((a : Answers) → state_of a self.new (Sink.forest sink.new) ≡ append_text (0xFFFD ∷ []) (state_of a self.old (Sink.forest sink.old))) }

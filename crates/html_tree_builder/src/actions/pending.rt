@@ -50,6 +50,7 @@ impl<Sink: TreeSink> Construction<Sink> {
     }
 
     /// The pending table character tokens go where the table's text goes.
+    #[inline(never)]
     pub(crate) fn tell_pending_text(&mut self, sink: &mut Sink) -> Result<(), ParseFault>
         requires stands { Stands (Sink.forest sink.old) self.old }
         ensures ok { OnOk result ((a : Answers) → state_of a self.new (Sink.forest sink.new) ≡ tell_pending_text (state_of a self.old (Sink.forest sink.old))) }

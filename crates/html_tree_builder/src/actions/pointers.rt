@@ -48,6 +48,7 @@ impl<Sink: TreeSink> Construction<Sink> {
 
     /// The element of the head element pointer leaves the stack.
     #[tactic(auto, unfolding(html_rules::specs::Actions::remove_head_elem, html_rules::specs::Stack::remove_from_stack))]
+    #[inline(never)]
     pub(crate) fn remove_head_elem(&mut self, sink: &mut Sink)
         requires stands { Stands (Sink.forest sink.old) self.old }
         ensures { (a : Answers) → state_of a self.new (Sink.forest sink.new) ≡ remove_head_elem (state_of a self.old (Sink.forest sink.old)) }
@@ -59,6 +60,7 @@ impl<Sink: TreeSink> Construction<Sink> {
 
     /// The element of the form element pointer leaves the stack.
     #[tactic(auto, unfolding(html_rules::specs::Actions::remove_form_elem, html_rules::specs::Stack::remove_from_stack))]
+    #[inline(never)]
     pub(crate) fn remove_form_elem(&mut self, sink: &mut Sink)
         requires stands { Stands (Sink.forest sink.old) self.old }
         ensures { (a : Answers) → state_of a self.new (Sink.forest sink.new) ≡ remove_form_elem (state_of a self.old (Sink.forest sink.old)) }
@@ -70,14 +72,15 @@ impl<Sink: TreeSink> Construction<Sink> {
 
     /// An element is inserted for a tag and popped at once, and the form element pointer names it.
     #[tactic(auto, unfolding(html_rules::specs::Places::put_element))]
+    #[inline(never)]
     pub(crate) fn insert_form_void(
         &mut self,
         sink: &mut Sink,
-        told: Told<'_>,
+        told: &Told<'_>,
     ) -> Result<(), ParseFault>
-        requires told { IsTold told }
+        requires told { IsTold told.now }
         requires stands { Stands (Sink.forest sink.old) self.old }
-        ensures ok { OnOk result ((a : Answers) → state_of a self.new (Sink.forest sink.new) ≡ for_tag insert_form_void (token_of told.entry.content) (state_of a self.old (Sink.forest sink.old))) }
+        ensures ok { OnOk result ((a : Answers) → state_of a self.new (Sink.forest sink.new) ≡ for_tag insert_form_void (token_of told.now.content) (state_of a self.old (Sink.forest sink.old))) }
         ensures fault { IfErr result (λ fault. fault ≡ Memory) }
     {
         let Content::Tag(tag) = told.content else {
@@ -108,6 +111,7 @@ impl<Sink: TreeSink> Construction<Sink> {
 
     /// The element of the head element pointer is opened.
     #[tactic(auto, unfolding(html_rules::specs::Actions::push_head_elem))]
+    #[inline(never)]
     pub(crate) fn push_head_elem(&mut self) -> Result<(), ParseFault>
         ensures ok { OnOk result ((a : Answers) (f : Forest) → state_of a self.new f ≡ push_head_elem (state_of a self.old f)) }
         ensures fault { IfErr result (λ fault. fault ≡ Memory) }

@@ -15,10 +15,11 @@ use markup::{ParseFault, TreeSink};
 
 impl<Sink: TreeSink> Construction<Sink> {
     /// The script of a tag is inserted, and the sink is told before that it has started.
-    fn insert_started_script(&mut self, sink: &mut Sink, told: Told<'_>) -> Result<(), ParseFault>
-        requires told { IsTold told }
+    #[inline(never)]
+    fn insert_started_script(&mut self, sink: &mut Sink, told: &Told<'_>) -> Result<(), ParseFault>
+        requires told { IsTold told.now }
         requires stands { Stands (Sink.forest sink.old) self.old }
-        ensures ok { OnOk result ((a : Answers) → state_of a self.new (Sink.forest sink.new) ≡ for_tag insert_element_for (token_of told.entry.content) (state_of a self.old (Sink.forest sink.old))) }
+        ensures ok { OnOk result ((a : Answers) → state_of a self.new (Sink.forest sink.new) ≡ for_tag insert_element_for (token_of told.now.content) (state_of a self.old (Sink.forest sink.old))) }
         ensures fault { IfErr result (λ fault. fault ≡ Memory) }
     {
         let Content::Tag(tag) = told.content else {
@@ -34,11 +35,11 @@ impl<Sink: TreeSink> Construction<Sink> {
     pub(crate) fn insert_element_or_script(
         &mut self,
         sink: &mut Sink,
-        told: Told<'_>,
+        told: &Told<'_>,
     ) -> Result<(), ParseFault>
-        requires told { IsTold told }
+        requires told { IsTold told.now }
         requires stands { Stands (Sink.forest sink.old) self.old }
-        ensures ok { OnOk result ((a : Answers) → state_of a self.new (Sink.forest sink.new) ≡ for_tag insert_element_for (token_of told.entry.content) (state_of a self.old (Sink.forest sink.old))) }
+        ensures ok { OnOk result ((a : Answers) → state_of a self.new (Sink.forest sink.new) ≡ for_tag insert_element_for (token_of told.now.content) (state_of a self.old (Sink.forest sink.old))) }
         ensures fault { IfErr result (λ fault. fault ≡ Memory) }
     {
         if told.class.is_in(TagSet::Script) && self.is_fragment() {
@@ -48,12 +49,12 @@ impl<Sink: TreeSink> Construction<Sink> {
     }
 
     /// Whether the input ends within the text of an element.
-    fn cuts_off_text(&self, told: Told<'_>) -> bool {
+    fn cuts_off_text(&self, told: &Told<'_>) -> bool {
         matches!(told.content, Content::EndOfFile) && matches!(self.mode, InsertionMode::Text)
     }
 
     /// Tells the sink of a script that the end of the input cuts off.
-    fn tell_cut_off_script(&self, sink: &mut Sink, told: Told<'_>)
+    fn tell_cut_off_script(&self, sink: &mut Sink, told: &Told<'_>)
         requires stands { Stands (Sink.forest sink.old) self.now }
         ensures { Sink.forest sink.new ≡ Sink.forest sink.old }
     {
@@ -64,7 +65,8 @@ impl<Sink: TreeSink> Construction<Sink> {
 
     /// The current node is popped, unless it is the root. Where it is a script that the end of the input cuts off, the sink is told before that
     /// it has started.
-    pub(crate) fn pop_told(&mut self, sink: &mut Sink, told: Told<'_>)
+    #[inline(never)]
+    pub(crate) fn pop_told(&mut self, sink: &mut Sink, told: &Told<'_>)
         requires stands { Stands (Sink.forest sink.old) self.old }
         ensures { (a : Answers) → state_of a self.new (Sink.forest sink.new) ≡ pop_but_root (state_of a self.old (Sink.forest sink.old)) }
     {

@@ -1,26 +1,15 @@
-use Rattle.std.proofs.Common.{◌≡◌, ◌∙◌, ℕ, ◌<◌, true, false, List, [], length, slice_index_or, ap, sym, arith, refl}
-use Rattle.std.specs.Cmp.Lexicographic.{nat_list_cmp_total}
+use Rattle.std.proofs.Common.{◌≡◌, ◌∙◌, ℕ, true, false, List, [], slice_index_or, ap, sym, refl}
 use Rattle.std.proofs.lemmas.List.{get_or-map, length-map}
-use Rattle.std.proofs.lemmas.List.Sorted.{searchable_from_sorted}
+use Rattle.std.proofs.lemmas.Slice.Eq.{bytes_eq-Decides}
 use Rattle.std.specs.List.{list_all, list_any}
 use Rattle.std.specs.Str.{bytes_eq, chars}
-use Rattle.markup.specs.KnownNames.{IsNameAt, names, rises}
+use Rattle.markup.specs.KnownNames.{IsNameAt, names}
+use Rattle.markup.specs.KnownSlots.{place_at}
 use Rattle.markup.specs.Plain.{is_plain}
 use Rattle.markup.proofs.Plain.{chars-plain}
+use Rattle.markup.proofs.PlacedNames.{none_placed}
 use Rattle.markup.proofs.PlainTexts.{among_plain, plain-at}
-use Rattle.markup.proofs.RisingTexts.{IsSortedBy-rises, none_found, same_from_Equal}
 use Rattle.markup.proofs.known_names.known_name.Goals as goal
-
-names-rise : rises names ≡ true
-unfolding names
-names-rise = refl
-
-names-few : length names < 65536
-unfolding names
-names-few = omega arith
-
-pub overflow_cast-result : goal.overflow_cast-result
-overflow_cast-result c = omega (arith, c.in-Ok.ensures.bound, ap length c.table.ensures, length-map c.table.result.now (λ name. name.now), names-few)
 
 names-plain : list_all is_plain names ≡ true
 unfolding names
@@ -33,19 +22,36 @@ its_characters place bs h =
     let plain : chars bs ≡ bs = rw h.there at there in
     rw plain h
 
-pub returns-in-Ok-clause-found : goal.returns-in-Ok-clause-found
-returns-in-Ok-clause-found c =
+pub returns-in-Some-clause-found : goal.returns-in-Some-clause-found
+returns-in-Some-clause-found c =
     let table = c.table.result.now in
-    let bound = c.in-Ok.ensures.bound in
-    its_characters c.in-Ok.place c.args.name.now (record {
+    let bound = c.in-Some.ensures.lookup.3.0 in
+    let same = (bytes_eq-Decides c.in-Some.known.now.now c.args.name.now).0 (sym c.if-eq.ensures) in
+    its_characters c.place_of-place.result c.args.name.now (record {
       within = rw (← c.table.ensures, length-map table (λ name. name.now)) bound;
-      there = rw (← c.table.ensures) (get_or-map (λ name. name.now) table c.in-Ok.place c.args.name [] bound ∙ same_from_Equal _ _ (c.in-Ok.ensures.ok c.args.name));
+      there = rw (← c.table.ensures) (get_or-map (λ name. name.now) table c.place_of-place.result c.args.name [] bound ∙ ap (λ name. name.now) (sym (c.in-Some.ensures.lookup.3.1 c.args.name)) ∙ same);
     })
 
-pub returns-in-Err-clause-missing : goal.returns-in-Err-clause-missing
-returns-in-Err-clause-missing c =
+pub returns-in_default-clause-missing : goal.returns-in_default-clause-missing
+returns-in_default-clause-missing c =
+    let bytes = c.args.name.now in
+    let place = c.place_of-place.result in
     let table = c.table.result.now in
-    let none : list_any (bytes_eq c.args.name.now) names ≡ false =
-    rw (← c.table.ensures) (none_found (λ name. name.now) table c.args.name.now c.in-Err.field-0
-    (c.in-Err.ensures.position (searchable_from_sorted nat_list_cmp_total (λ name. name.now) table c.args.name.now (IsSortedBy-rises (λ name. name.now) table (ap rises c.table.ensures ∙ names-rise))))) in
-    sym (among_plain c.args.name.now c.utf8.name names names-plain) ∙ none
+    let found = c.in-Some.ensures.lookup.3 in
+    let none : list_any (bytes_eq bytes) names ≡ false =
+    none_placed bytes place (c.place_of-place.ensures ∙ ap place_at c.hash_of.ensures) (λ l at.
+    let there : c.in-Some.known.now.now ≡ bytes =
+    ap (λ name. name.now) (found.1 c.args.name) ∙ sym (get_or-map (λ name. name.now) table place c.args.name bytes found.0) ∙ ap (λ t. slice_index_or t place bytes) c.table.ensures ∙ at in
+    c.if-eq.ensures ∙ (bytes_eq-Decides _ _).1 there) in
+    sym (among_plain bytes c.utf8.name names names-plain) ∙ none
+
+pub returns-in_default-2-clause-missing : goal.returns-in_default-2-clause-missing
+returns-in_default-2-clause-missing c =
+    let bytes = c.args.name.now in
+    let place = c.place_of-place.result in
+    let table = c.table.result.now in
+    let missing = rw c.in_default.is at c.get.ensures.lookup.2 in
+    let none : list_any (bytes_eq bytes) names ≡ false =
+    none_placed bytes place (c.place_of-place.ensures ∙ ap place_at c.hash_of.ensures) (λ l at.
+    missing (rw (← c.table.ensures, length-map table (λ name. name.now)) at l)) in
+    sym (among_plain bytes c.utf8.name names names-plain) ∙ none

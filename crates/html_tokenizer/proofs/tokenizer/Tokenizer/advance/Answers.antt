@@ -10,4 +10,4 @@ returns-in-Some g c =
 pub returns-in-None : goal.returns-in-None
 returns-in-None g c =
     let m = g.Sink.TokenSink in
-    advanced m c.args.self.now c.step.new.self c.take.new.self _ _ (c.take.ensures.after ∙ (sym c.in-None.is ∙ c.take.ensures.value)) c.step.ensures
+    advanced m c.args.self.now c.step-in-None.new.self c.take.new.self _ _ (c.take.ensures.after ∙ (sym c.in-None.is ∙ c.take.ensures.value)) c.step-in-None.ensures

@@ -24,6 +24,6 @@ pub returns : goal.returns
 returns g c =
     let m = g.Sink.TokenSink in
     tag-ended m c.args.self.now c.tell_faulty_tag.new.self c.follow.new.self c.process_token.new.self
-    (or_last c.in_ok-own_name.own_name c.tell_faulty_tag.new.self.last_start_tag) c.replace-tag.new.dest c.replace-tag.result c.line-line.result c.in_ok-reply.reply c.follow.result c.requires.fresh c.requires.sound c.in_ok-tell_faulty_tag.ensures
-    (ap₂ or_last c.in_ok-own_name.ensures.ok (ap (λ (k : Tokenizer _). k.last_start_tag) c.in_ok-tell_faulty_tag.ensures.changed)) c.replace-tag.ensures.value c.line-line.ensures c.in_ok-reply.ensures.gives (c.in_ok-reply.ensures.sound c.in_ok-reply.ensures.failed_after) (took-stays m g.met.Sink.TokenSink.laws _ _ c.in_ok-reply.ensures.failed_after c.in_ok-reply.ensures.same_references)
-    (rises-own m.errors _ _ _ c.in_ok-reply.ensures.counts) (c.follow.ensures.moved ∙ ap (λ (k : Tokenizer _). record k { state = state_behind c.in_ok-reply.reply }) c.keep_last_start_tag.ensures) c.follow.ensures.answer
+    c.keep_last_start_tag.new.self.raw_end c.replace-tag.new.dest c.replace-tag.result c.line-line.result c.in_ok-reply.reply c.follow.result c.requires.fresh c.requires.sound c.in_ok-tell_faulty_tag.ensures
+    (c.keep_last_start_tag.ensures.name ∙ ap₂ or_last c.in_ok-own_name.ensures.ok (ap (λ (k : Tokenizer _). k.raw_end.name) c.in_ok-tell_faulty_tag.ensures.changed)) c.replace-tag.ensures.value c.line-line.ensures c.in_ok-reply.ensures.gives (c.in_ok-reply.ensures.sound c.in_ok-reply.ensures.failed_after) (took-stays m g.met.Sink.TokenSink.laws _ _ c.in_ok-reply.ensures.failed_after c.in_ok-reply.ensures.same_references)
+    (rises-own m.errors _ _ _ c.in_ok-reply.ensures.counts) (c.follow.ensures.moved ∙ ap (λ (k : Tokenizer _). record k { state = state_behind c.in_ok-reply.reply }) c.keep_last_start_tag.ensures.changed) c.follow.ensures.answer

@@ -4,13 +4,13 @@ use Rattle.html_tokenizer.proofs.Erring.{keeps_refused}
 use Rattle.html_tokenizer.proofs.HeldValueStates.{value-erred, value-pushed}
 use Rattle.html_tokenizer.proofs.tokenizer.Tokenizer.end_reference_in_value.Goals as goal
 
-pub returns-in_err-tell_fault : goal.returns-in_err-tell_fault
-returns-in_err-tell_fault g c =
+pub returns-in_err-tell_reference_faults : goal.returns-in_err-tell_reference_faults
+returns-in_err-tell_reference_faults g c =
     let m = g.Sink.TokenSink in
-    keeps_refused m c.args.self.now _ (Some c.args.held.now) c.args.c _ _ c.in_err-tell_fault.ensures c.from_residual.ensures.1
+    keeps_refused m c.args.self.now _ (Some c.args.held.now) c.args.c _ _ c.in_err-tell_reference_faults.ensures c.from_residual.ensures.1
 
 pub returns : goal.returns
 returns g c =
     let m = g.Sink.TokenSink in
-    value-erred m _ c.goes_on_at.result c.args.self.now c.tell_fault.new.self _ c.args.kind c.args.held.now c.push_resolved.new.text c.args.c _ c.requires.at c.requires.decided c.decided-decision.ensures.fault c.in_ok-tell_fault.ensures
-    (value-pushed (rows_of c.args.self.now) c.push_resolved.new.text c.tell_fault.new.self.attribute_value c.args.held.now _ c.goes_on_at.result c.args.c c.in_ok-push_resolved.ensures.ok c.decided-decision.ensures.is c.goes_on_at.ensures) c.attribute_value_state.ensures
+    value-erred m _ c.goes_on_at.result c.args.self.now c.tell_reference_faults.new.self _ c.args.kind c.args.held.now c.push_resolved.new.text c.args.c _ c.requires.at c.requires.decided c.decided-decision.ensures.fault c.in_ok-tell_reference_faults.ensures
+    (value-pushed (rows_of c.args.self.now) c.push_resolved.new.text c.tell_reference_faults.new.self.attribute_value c.args.held.now _ c.goes_on_at.result c.args.c c.in_ok-push_resolved.ensures.ok c.decided-decision.ensures.is c.goes_on_at.ensures) c.attribute_value_state.ensures

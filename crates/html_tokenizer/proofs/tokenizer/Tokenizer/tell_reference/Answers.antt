@@ -1,16 +1,21 @@
-use Rattle.std.proofs.Common.{true, false, ap}
-use Rattle.std.specs.Option.{is_some}
+use Rattle.std.proofs.Common.{refl}
+use Rattle.html_tokens.specs.Item.{grave_if}
+use Rattle.html_tokens.specs.declared.token.Token.TheVariants.{CharacterTokens}
+use Rattle.html_tokenizer.specs.CharRefs.{has_fault}
+use Rattle.html_tokenizer.specs.Steps.{owed_for}
+use Rattle.html_tokenizer.proofs.Errors.{tells-erred, tells-failed}
 use Rattle.html_tokenizer.proofs.HeldTextStates.{reference-told}
 use Rattle.html_tokenizer.proofs.tokenizer.Tokenizer.tell_reference.Goals as goal
 
-pub returns-in-None : goal.returns-in-None
-returns-in-None g c =
+pub returns-in_err-tell_reference_faults : goal.returns-in_err-tell_reference_faults
+returns-in_err-tell_reference_faults g c =
     let m = g.Sink.TokenSink in
-    reference-told m g.met.Sink.TokenSink.laws false _ _ _ _ _ _ _ _
-    (ap is_some c.in-None.is) c.decided-decision.ensures.fault c.in_ok-push_resolved.ensures.ok c.empty-text.ensures c.decided-decision.ensures.is c.tell.ensures
+    tells-failed m g.met.Sink.TokenSink.laws _ _ c.tell_reference_faults.new.self _ _ _ _ c.in_err-tell_reference_faults.ensures c.from_residual-in_err-tell_reference_faults.ensures.1
 
-pub returns-in-Some : goal.returns-in-Some
-returns-in-Some g c =
+pub returns : goal.returns
+returns g c =
     let m = g.Sink.TokenSink in
-    reference-told m g.met.Sink.TokenSink.laws true _ _ _ _ _ _ _ _
-    (ap is_some c.in-Some.is) c.decided-decision.ensures.fault c.in_ok-push_resolved.ensures.ok c.empty-text.ensures c.decided-decision.ensures.is c.tell_faulty.ensures
+    let owed = owed_for (grave_if (has_fault c.decided-decision.result.faults)) in
+    reference-told m g.met.Sink.TokenSink.laws (has_fault c.decided-decision.result.faults) _ _ _ _ _ _ _ _
+    refl c.decided-decision.ensures.fault c.in_ok-push_resolved.ensures.ok c.empty-text.ensures c.decided-decision.ensures.is
+    (tells-erred m g.met.Sink.TokenSink.laws owed _ c.tell_reference_faults.new.self _ (CharacterTokens c.push_resolved.new.text) _ c.in_ok-tell_reference_faults.ensures c.tell.ensures)

@@ -10,9 +10,9 @@ pub act-returns-in_ok-insert_void_as-in-InsertVoidAs-clause-ok : goal.act-return
 act-returns-in_ok-insert_void_as-in-InsertVoidAs-clause-ok g t c =
     let sink = g.Sink.TreeSink in
     c.in_ok-insert_void_as-in-InsertVoidAs.ensures.ok (answers_of sink.integration_point sink.allows_shadow_roots sink.attaches_shadow)
-    ∙ ap (λ a. act (action_of a) (token_of c.args.told.content) (built sink c.args.self.now (sink.forest c.args.sink.now))) (sym c.in-InsertVoidAs.is)
+    ∙ ap (λ a. act (action_of a) (token_of c.args.told.now.content) (built sink c.args.self.now (sink.forest c.args.sink.now))) (sym c.in-InsertVoidAs.is)
 
 pub act_first-returns-clause-stands : goal.act_first-returns-clause-stands
 act_first-returns-clause-stands g t c =
     let sink = g.Sink.TreeSink in
-    acted-stands (answers_of sink.integration_point sink.allows_shadow_roots sink.attaches_shadow) c.args.self.now c.act.new.self (sink.forest c.args.sink.now) (sink.forest c.act.new.sink) (action_of c.args.first.now) (token_of c.args.told.content) c.requires.may.0 c.requires.stands c.in_ok-act.ensures.ok
+    acted-stands (answers_of sink.integration_point sink.allows_shadow_roots sink.attaches_shadow) c.args.self.now c.act.new.self (sink.forest c.args.sink.now) (sink.forest c.act.new.sink) (action_of c.args.first.now) (token_of c.args.told.now.content) c.requires.may.0 c.requires.stands c.in_ok-act.ensures.ok

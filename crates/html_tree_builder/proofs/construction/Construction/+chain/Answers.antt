@@ -10,19 +10,19 @@ use Rattle.html_tree_builder.proofs.construction.Construction.+chain.Goals as go
 
 pub go_on-use_rules_for-requires : goal.go_on-use_rules_for-requires
 go_on-use_rules_for-requires g t c κs within =
-    let may : MayUse c.args.left c.in-Using.mode (token_of c.args.told.content) (built g.Sink.TreeSink c.args.self.now (g.Sink.TreeSink.forest c.args.sink.now)) = rw c.in-Using.is at c.requires.may in
+    let may : MayUse c.args.left c.in-Using.mode (token_of c.args.told.now.content) (built g.Sink.TreeSink c.args.self.now (g.Sink.TreeSink.forest c.args.sink.now)) = rw c.in-Using.is at c.requires.may in
     search rules
 
 pub go_on-use_rules_for-requires-in-UsingThen : goal.go_on-use_rules_for-requires-in-UsingThen
 go_on-use_rules_for-requires-in-UsingThen g t c κs within =
     let may = rw c.in-UsingThen.is at c.requires.may in
-    let first : MayUse c.args.left c.in-UsingThen.mode (token_of c.args.told.content) (built g.Sink.TreeSink c.args.self.now (g.Sink.TreeSink.forest c.args.sink.now)) = may.0 in
+    let first : MayUse c.args.left c.in-UsingThen.mode (token_of c.args.told.now.content) (built g.Sink.TreeSink c.args.self.now (g.Sink.TreeSink.forest c.args.sink.now)) = may.0 in
     search rules
 
 pub take_by_row-go_on-requires : goal.take_by_row-go_on-requires
 take_by_row-go_on-requires g t c κs within =
     let sink = g.Sink.TreeSink in
-    let token = token_of c.args.told.content in
+    let token = token_of c.args.told.now.content in
     let f = sink.forest c.take_action.new.sink in
     let acted : built sink c.take_action.new.self f ≡ act (action_of c.args.row.now.does) token (built sink c.args.self.now (sink.forest c.args.sink.now)) = rw (← c.current_handle-script.ensures.same) c.in_ok-take_action.ensures.ok in
     let ends = subst (MayConclude (MayUse c.args.left) (using_rules_for c.args.left) (conclusion_of c.args.row.now.ends) token) (sym acted) c.requires.may.1 in
@@ -31,14 +31,14 @@ take_by_row-go_on-requires g t c κs within =
     search rules
 
 pub use_rules_for-returns-then-left-eq0-clause-ok : goal.use_rules_for-returns-then-left-eq0-clause-ok
-use_rules_for-returns-then-left-eq0-clause-ok g t c = used-none c.args.left c.args.mode (token_of c.args.told.content) (built g.Sink.TreeSink c.args.self.now (g.Sink.TreeSink.forest c.args.sink.now)) c.if-left-eq0.true
+use_rules_for-returns-then-left-eq0-clause-ok g t c = used-none c.args.left c.args.mode (token_of c.args.told.now.content) (built g.Sink.TreeSink c.args.self.now (g.Sink.TreeSink.forest c.args.sink.now)) c.if-left-eq0.true
 
 pub use_rules_for-take_by_row-requires : goal.use_rules_for-take_by_row-requires
 use_rules_for-take_by_row-requires g t c κs within =
     let sink = g.Sink.TreeSink in
     let f = sink.forest c.args.sink.now in
     let is = c.first_row-row.ensures (answers_of sink.integration_point sink.allows_shadow_roots sink.attaches_shadow) f in
-    let may = may-use-row c.args.left c.args.mode (token_of c.args.told.content) (built sink c.args.self.now f) (row_of c.first_row-row.result.now) c.if-left-eq0.false is c.requires.may in
+    let may = may-use-row c.args.left c.args.mode (token_of c.args.told.now.content) (built sink c.args.self.now f) (row_of c.first_row-row.result.now) c.if-left-eq0.false is c.requires.may in
     search rules
 
 pub use_rules_for-returns-clause-ok : goal.use_rules_for-returns-clause-ok
@@ -46,5 +46,5 @@ use_rules_for-returns-clause-ok g t c =
     let sink = g.Sink.TreeSink in
     let f = sink.forest c.args.sink.now in
     let is = c.first_row-row.ensures (answers_of sink.integration_point sink.allows_shadow_roots sink.attaches_shadow) f in
-    rw (← used-row c.args.left c.args.mode (token_of c.args.told.content) (built sink c.args.self.now f) (row_of c.first_row-row.result.now) c.if-left-eq0.false is)
+    rw (← used-row c.args.left c.args.mode (token_of c.args.told.now.content) (built sink c.args.self.now f) (row_of c.first_row-row.result.now) c.if-left-eq0.false is)
     c.take_by_row.ensures.ok

@@ -9,7 +9,7 @@ use Rattle.html_tree_builder.proofs.construction.Construction.settle.Goals as go
 
 pub loop-acknowledged-init : goal.loop-acknowledged-init
 loop-acknowledged-init g c =
-    let t = token_of c.args.told.content in
+    let t = token_of c.args.told.now.content in
     record {
       stands = c.requires.stands;
       may = c.requires.may;
@@ -21,12 +21,12 @@ pub turn-requires-clause-stands : goal.turn-requires-clause-stands
 turn-requires-clause-stands g c = c.loop-acknowledged.invariant.stands
 
 pub turn-requires-clause-may : goal.turn-requires-clause-may
-turn-requires-clause-may g c = may-turn (token_of c.args.told.content) (built g.Sink.TreeSink c.loop-acknowledged.self (g.Sink.TreeSink.forest c.loop-acknowledged.sink)) c.loop-acknowledged.invariant.may
+turn-requires-clause-may g c = may-turn (token_of c.args.told.now.content) (built g.Sink.TreeSink c.loop-acknowledged.self (g.Sink.TreeSink.forest c.loop-acknowledged.sink)) c.loop-acknowledged.invariant.may
 
 pub loop-acknowledged-smaller : goal.loop-acknowledged-smaller
 loop-acknowledged-smaller g c =
     let sink = g.Sink.TreeSink in
-    let t = token_of c.args.told.content in
+    let t = token_of c.args.told.now.content in
     let s = built sink c.loop-acknowledged.self (sink.forest c.loop-acknowledged.sink) in
     let r = built sink c.turn.new.self (sink.forest c.turn.new.sink) in
     let made : turn_of r Again ≡ turn t s = rw c.in-Again.is at c.in_ok-turn.ensures.ok in
@@ -35,7 +35,7 @@ loop-acknowledged-smaller g c =
 pub loop-acknowledged-preserved : goal.loop-acknowledged-preserved
 loop-acknowledged-preserved g c =
     let sink = g.Sink.TreeSink in
-    let t = token_of c.args.told.content in
+    let t = token_of c.args.told.now.content in
     let s = built sink c.loop-acknowledged.self (sink.forest c.loop-acknowledged.sink) in
     let r = built sink c.turn.new.self (sink.forest c.turn.new.sink) in
     let made : turn_of r Again ≡ turn t s = rw c.in-Again.is at c.in_ok-turn.ensures.ok in
@@ -49,7 +49,7 @@ loop-acknowledged-preserved g c =
 pub returns-in-Finished-clause-state : goal.returns-in-Finished-clause-state
 returns-in-Finished-clause-state g c =
     let sink = g.Sink.TreeSink in
-    let t = token_of c.args.told.content in
+    let t = token_of c.args.told.now.content in
     let s = built sink c.loop-acknowledged.self (sink.forest c.loop-acknowledged.sink) in
     let r = built sink c.turn.new.self (sink.forest c.turn.new.sink) in
     let made : turn_of r (Finished c.in-Finished.acknowledged) ≡ turn t s = rw c.in-Finished.is at c.in_ok-turn.ensures.ok in
@@ -59,7 +59,7 @@ returns-in-Finished-clause-state g c =
 pub returns-in-Finished-clause-reply : goal.returns-in-Finished-clause-reply
 returns-in-Finished-clause-reply g c =
     let sink = g.Sink.TreeSink in
-    let t = token_of c.args.told.content in
+    let t = token_of c.args.told.now.content in
     let s = built sink c.loop-acknowledged.self (sink.forest c.loop-acknowledged.sink) in
     let r = built sink c.turn.new.self (sink.forest c.turn.new.sink) in
     let made : turn_of r (Finished c.in-Finished.acknowledged) ≡ turn t s = rw c.in-Finished.is at c.in_ok-turn.ensures.ok in
@@ -69,7 +69,7 @@ returns-in-Finished-clause-reply g c =
 pub returns-in-Replied-clause-state : goal.returns-in-Replied-clause-state
 returns-in-Replied-clause-state g c =
     let sink = g.Sink.TreeSink in
-    let t = token_of c.args.told.content in
+    let t = token_of c.args.told.now.content in
     let s = built sink c.loop-acknowledged.self (sink.forest c.loop-acknowledged.sink) in
     let r = built sink c.turn.new.self (sink.forest c.turn.new.sink) in
     let made : turn_of r (Replied (numbered sink.node c.in-Replied.reply)) ≡ turn t s = rw c.in-Replied.is at c.in_ok-turn.ensures.ok in
@@ -78,7 +78,7 @@ returns-in-Replied-clause-state g c =
 pub returns-in-Replied-clause-reply : goal.returns-in-Replied-clause-reply
 returns-in-Replied-clause-reply g c =
     let sink = g.Sink.TreeSink in
-    let t = token_of c.args.told.content in
+    let t = token_of c.args.told.now.content in
     let s = built sink c.loop-acknowledged.self (sink.forest c.loop-acknowledged.sink) in
     let r = built sink c.turn.new.self (sink.forest c.turn.new.sink) in
     let made : turn_of r (Replied (numbered sink.node c.in-Replied.reply)) ≡ turn t s = rw c.in-Replied.is at c.in_ok-turn.ensures.ok in
@@ -87,7 +87,7 @@ returns-in-Replied-clause-reply g c =
 pub returns-in-Finished-clause-counted : goal.returns-in-Finished-clause-counted
 returns-in-Finished-clause-counted g c =
     let sink = g.Sink.TreeSink in
-    let t = token_of c.args.told.content in
+    let t = token_of c.args.told.now.content in
     let s = built sink c.loop-acknowledged.self (sink.forest c.loop-acknowledged.sink) in
     let r = built sink c.turn.new.self (sink.forest c.turn.new.sink) in
     let made : turn_of r (Finished c.in-Finished.acknowledged) ≡ turn t s = rw c.in-Finished.is at c.in_ok-turn.ensures.ok in
@@ -96,7 +96,7 @@ returns-in-Finished-clause-counted g c =
 pub returns-in-Replied-clause-counted : goal.returns-in-Replied-clause-counted
 returns-in-Replied-clause-counted g c =
     let sink = g.Sink.TreeSink in
-    let t = token_of c.args.told.content in
+    let t = token_of c.args.told.now.content in
     let s = built sink c.loop-acknowledged.self (sink.forest c.loop-acknowledged.sink) in
     let r = built sink c.turn.new.self (sink.forest c.turn.new.sink) in
     let made : turn_of r (Replied (numbered sink.node c.in-Replied.reply)) ≡ turn t s = rw c.in-Replied.is at c.in_ok-turn.ensures.ok in
@@ -105,20 +105,20 @@ returns-in-Replied-clause-counted g c =
 pub returns-in_err-turn-clause-most : goal.returns-in_err-turn-clause-most
 returns-in_err-turn-clause-most g c =
     let sink = g.Sink.TreeSink in
-    let t = token_of c.args.told.content in
+    let t = token_of c.args.told.now.content in
     let s = built sink c.loop-acknowledged.self (sink.forest c.loop-acknowledged.sink) in
     counted-most (all_turns c.args.self.now.stack.open_elems) t (settle t (built sink c.args.self.now (sink.forest c.args.sink.now))) s _ c.loop-acknowledged.turns.count _ c.loop-acknowledged.invariant.on c.loop-acknowledged.invariant.counted c.add_one.ensures
 
 pub returns-in-Finished-clause-most : goal.returns-in-Finished-clause-most
 returns-in-Finished-clause-most g c =
     let sink = g.Sink.TreeSink in
-    let t = token_of c.args.told.content in
+    let t = token_of c.args.told.now.content in
     let s = built sink c.loop-acknowledged.self (sink.forest c.loop-acknowledged.sink) in
     counted-most (all_turns c.args.self.now.stack.open_elems) t (settle t (built sink c.args.self.now (sink.forest c.args.sink.now))) s _ c.loop-acknowledged.turns.count _ c.loop-acknowledged.invariant.on c.loop-acknowledged.invariant.counted c.add_one.ensures
 
 pub returns-in-Replied-clause-most : goal.returns-in-Replied-clause-most
 returns-in-Replied-clause-most g c =
     let sink = g.Sink.TreeSink in
-    let t = token_of c.args.told.content in
+    let t = token_of c.args.told.now.content in
     let s = built sink c.loop-acknowledged.self (sink.forest c.loop-acknowledged.sink) in
     counted-most (all_turns c.args.self.now.stack.open_elems) t (settle t (built sink c.args.self.now (sink.forest c.args.sink.now))) s _ c.loop-acknowledged.turns.count _ c.loop-acknowledged.invariant.on c.loop-acknowledged.invariant.counted c.add_one.ensures

@@ -11,14 +11,14 @@ returns-then-is_foreign-clause-ok g c =
     let sink = g.Sink.TreeSink in
     let f = sink.forest c.args.sink.now in
     let is = c.first_foreign_row-row.ensures (answers_of sink.integration_point sink.allows_shadow_roots sink.attaches_shadow) f in
-    rw (← turned-foreign (token_of c.args.told.content) (built sink c.args.self.now f) (row_of c.first_foreign_row-row.result.now) c.if-is_foreign.ensures is)
+    rw (← turned-foreign (token_of c.args.told.now.content) (built sink c.args.self.now f) (row_of c.first_foreign_row-row.result.now) c.if-is_foreign.ensures is)
     c.take_by_row.ensures.ok
 
 pub returns-clause-ok : goal.returns-clause-ok
 returns-clause-ok g c =
     let sink = g.Sink.TreeSink in
     let f = sink.forest c.args.sink.now in
-    let t = token_of c.args.told.content in
+    let t = token_of c.args.told.now.content in
     let s = built sink c.args.self.now f in
     rw (← ap (λ b. using_rules_for most_modes b.mode t s) c.self.view_is ∙ turned-mode t s c.if-is_foreign.ensures)
     c.use_rules_for.ensures.ok

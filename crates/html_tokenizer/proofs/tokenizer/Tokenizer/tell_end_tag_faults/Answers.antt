@@ -1,0 +1,20 @@
+use Rattle.std.proofs.Common.{◌≡◌, ap, subst}
+use Rattle.std.specs.Prelude.{not}
+use Rattle.html_tokens.specs.Tags.{is_empty}
+use Rattle.html_tokenizer.specs.declared.tokenizer.Tokenizer.{Tokenizer}
+use Rattle.html_tokens.specs.Item.{grave_if}
+use Rattle.html_tokenizer.specs.Steps.{Errs, owed_for}
+use Rattle.html_tokenizer.proofs.Erring.{errs-not, errs-then}
+use Rattle.html_tokenizer.proofs.Rises.{or-no-more}
+use Rattle.html_tokenizer.proofs.tokenizer.Tokenizer.tell_end_tag_faults.Goals as goal
+
+pub returns-in_err-tell_if : goal.returns-in_err-tell_if
+returns-in_err-tell_if g c =
+    let m = g.Sink.TokenSink in
+    errs-not m _ _ _ _ _ c.in_err-tell_if.ensures c.from_residual.ensures.1
+
+pub returns : goal.returns
+returns g c =
+    let m = g.Sink.TokenSink in
+    let closing : c.tell_if.new.self.tag.self_closing ≡ c.args.self.now.tag.self_closing = ap (λ (k : Tokenizer _). k.tag.self_closing) c.in_ok-tell_if.ensures.changed in
+    errs-then m (owed_for (grave_if c.args.self.now.tag.self_closing)) _ _ c.tell_if.new.self _ _ (or-no-more (not (is_empty c.args.self.now.tag.attrs)) c.args.self.now.tag.self_closing) (rw c.has_attributes-has_attributes.ensures at c.in_ok-tell_if.ensures) (subst (λ b. Errs m (owed_for (grave_if b)) c.tell_if.new.self c.tell_if-2.new.self c.tell_if-2.result) closing c.tell_if-2.ensures)

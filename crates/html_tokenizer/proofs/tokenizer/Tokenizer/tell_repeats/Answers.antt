@@ -1,0 +1,14 @@
+use Rattle.html_tokenizer.specs.Steps.{a_fault}
+use Rattle.html_tokenizer.proofs.Erring.{errs-behind, errs-not, errs-then}
+use Rattle.html_tokenizer.proofs.Rises.{again-no-more}
+use Rattle.html_tokenizer.proofs.tokenizer.Tokenizer.tell_repeats.Goals as goal
+
+pub returns-in_err-tell_error : goal.returns-in_err-tell_error
+returns-in_err-tell_error g c =
+    let m = g.Sink.TokenSink in
+    errs-not m _ _ _ _ _ c.in_err-tell_error.ensures c.from_residual.ensures.1
+
+pub returns-in_err-tell_error-2 : goal.returns-in_err-tell_error-2
+returns-in_err-tell_error-2 g c =
+    let m = g.Sink.TokenSink in
+    errs-behind m _ c.args.self.now c.loop-repeat.self _ _ _ c.loop-repeat.invariant c.in_err-tell_error-2.ensures c.from_residual-in_err-tell_error-2.ensures.1

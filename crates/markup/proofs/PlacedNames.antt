@@ -1,0 +1,46 @@
+-- Each known name is at the place that its hash leads to.
+use Rattle.std.proofs.Common.{◌≡◌, ◌∙◌, ℕ, zero, suc, ◌+◌, ◌<◌, ◌==◌, ◌&&◌, Bool, true, false, List, [], ◌∷◌, length, get_or, refl, ap, sym, arith, eqb-true}
+use Rattle.std.specs.List.{list_any}
+use Rattle.std.specs.Str.{bytes_eq}
+use Rattle.std.proofs.lemmas.Bool.{and_parts}
+use Rattle.std.proofs.lemmas.List.{get_or_default}
+use Rattle.std.proofs.lemmas.List.Folds.{list_any_none}
+use Rattle.std.proofs.lemmas.Slice.Eq.{bytes_eq-Decides}
+use Rattle.markup.specs.KnownNames.{names}
+use Rattle.markup.specs.KnownSlots.{name_hash, place_at}
+
+-- the texts are at the places from a first one on
+abbrev are_placed : ℕ → List (List ℕ) → Bool
+are_placed first [] = true
+are_placed first (text ∷ texts) = (place_at (name_hash text) == first) && are_placed (suc first) texts
+
+names-placed : are_placed 0 names ≡ true
+unfolding names place_at
+names-placed = refl
+
+placed-from : (first : ℕ) (texts : List (List ℕ)) → are_placed first texts ≡ true → (k : ℕ) → k < length texts → (d : List ℕ) → place_at (name_hash (get_or texts k d)) ≡ first + k
+placed-from first [] h k l d = absurd (omega arith)
+placed-from first (text ∷ texts) h zero l d =
+    let here : place_at (name_hash text) ≡ first = eqb-true _ _ (and_parts (place_at (name_hash text) == first) (are_placed (suc first) texts) h).0 in
+    omega (arith, here)
+placed-from first (text ∷ texts) h (suc k) l d =
+    let later = placed-from (suc first) texts (and_parts (place_at (name_hash text) == first) (are_placed (suc first) texts) h).1 k (omega arith) d in
+    omega (arith, later)
+
+placed : (k : ℕ) → k < length names → (d : List ℕ) → place_at (name_hash (get_or names k d)) ≡ k
+placed k l d =
+    let found = placed-from 0 names names-placed k l d in
+    omega (arith, found)
+
+apart : (bytes name : List ℕ) (b : Bool) → bytes_eq bytes name ≡ b → (bytes ≡ name → false ≡ true) → bytes_eq bytes name ≡ false
+apart bytes name true e h =
+    let no = h ((bytes_eq-Decides bytes name).0 e) in
+    absurd cc
+apart bytes name false e h = e
+
+-- bytes that do not stand where their hash leads to are no known name
+pub none_placed : (bytes : List ℕ) (place : ℕ) → place ≡ place_at (name_hash bytes) → (place < length names → get_or names place bytes ≡ bytes → false ≡ true) → list_any (bytes_eq bytes) names ≡ false
+none_placed bytes place p h =
+    list_any_none (bytes_eq bytes) names (λ k d l. apart bytes (get_or names k d) _ refl (λ e.
+    let here : place ≡ k = p ∙ ap (λ b. place_at (name_hash b)) e ∙ placed k l d in
+    h (rw here l) (rw here (get_or_default names k bytes d l ∙ sym e))))
