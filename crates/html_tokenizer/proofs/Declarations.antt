@@ -66,7 +66,7 @@ cdata-declared asks st w t a h =
     cdata-by _ _ _ st (w ++ t) (word-apart word.Cdata word.Dashes w t refl h) (word-apart word.Cdata word.Doctype w t refl h) (and_both asks _ a (spelt-begins false (codes "[CDATA[") w t h))
     ∙ ap (λ n. behind_all 2 (behind_all n (silent 0 (moved st InCdata)))) (sym (spelt-length false (codes "[CDATA[") w h))
 
-bogus-declared : (asks : Bool) (st : Stand) (cs : List ℕ) (c : ℕ) (t : List ℕ) → IsPart cs → OpensNothing asks cs c → declaration_at asks st (cs ++ c ∷ t) ≡ behind_all 2 (behind_all (length cs) (bogus_comment_after st cs (c ∷ t)))
+pub bogus-declared : (asks : Bool) (st : Stand) (cs : List ℕ) (c : ℕ) (t : List ℕ) → IsPart cs → OpensNothing asks cs c → declaration_at asks st (cs ++ c ∷ t) ≡ behind_all 2 (behind_all (length cs) (bogus_comment_after st cs (c ∷ t)))
 bogus-declared asks st cs c t part h =
     bogus-by _ _ _ st (cs ++ c ∷ t) (h.dashes t) (h.doctype t) (h.cdata t)
     ∙ ap (behind_all 2) (bogus-behind st [] cs (c ∷ t) (part-plain cs part))

@@ -32,7 +32,7 @@ use Rattle.html_tokenizer.proofs.Words.{and_parts}
 
 -- WHERE A KEYWORD BEGINS
 
-begun-part : (x : ℕ) (cs : List ℕ) → list_all is_plain (x ∷ cs) ≡ true → ends_word x ≡ false
+pub begun-part : (x : ℕ) (cs : List ℕ) → list_all is_plain (x ∷ cs) ≡ true → ends_word x ≡ false
 begun-part x cs h =
     let p : is_plain x ≡ true = (and_parts (is_plain x) (list_all is_plain cs) h).0 in
     word-other x (plain-white x p) (plain-mark x p)
@@ -68,7 +68,7 @@ name-front st d c t h =
     stop-white (keyword_at st d) c t p.0
     ∙ ap (λ m. keyword_by m (begins_any_case (codes "public") (c ∷ t)) (begins_any_case (codes "system") (c ∷ t)) st d (c ∷ t)) p.1
 
-name-word : (st : Stand) (d : Doctype) (cs : List ℕ) (c : ℕ) (t : List ℕ) → ends_word (front_of cs c) ≡ false
+pub name-word : (st : Stand) (d : Doctype) (cs : List ℕ) (c : ℕ) (t : List ℕ) → ends_word (front_of cs c) ≡ false
     → after_name st d (cs ++ c ∷ t) ≡ keyword_by false (begins_any_case (codes "public") (cs ++ c ∷ t)) (begins_any_case (codes "system") (cs ++ c ∷ t)) st d (cs ++ c ∷ t)
 name-word st d [] c t h = name-front st d c t h
 name-word st d (x ∷ cs) c t h = name-front st d x (cs ++ c ∷ t) h
@@ -90,7 +90,7 @@ system-read st d w t h =
     system-by _ _ st d (w ++ t) (word-apart word.System word.Public w t refl h) (spelt-begins true (codes "system") w t h)
     ∙ behind-word (after_system_keyword st d) w t 6 (spelt-length true (codes "system") w h)
 
-junk-read : (st : Stand) (d : Doctype) (cs : List ℕ) (c : ℕ) (t : List ℕ) → IsPart cs → MakesNoIdentifier cs c → may_identify cs c ≡ false
+pub junk-read : (st : Stand) (d : Doctype) (cs : List ℕ) (c : ℕ) (t : List ℕ) → IsPart cs → MakesNoIdentifier cs c → may_identify cs c ≡ false
     → keyword_by false (begins_any_case (codes "public") (cs ++ c ∷ t)) (begins_any_case (codes "system") (cs ++ c ∷ t)) st d (cs ++ c ∷ t) ≡ behind_all (length cs) (junk_after st (forced d) (c ∷ t))
 junk-read st d cs c t part whole h =
     let p = or_parts (may_become word.Public (cs ++ c ∷ [])) (may_become word.System (cs ++ c ∷ [])) h in

@@ -1,11 +1,10 @@
 -- The letters that are held of the end tag of raw text begin its name.
-use Rattle.std.proofs.Common.{◌≡◌, ◌∙◌, ℕ, suc, ◌≤◌, ◌<◌, length, Bool, true, false, nat_eq, List, [], ◌∷◌, ◌++◌, Option, Some, None, refl, sym, ap, arith}
-use Rattle.std.specs.Prelude.{◌&&◌, nat_lt, slice_index}
+use Rattle.std.proofs.Common.{◌≡◌, ◌∙◌, ℕ, ◌<◌, length, true, false, nat_eq, List, [], ◌∷◌, ◌++◌, Option, Some, None, refl, sym, ap, arith}
+use Rattle.std.specs.Prelude.{◌&&◌, slice_index}
 use Rattle.std.specs.Char.{to_ascii_lowercase, is_ascii_alphabetic}
 use Rattle.std.specs.List.{list_all}
 use Rattle.std.specs.Str.{chars, IsUtf8}
 use Rattle.std.proofs.Math.Utf8.{encodes, encode}
-use Rattle.std.proofs.lemmas.Bool.Decides.{nat_tests}
 use Rattle.std.proofs.lemmas.Bool.{and_from, eqb-true}
 use Rattle.std.proofs.lemmas.Str.{encodes-chars, encode_ascii, char_from_byte}
 use Rattle.html_tokens.specs.declared.states.State.{State}
@@ -55,7 +54,7 @@ name-begins bytes name word c u e w l h f =
 pub open-apart : (last : Option (List ℕ)) (word : List ℕ) (c : ℕ) → word ≡ [] → (ends_raw_text last word c ≡ false → (t : List ℕ) → is_fitting_end last (47 ∷ (word ++ c ∷ t)) ≡ false) → (t : List ℕ) → is_fitting_end last (47 ∷ c ∷ t) ≡ false
 open-apart last word c e = rw e (λ h. h (unfit-empty last c))
 
-same-itself : (name : List ℕ) → same_any_case name name ≡ true
+pub same-itself : (name : List ℕ) → same_any_case name name ≡ true
 same-itself [] = refl
 same-itself (c ∷ cs) = rw (self-eq (to_ascii_lowercase c), same-itself cs) refl
 

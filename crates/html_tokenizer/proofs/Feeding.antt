@@ -14,12 +14,14 @@ use Rattle.html_tokens.specs.Sink.{Reply}
 use Rattle.html_tokenizer.specs.CharRefs.{fits_in}
 use Rattle.html_tokenizer.specs.Calls.{ComesAsRunAt, to_come, paused_with, IsReady, Passes, KeepsRun, KeepsText, Leaves, HasMoved, Moved, Moves, Fed, Runs, Rests, owed_for_text}
 use Rattle.html_tokenizer.specs.Input.{coming_in, newline_for, last_of, ComesAs, Vanishes}
+use Rattle.html_tokenizer.specs.Keywords.{IsPart}
 use Rattle.html_tokenizer.specs.declared.tokenizer.Stream.{Stream}
 use Rattle.html_tokenizer.specs.declared.tokenizer.Tokenizer.{Tokenizer}
 use Rattle.html_tokenizer.specs.Rest.{pending, coming, rows_of}
 use Rattle.html_tokenizer.specs.Words.{BeginsEnd}
 use Rattle.html_tokenizer.proofs.EndFronts.{holds-end}
 use Rattle.html_tokenizer.proofs.HeldParts.{holds-part}
+use Rattle.html_tokenizer.proofs.UntoldStates.{untold}
 use Rattle.html_tokenizer.specs.Steps.{Owed, PausesAt, paused_by, more, noted_by, Rises, now, Stays, nothing_owed, together}
 use Rattle.html_tokenizer.proofs.Rises.{more-more, text-no-more, none-no-more, rises-same, rises-less, rises-besides}
 use Rattle.std.specs.Prelude.{if◌then◌else◌}
@@ -133,8 +135,8 @@ module _ {K H : Type 0} (Sink : Ghosts K H) where
     left = rests;
   }
 
-  pub fed-whole : (old mid new : Tokenizer K) (from via to : Queue) → Going old mid from via → Moved Sink mid new via to flow.Suspend → BeginsEnd new.raw_end.name new.raw_end.letters → Fed Sink old new from to answer.Done
-  fed-whole old mid new from via to h m begins = fed old mid new from via to flow.Suspend answer.Done h m (λ pauses. refl) (m.left, holds-part (rows_of new) new.state new.char_ref m.ready.fits, holds-end new.state new.raw_end begins)
+  pub fed-whole : (old mid new : Tokenizer K) (from via to : Queue) → Going old mid from via → Moved Sink mid new via to flow.Suspend → BeginsEnd new.raw_end.name new.raw_end.letters → IsPart new.keyword → Fed Sink old new from to answer.Done
+  fed-whole old mid new from via to h m begins part = fed old mid new from via to flow.Suspend answer.Done h m (λ pauses. refl) (m.left, holds-part (rows_of new) new.state new.char_ref m.ready.fits, holds-end new.state new.raw_end begins, untold (Sink.State × Notes ℕ) new new.state part begins)
 
   pub fed-script : (old mid new : Tokenizer K) (from via to : Queue) (handle : H) → Going old mid from via → Moved Sink mid new via to (flow.Script handle) → Fed Sink old new from to (answer.Script handle)
   fed-script old mid new from via to handle h m = fed old mid new from via to (flow.Script handle) (answer.Script handle) h m (λ pauses. refl) (last-close h.taken m.taken m.left.0, m.left.1, m.left.2)

@@ -66,4 +66,10 @@ pub mod Telling
 pub mod TextRuns
 pub mod TextStates
 pub mod Texts
+pub mod UntoldGlue
+pub mod UntoldMarkup
+pub mod UntoldRaw
+pub mod UntoldStates
+pub mod UntoldTags
+pub mod UntoldText
 pub mod Words

@@ -205,7 +205,7 @@ begins-apart (n ∷ name) (a ∷ word) c t w l h =
     let shifted : has_next name word c ≡ false = ap (λ b. b && nat_eq (to_ascii_lowercase (slice_index name (length word))) (to_ascii_lowercase c)) (sym (next-shift (length word) (length name))) ∙ h in
     begins-other (nat_eq (to_ascii_lowercase n) (to_ascii_lowercase a)) _ (begins-apart name word c t (and_parts _ _ w).1 l shifted)
 
-letters-of : (name : List ℕ) → is_letters name ≡ true → list_all is_ascii_alphabetic name ≡ true
+pub letters-of : (name : List ℕ) → is_letters name ≡ true → list_all is_ascii_alphabetic name ≡ true
 letters-of [] h = absurd cc
 letters-of (c ∷ cs) h = h
 

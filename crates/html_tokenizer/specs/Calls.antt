@@ -32,6 +32,7 @@ use Rattle.html_tokenizer.specs.Pieces.{ComesAsRun}
 use Rattle.html_tokenizer.specs.Stops.{stops_of}
 use Rattle.html_queue.specs.declared.set.SmallCharSet.{SmallCharSet}
 use Rattle.html_tokenizer.specs.Rest.{rest, rows_of, standing, coming}
+use Rattle.html_tokenizer.specs.Untold.{Untold}
 use Rattle.html_tokenizer.specs.Words.{BeginsEnd, FittingEnd}
 use Rattle.html_tokenizer.specs.Steps.{IsAt, PausesAt, Owed, nothing_owed, owed_for_each, together, more, paused_by, noted_by, Rises, now, Stays, Fell, Fails, FailsAmong, Replied, reads}
 
@@ -216,11 +217,11 @@ module _ {K H : Type 0} (Sink : Ghosts K H) where
   Moves old new from to (Ok result) = Moved old new from to result
   Moves old new from to (Err fault) = IsStuck old new.sink from to fault
 
-  -- Where a call ends so: with an empty queue, where of a reference no more is held than the front of one, and of the end tag of raw
-  -- text no more than letters that begin its name; or, at a pause, behind the ">" of a tag, of which this is the reply, with data to
-  -- come and nothing held.
+  -- Where a call ends so: with an empty queue, where of a reference no more is held than the front of one, of the end tag of raw text
+  -- no more than letters that begin its name, and of all else no more than the front of one item; or, at a pause, behind the ">" of a
+  -- tag, of which this is the reply, with data to come and nothing held.
   abbrev pub Rests : TokenizerResult H → Tokenizer K → List ℕ → Queue → Type 0
-  Rests Done new taken to = (to.characters ≡ []) × HeldIn (rows_of new) new.state new.char_ref × EndHeldIn new.state new.raw_end
+  Rests Done new taken to = (to.characters ≡ []) × HeldIn (rows_of new) new.state new.char_ref × EndHeldIn new.state new.raw_end × Untold (Sink.State × Notes ℕ) new.state new
   Rests (Script handle) new taken to = (last_of taken ≡ 62) × IsAt new state.Data × Replied Sink new.sink (reply.Script (Sink.number handle))
   Rests (EncodingIndicator label) new taken to = (last_of taken ≡ 62) × IsAt new state.Data × Replied Sink new.sink (reply.EncodingIndicator label)
 

@@ -13,4 +13,5 @@ pub mod Ready
 pub mod Rest
 pub mod Steps
 pub mod Stops
+pub mod Untold
 pub mod Words

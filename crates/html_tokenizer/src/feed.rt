@@ -165,6 +165,7 @@ impl<Sink: TokenSink> Tokenizer<Sink> {
                 ProcessResult::Continue => {}
                 ProcessResult::Suspend => {
                     let _letters = self.raw_end.as_str();
+                    let _is_whole = self.keyword.is_empty();
                     return Ok(TokenizerResult::Done);
                 }
                 ProcessResult::Script(handle) => return Ok(TokenizerResult::Script(handle)),

@@ -119,6 +119,23 @@ const TOLD: &[(&str, &str, &str)] = &[
     ("<title>&</ab", "start title", "&</ab"),
     ("<title>a</titl", "start title", "a"),
     ("<!--a", "", ""),
+    ("a<", "", "a"),
+    ("a< ", "", "a< "),
+    ("a</", "", "a"),
+    ("a<b c='d", "", "a"),
+    ("a<b c='d'/", "", "a"),
+    ("a</b ", "", "a"),
+    ("a<?b", "", "a"),
+    ("a<!", "", "a"),
+    ("a<!-", "", "a"),
+    ("a<!--b--", "", "a"),
+    ("a<!doct", "", "a"),
+    ("a<!doctype html publ", "", "a"),
+    ("a<![CDA", "", "a"),
+    ("<script>a<", "start script", "a"),
+    ("<script>a<!-", "start script", "a<!-"),
+    ("<script><!--a--", "start script", "<!--a--"),
+    ("<script><!--<scr", "start script", "<!--<scr"),
 ];
 
 /// Sees what a text tells before the end.
@@ -168,18 +185,14 @@ fn fed<S: TokenSink + Drop>(
     Ok(tokenizer)
 }
 
-/// Sees what these pieces of a title tell before the end.
-fn assert_title(
+/// Sees what text these pieces tell before the end.
+fn assert_text(
     rt: &impl Abort,
     alloc: Global,
+    setting: Setting,
     pieces: Vec<String>,
     told: &str,
 ) -> Result<(), ParseFault> {
-    let setting = Setting {
-        initial_state: Some(State::RawData(RawKind::Rcdata)),
-        last_start_tag: Some("title"),
-        ..PAGE
-    };
     let tokenizer = fed(alloc, list_of(alloc, setting), setting, pieces)?;
     assert_eq!(rt; tokenizer.sink.text.as_str(), told);
     Ok(())
@@ -187,10 +200,41 @@ fn assert_title(
 
 #[test]
 fn no_more_of_raw_text_is_held_than_may_end_it(rt: HostRuntime) -> Result<(), Fail> {
+    let setting = Setting {
+        initial_state: Some(State::RawData(RawKind::Rcdata)),
+        last_start_tag: Some("title"),
+        ..PAGE
+    };
     for &(text, told) in TOLD_IN_TITLES {
         for place in 0..=text.chars().count() {
             let pieces = in_two(rt.alloc(), text, place)?;
-            assert_title(&rt, rt.alloc(), pieces, told)?;
+            assert_text(&rt, rt.alloc(), setting, pieces, told)?;
+        }
+    }
+    Ok(())
+}
+
+// Text with a CDATA section, and what is told of it before the end is.
+const TOLD_IN_SECTIONS: &[(&str, &str)] = &[
+    ("a<![CDATA", "a"),
+    ("a<![CDATA[b", "ab"),
+    ("<![CDATA[a]", "a"),
+    ("<![CDATA[a]]", "a"),
+    ("<![CDATA[a]]]", "a]"),
+    ("<![CDATA[a]]b", "a]]b"),
+    ("<![CDATA[a]]>b<", "ab"),
+];
+
+#[test]
+fn no_more_of_a_section_is_held_than_may_end_it(rt: HostRuntime) -> Result<(), Fail> {
+    let setting = Setting {
+        asks_cdata: true,
+        ..PAGE
+    };
+    for &(text, told) in TOLD_IN_SECTIONS {
+        for place in 0..=text.chars().count() {
+            let pieces = in_two(rt.alloc(), text, place)?;
+            assert_text(&rt, rt.alloc(), setting, pieces, told)?;
         }
     }
     Ok(())
