@@ -6,8 +6,9 @@ use Rattle.markup.specs.declared.tree_sink.TreeSink.{Ghosts as TreeGhosts}
 use Rattle.html_builder_laws.specs.Usable.{Usable}
 use Rattle.html_rules.specs.State.{hushed}
 use Rattle.html_tokens.specs.Notes.{noting, noting_cdata, noting_end, noting_error, without_notes}
+use Rattle.html_tokens.specs.Reading.{erred_by}
 use Rattle.html_tokenizer.specs.Calls.{IsReadyIf}
-use Rattle.html_tokenizer.specs.Rest.{coming, pending, rest}
+use Rattle.html_tokenizer.specs.Rest.{coming, fault_behind, pending, rest}
 use Rattle.html_tokenizer.specs.declared.tokenizer.Tokenizer.{Tokenizer}
 use Rattle.html_tokenizer.proofs.Glue.{held-other}
 use Rattle.html_tree_builder.specs.States.{built}
@@ -29,11 +30,11 @@ module _ {K H O : Type 0} (Sink : TreeGhosts K H O) where
     notes = r.notes;
     same = λ t.
         ap (λ v. without_notes (rest (noting b.step b.is_quiet) noting_error (noting_cdata b.asks_cdata) (noting_end b.ended) (with_sink k sink) (v, r.notes) t)) (view-counted k.sink sink e)
-        ∙ ap without_notes (held-other (noting b.step b.is_quiet) noting_error (noting_cdata b.asks_cdata) (noting_end b.ended) k.state k (record k.sink { sink = sink }) k.stream k.stream.breaks (b.view k.sink, r.notes) (pending k.char_ref ++ coming k t) refl)
+        ∙ ap without_notes (held-other (noting b.step b.is_quiet) noting_error (noting_cdata b.asks_cdata) (noting_end b.ended) k.state k (record k.sink { sink = sink }) k.stream k.stream.breaks (erred_by noting_error (fault_behind k.char_ref) (b.view k.sink, r.notes)) (pending k.char_ref ++ coming k t) refl)
         ∙ r.same t;
     noted = λ t.
         ap (λ v. rest (noting b.step b.is_quiet) noting_error (noting_cdata b.asks_cdata) (noting_end b.ended) (with_sink k sink) (v, r.notes) t) (view-counted k.sink sink e)
-        ∙ held-other (noting b.step b.is_quiet) noting_error (noting_cdata b.asks_cdata) (noting_end b.ended) k.state k (record k.sink { sink = sink }) k.stream k.stream.breaks (b.view k.sink, r.notes) (pending k.char_ref ++ coming k t) refl
+        ∙ held-other (noting b.step b.is_quiet) noting_error (noting_cdata b.asks_cdata) (noting_end b.ended) k.state k (record k.sink { sink = sink }) k.stream k.stream.breaks (erred_by noting_error (fault_behind k.char_ref) (b.view k.sink, r.notes)) (pending k.char_ref ++ coming k t) refl
         ∙ r.noted t;
     came = r.came;
     comes = r.comes;

@@ -15,6 +15,8 @@ use Rattle.html_tokens.specs.Item.{Slight, slight_if, InData, InTag}
 use Rattle.html_tokens.specs.Notes.{Notes, noting, noting_error, noting_cdata, noting_end}
 use Rattle.html_tokens.specs.Reading.{erred_by, line_break}
 use Rattle.html_tokens.specs.Tags.{opening, opened_by, Other, quoted_after, unquoted_after, no_value, is_odd_unquoted}
+use Rattle.html_tokenizer.specs.declared.held_reference.Ampersand.{Ampersand}
+use Rattle.html_tokenizer.specs.declared.held_reference.Ampersand.TheVariants.{Held}
 use Rattle.html_tokenizer.specs.declared.tokenizer.Tokenizer.{Tokenizer}
 use Rattle.html_tokenizer.specs.Quotes.{quote_of}
 use Rattle.html_tokenizer.specs.Rest.{rows_of, standing, held_at}
@@ -110,7 +112,7 @@ module _ {K H : Type 0} (Sink : Ghosts K H) where
       ∙ quoted-closes (noting Sink.step Sink.is_quiet) noting_error (noting_cdata Sink.asks_cdata) (noting_end Sink.ended) (rows_of old) slight-absorbed quote (standing old InData) old.tag old.attribute_name old.attribute_value b s c t (eq-eqb quote c (sym e))))
 
   -- The reference that is held does not matter to what a value's state holds.
-  held-fresh : (kind : AttrValueKind) (k : Tokenizer K) (r : Option (List ℕ)) (b : ℕ) (s : Sink.State × Notes ℕ) (t : List ℕ)
+  held-fresh : (kind : AttrValueKind) (k : Tokenizer K) (r : Option Ampersand) (b : ℕ) (s : Sink.State × Notes ℕ) (t : List ℕ)
       → at Sink (state.AttributeValue kind) (record k { char_ref = r }) b s t ≡ at Sink (state.AttributeValue kind) k b s t
   unfolding held_at
   held-fresh value.Unquoted k r b s t = refl
@@ -119,8 +121,8 @@ module _ {K H : Type 0} (Sink : Ghosts K H) where
 
   -- "&" in a value begins a reference
   pub value-reference : (old : Tokenizer K) (kind : AttrValueKind) (c : ℕ) (text : List ℕ) → IsAt old (state.AttributeValue kind) → Sink.is_sound (Sink.view old.sink) → c ≡ 38 → text ≡ []
-      → Took Sink old (record old { char_ref = Some text }) c flow.Continue
-  value-reference old kind c text from ok e is = rw (e, is) (took_reference Sink old (state.AttributeValue kind) from refl ok (λ b s t. held-fresh kind old (Some []) b s t))
+      → Took Sink old (record old { char_ref = Some (Held text) }) c flow.Continue
+  value-reference old kind c text from ok e is = rw (e, is) (took_reference Sink old (state.AttributeValue kind) from refl ok (λ b s t. held-fresh kind old (Some (Held [])) b s t))
 
   -- a character of a value without quotes is held, and noted if it is odd
   pub unquoted-held : (old : Tokenizer K) (c : ℕ) → IsAt old (state.AttributeValue value.Unquoted) → Sink.is_sound (Sink.view old.sink) → ends_word c ≡ false → nat_eq c 38 ≡ false

@@ -1,6 +1,6 @@
 -- A character reference is decided once what is held of it can't go on.
 use Rattle.std.proofs.Common.{◌≡◌, ◌∙◌, ℕ, zero, suc, ◌≤◌, ◌<◌, ◌+◌, Bool, cond, true, false, List, [], ◌∷◌, ◌++◌, length, take, drop, Option, Some, None, refl, sym, ap, arith}
-use Rattle.std.specs.Prelude.{nat_eq, not, ◌&&◌, ◌||◌, IsTrue, IfSome, All}
+use Rattle.std.specs.Prelude.{nat_eq, not, ◌&&◌, ◌||◌, is_none, IsTrue, IfSome, All}
 use Rattle.std.specs.Char.{is_ascii_digit, is_ascii_hexdigit}
 use Rattle.std.specs.List.{starts_with, ends_with}
 use Rattle.std.specs.Option.{is_some, option_map}
@@ -16,7 +16,7 @@ use Rattle.html_references.specs.References.{IsCheckedTable, is_reference_name}
 use Rattle.html_references.proofs.Begins.{fitting-is}
 use Rattle.html_references.proofs.Fronts.{longest-stop}
 use Rattle.html_references.proofs.Longest.{Within, longest-within}
-use Rattle.html_tokenizer.specs.CharRefs.{stops, are_digits, is_no_text, is_number_by, is_number_front, is_front_by, is_held_front, may_go_on, is_text_before, named_before, decided, decided_by, reference_of, is_faulty, is_faulty_by, is_faulty_named, is_faulty_number, is_faulty_numeric, is_faulty_numeric_by, is_faulty_run}
+use Rattle.html_tokenizer.specs.CharRefs.{stops, are_digits, is_no_text, is_number_by, is_number_front, is_front_by, is_held_front, may_go_on, is_text_before, named_before, decided, decided_by, reference_of, is_faulty, is_faulty_by, is_faulty_named, is_faulty_number, is_faulty_numeric, is_faulty_numeric_by, is_faulty_run, is_unknown}
 use Rattle.html_tokenizer.specs.declared.numbers.Found.{Found}
 use Rattle.html_tokenizer.specs.Steps.{owed_for}
 use Rattle.html_tokenizer.proofs.Rises.{IsNoMore}
@@ -298,3 +298,18 @@ no-more (Some Slight) told h g = record { faults = omega arith; quiet = λ e. ab
 -- of a reference no more is owed than is told
 pub fault-within : (in_value : Bool) (rows : List ReferenceRow) (cs : List ℕ) (follows told : Bool) → told ≡ is_faulty in_value rows cs follows → IsNoMore (owed_for (fault_of_reference rows cs)) (owed_for (grave_if told))
 fault-within in_value rows cs follows told e = no-more (fault_of_reference rows cs) told (λ h. faulty-some in_value rows cs follows (sym e ∙ h)) (λ h. e ∙ grave-faulty in_value rows cs follows h)
+
+-- AN UNKNOWN NAME
+
+unknown-row : (o : Option ReferenceRow) → is_none o ≡ true → slight_if (not (has_semicolon o)) ≡ Some Slight
+unknown-row None e = refl
+unknown-row (Some row) e = absurd cc
+
+unknown-by : (b : Bool) (rows : List ReferenceRow) (h : ℕ) (hs : List ℕ) → (not b && is_none (longest rows (h ∷ hs))) ≡ true → fault_of_reference_by b rows h hs ≡ Some Slight
+unknown-by true rows h hs e = absurd cc
+unknown-by false rows h hs e = unknown-row (longest rows (h ∷ hs)) e
+
+-- an unknown name has a slight fault
+pub unknown-slight : (rows : List ReferenceRow) (cs : List ℕ) (c : ℕ) → is_unknown rows cs c ≡ true → fault_of_reference rows cs ≡ Some Slight
+unknown-slight rows [] c e = refl
+unknown-slight rows (h ∷ hs) c e = unknown-by (nat_eq h 35) rows h hs e

@@ -10,6 +10,7 @@ use Rattle.html_tokens.specs.declared.sink.TokenSink.{Ghosts}
 use Rattle.html_tokens.specs.Notes.{Notes, noting, noting_error}
 use Rattle.html_tokens.specs.Reading.{◌>>=◌, line_number, erred_by}
 use Rattle.html_tokenizer.specs.Calls.{at_end, Closes}
+use Rattle.html_tokenizer.specs.declared.held_reference.Ampersand.{Ampersand}
 use Rattle.html_tokenizer.specs.declared.tokenizer.Tokenizer.{Tokenizer}
 use Rattle.html_tokenizer.specs.Steps.{Owed, IsAt, more, Tells, Errs, now, nothing_owed, Told, owed_for, and_heard, together}
 use Rattle.html_tokenizer.proofs.Glue.{at, now-at, bind-err, token-fails, told-next, stays-then, fell-behind, fails-along, fails-before, sound_erred}
@@ -32,7 +33,7 @@ module _ {K H : Type 0} (Sink : Ghosts K H) where
   TellsThen fault st k token = (b : ℕ) (s : Sink.State × Notes ℕ) → Sink.is_sound s.0 → at Sink st k b s [] ≡ (noting Sink.step Sink.is_quiet s token (line_number b) >>= λ p. at_end Sink b (erred_by noting_error fault p.0))
 
   -- The token that is to come last was told, or could not be told. The reference that was held is no part of it.
-  pub closes_last : (owed : Owed) (old new : Tokenizer K) (held : Option (List ℕ)) (token : Token) (result : Result (Unit {0}) ParseFault)
+  pub closes_last : (owed : Owed) (old new : Tokenizer K) (held : Option Ampersand) (token : Token) (result : Result (Unit {0}) ParseFault)
       → ((notes : Notes ℕ) → now Sink (record old { char_ref = held }) old.stream.breaks (Sink.view old.sink, notes) [] ≡ (noting Sink.step Sink.is_quiet (Sink.view old.sink, more owed notes) token (line_number old.stream.breaks) >>= λ p. at_end Sink old.stream.breaks p.0))
       → Tells Sink owed token old new result
       → Closes Sink (record old { char_ref = held }) new result
@@ -57,7 +58,7 @@ module _ {K H : Type 0} (Sink : Ghosts K H) where
       (λ notes. now-at Sink old st old.stream.breaks (Sink.view old.sink, notes) [] from ∙ law old.stream.breaks (Sink.view old.sink, notes) ok) told
 
   -- An error is told where nothing is to come but the end, or could not be told.
-  pub closes_end : (told owed : Owed) (old new : Tokenizer K) (held : Option (List ℕ)) (result : Result (Unit {0}) ParseFault) → IsNoMore owed told → Sink.is_sound (Sink.view old.sink)
+  pub closes_end : (told owed : Owed) (old new : Tokenizer K) (held : Option Ampersand) (result : Result (Unit {0}) ParseFault) → IsNoMore owed told → Sink.is_sound (Sink.view old.sink)
       → ((notes : Notes ℕ) → now Sink (record old { char_ref = held }) old.stream.breaks (Sink.view old.sink, notes) [] ≡ at_end Sink old.stream.breaks (Sink.view old.sink, more owed notes))
       → Errs Sink told old new result
       → Closes Sink (record old { char_ref = held }) new result

@@ -6,19 +6,18 @@ use Rattle.markup.specs.declared.fault.ParseFault.{ParseFault}
 use Rattle.html_tokens.specs.declared.replies.ProcessResult.{ProcessResult}
 use Rattle.html_tokens.specs.declared.sink.TokenSink.{Ghosts}
 use Rattle.html_tokens.specs.Item.{grave_if}
-use Rattle.html_tokens.specs.Notes.{noting, noting_error, noting_cdata, noting_end}
+use Rattle.html_tokenizer.specs.declared.held_reference.Ampersand.{Ampersand}
 use Rattle.html_tokenizer.specs.declared.tokenizer.Tokenizer.{Tokenizer}
-use Rattle.html_tokenizer.specs.Rest.{pending}
 use Rattle.html_tokenizer.specs.Calls.{KeepsRun}
 use Rattle.html_tokenizer.specs.Steps.{now, Owed, Erred, Errs, Keeps, nothing_owed, owed_for, owed_for_each, together}
 use Rattle.html_tokenizer.proofs.Glue.{stays-then, fell-behind, fails-before}
-use Rattle.html_tokenizer.proofs.HeldRefused.{held-refused}
-use Rattle.html_tokenizer.proofs.Refused.{noting-refused, noting-errs, every-fails}
+use Rattle.html_tokenizer.proofs.HeldRefused.{now-refused}
+use Rattle.html_tokenizer.proofs.Refused.{every-fails}
 use Rattle.html_tokenizer.proofs.Rises.{IsNoMore, rises-then, rises-less, each-more}
 
 module _ {K H : Type 0} (Sink : Ghosts K H) where
   -- An error could not be told, so nothing that is to come could, whatever reference was held.
-  pub keeps_refused : (old new : Tokenizer K) (held : Option (List ℕ)) (c : ℕ) (fault : ParseFault) (result : Result (ProcessResult H) ParseFault) → Errs Sink nothing_owed old new (Err fault)
+  pub keeps_refused : (old new : Tokenizer K) (held : Option Ampersand) (c : ℕ) (fault : ParseFault) (result : Result (ProcessResult H) ParseFault) → Errs Sink nothing_owed old new (Err fault)
       → IsErrAnd result (λ y. y ≡ fault) → Keeps Sink (record old { char_ref = held }) new c result
   keeps_refused old new held c fault result fails is =
       let p = err_from_is_err_and result is in
@@ -27,8 +26,7 @@ module _ {K H : Type 0} (Sink : Ghosts K H) where
         fails.0,
         λ notes t.
             every-fails Sink old.sink new.sink (Sink.view old.sink) fault (now Sink k old.stream.breaks (Sink.view old.sink, notes) (c ∷ t)) fails.1
-            (λ h. held-refused (noting Sink.step Sink.is_quiet) noting_error (noting_cdata Sink.asks_cdata) (noting_end Sink.ended) (noting-errs Sink) old.state k old.stream.breaks (Sink.view old.sink, notes) (pending held ++ c ∷ t)
-            (noting-refused Sink (Sink.view old.sink) notes h)),
+            (λ h. now-refused Sink k old.stream.breaks notes (c ∷ t) h),
       )
 
   -- The same of a run.
@@ -40,8 +38,7 @@ module _ {K H : Type 0} (Sink : Ghosts K H) where
         fails.0,
         λ notes t.
             every-fails Sink old.sink new.sink (Sink.view old.sink) fault (now Sink old old.stream.breaks (Sink.view old.sink, notes) (run ++ t)) fails.1
-            (λ h. held-refused (noting Sink.step Sink.is_quiet) noting_error (noting_cdata Sink.asks_cdata) (noting_end Sink.ended) (noting-errs Sink) old.state old old.stream.breaks (Sink.view old.sink, notes) (pending old.char_ref ++ (run ++ t))
-            (noting-refused Sink (Sink.view old.sink) notes h)),
+            (λ h. now-refused Sink old old.stream.breaks notes (run ++ t) h),
       )
 
   -- Errors were told, and then more.

@@ -10,14 +10,16 @@ use Rattle.html_queue.specs.Queue.{Queue, Takes}
 use Rattle.html_tokens.specs.declared.replies.ProcessResult.{ProcessResult}
 use Rattle.html_tokens.specs.declared.replies.ProcessResult.TheVariants as flow
 use Rattle.html_tokens.specs.Notes.{Notes, noting, noting_error, noting_cdata, noting_end}
+use Rattle.html_tokens.specs.Reading.{erred_by}
 use Rattle.html_tokens.specs.Sink.{Reply}
 use Rattle.html_tokenizer.specs.CharRefs.{fits_in}
 use Rattle.html_tokenizer.specs.Calls.{ComesAsRunAt, to_come, paused_with, IsReady, Passes, KeepsRun, KeepsText, Leaves, HasMoved, Moved, Moves, Fed, Runs, Rests, owed_for_text}
 use Rattle.html_tokenizer.specs.Input.{coming_in, newline_for, last_of, ComesAs, Vanishes}
 use Rattle.html_tokenizer.specs.Keywords.{IsPart}
 use Rattle.html_tokenizer.specs.declared.tokenizer.Stream.{Stream}
+use Rattle.html_tokenizer.specs.declared.held_reference.Ampersand.{Ampersand}
 use Rattle.html_tokenizer.specs.declared.tokenizer.Tokenizer.{Tokenizer}
-use Rattle.html_tokenizer.specs.Rest.{pending, coming, rows_of}
+use Rattle.html_tokenizer.specs.Rest.{fault_behind, pending, coming, rows_of}
 use Rattle.html_tokenizer.specs.Words.{BeginsEnd}
 use Rattle.html_tokenizer.proofs.EndFronts.{holds-end}
 use Rattle.html_tokenizer.proofs.HeldParts.{holds-part}
@@ -54,7 +56,7 @@ module _ {K H : Type 0} (Sink : Ghosts K H) where
       → to_come Sink old notes u ≡ now Sink mid mid.stream.breaks (Sink.view mid.sink, notes) v
   comes-to old mid u v notes other is comes =
       ap (λ x. now Sink old old.stream.breaks (Sink.view old.sink, notes) x) comes
-      ∙ sym (held-other (noting Sink.step Sink.is_quiet) noting_error (noting_cdata Sink.asks_cdata) (noting_end Sink.ended) old.state old old.sink mid.stream old.stream.breaks (Sink.view old.sink, notes) (pending old.char_ref ++ v) (ap (λ s. s.table) other))
+      ∙ sym (held-other (noting Sink.step Sink.is_quiet) noting_error (noting_cdata Sink.asks_cdata) (noting_end Sink.ended) old.state old old.sink mid.stream old.stream.breaks (erred_by noting_error (fault_behind old.char_ref) (Sink.view old.sink, notes)) (pending old.char_ref ++ v) (ap (λ s. s.table) other))
       ∙ ap (λ n. now Sink (record old { stream = mid.stream }) n (Sink.view old.sink, notes) v) (sym (ap (λ s. s.breaks) other))
       ∙ sym (ap (λ (k : Tokenizer K). now Sink k mid.stream.breaks (Sink.view k.sink, notes) v) is)
 
@@ -189,7 +191,7 @@ module _ {K H : Type 0} (Sink : Ghosts K H) where
       subst (λ s. Rises Sink.errors (together owed (owed_for_text old.stream.exact_errors came)) s new.sink) (ap (λ (k : Tokenizer K). k.sink) is) (subst (λ b. Rises Sink.errors (together owed (owed_for_text b came)) mid.sink new.sink) exact h)
 
   -- a run comes only where control characters and noncharacters are not told
-  run-plain : (exact : Bool) (held : Option (List ℕ)) (st : State) (set : SmallCharSet) → stops_of exact held st ≡ Some set → exact ≡ false
+  run-plain : (exact : Bool) (held : Option Ampersand) (st : State) (set : SmallCharSet) → stops_of exact held st ≡ Some set → exact ≡ false
   run-plain true held st set e = absurd cc
   run-plain false held st set e = refl
 

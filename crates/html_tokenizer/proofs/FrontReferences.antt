@@ -14,6 +14,7 @@ use Rattle.html_tokenizer.specs.CharRefs.{is_held, is_held_front, may_hold}
 use Rattle.html_tokenizer.specs.Fronts.{HoldsName, IsReferenceAt, IsUnbroken, ReadsTags, TakesFront}
 use Rattle.html_tokenizer.specs.Rest.{rows_of}
 use Rattle.html_tokenizer.specs.Steps.{IsAt, nothing_owed}
+use Rattle.html_tokenizer.specs.declared.held_reference.Ampersand.TheVariants.{Held}
 use Rattle.html_tokenizer.specs.declared.tokenizer.Tokenizer.{Tokenizer}
 use Rattle.html_tokenizer.proofs.FrontTexts.{ascii-one, chars-cons, utf8-cons}
 use Rattle.html_tokenizer.proofs.Fronts.{heeding}
@@ -39,11 +40,11 @@ spelled name utf8 =
 
 module _ {K : Type 0} where
   -- what some name begins with is held
-  pub holds-name : (old : Tokenizer K) (cs text : List ℕ) → text ≡ cs → (is_held_front (rows_of old) cs ≡ true) × (list_all is_held cs ≡ true) → HoldsName true old (record old { char_ref = Some text }) cs
+  pub holds-name : (old : Tokenizer K) (cs text : List ℕ) → text ≡ cs → (is_held_front (rows_of old) cs ≡ true) × (list_all is_held cs ≡ true) → HoldsName true old (record old { char_ref = Some (Held text) }) cs
   holds-name old cs text e h = rw e (refl, h.0, h.1)
 
 module _ {K H : Type 0} (Sink : Ghosts K H) where
-  held-run : (old : Tokenizer K) (cs : List ℕ) → IsAt old state.Data → Sink.is_sound (Sink.view old.sink) → is_held_front (rows_of old) cs ≡ true → TookRun Sink old (record old { char_ref = Some cs }) (38 ∷ cs)
+  held-run : (old : Tokenizer K) (cs : List ℕ) → IsAt old state.Data → Sink.is_sound (Sink.view old.sink) → is_held_front (rows_of old) cs ≡ true → TookRun Sink old (record old { char_ref = Some (Held cs) }) (38 ∷ cs)
   held-run old cs from ok front = record {
     owed = nothing_owed;
     rises = rises-same Sink.errors old.sink old.sink refl;
@@ -57,7 +58,7 @@ module _ {K H : Type 0} (Sink : Ghosts K H) where
   }
 
   pub reference-front : (old new : Tokenizer K) (name rest text : List ℕ) → IsAt old state.Data → Sink.is_sound (Sink.view old.sink) → IsReferenceAt name rest text
-      → new ≡ record old { char_ref = Some (chars name ++ 59 ∷ []) } → is_held_front (rows_of old) (chars name ++ 59 ∷ []) ≡ true → list_all is_held (chars name ++ 59 ∷ []) ≡ true
+      → new ≡ record old { char_ref = Some (Held (chars name ++ 59 ∷ [])) } → is_held_front (rows_of old) (chars name ++ 59 ∷ []) ≡ true → list_all is_held (chars name ++ 59 ∷ []) ≡ true
       → TakesFront Sink old new text rest
   reference-front old new name rest text from ok at is front held =
       let e = spelled name at.utf8 in
@@ -66,7 +67,7 @@ module _ {K H : Type 0} (Sink : Ghosts K H) where
         whole = at.whole ∙ ap (λ u. 38 ∷ u) (sym (append_assoc name (59 ∷ []) rest));
         utf8 = utf8-cons 38 (name ++ 59 ∷ []) (omega arith) (IsUtf8-append name (59 ∷ []) at.utf8 (IsUtf8-from_ascii (59 ∷ []) (ascii-one 59 (omega arith))));
         unbroken = subst IsUnbroken (sym e) (All-cons (λ c. (nat_eq c 10 ≡ false) × (nat_eq c 13 ≡ false)) 38 (chars name ++ 59 ∷ []) (refl, refl) (held-whole (chars name ++ 59 ∷ []) held));
-        took = subst (TookRun Sink old (record old { char_ref = Some (chars name ++ 59 ∷ []) })) (sym e) (held-run old (chars name ++ 59 ∷ []) from ok front);
+        took = subst (TookRun Sink old (record old { char_ref = Some (Held (chars name ++ 59 ∷ [])) })) (sym e) (held-run old (chars name ++ 59 ∷ []) from ok front);
       })
 
   pub reference-taken : (old mid : Tokenizer K) (name rest text : List ℕ) (holds : Bool) → ReadsTags old → Sink.is_sound (Sink.view old.sink) → IsReferenceAt name rest text → holds ≡ true → HoldsName holds old mid (chars name ++ 59 ∷ [])

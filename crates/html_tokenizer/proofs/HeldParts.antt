@@ -15,6 +15,8 @@ use Rattle.html_references.specs.References.{is_front, is_named, longer_of, long
 use Rattle.html_references.proofs.Begins.{fitting-is}
 use Rattle.html_tokenizer.specs.Calls.{HeldIn, is_value}
 use Rattle.html_tokenizer.specs.CharRefs.{BeginsReference, are_digits, fits_in, is_front_by, is_held_front, is_no_text, is_number_by, is_number_front, may_hold, stops}
+use Rattle.html_tokenizer.specs.declared.held_reference.Ampersand.{Ampersand}
+use Rattle.html_tokenizer.specs.declared.held_reference.Ampersand.TheVariants.{Held, Unknown}
 use Rattle.html_tokenizer.proofs.HeldFronts.{none-of, or-cases, text-alone}
 
 -- NUMBERS
@@ -162,6 +164,7 @@ held-part in_value rows [] f =
 held-part in_value rows (h ∷ hs) f = part-of in_value (nat_eq h 35) rows h hs refl f
 
 -- what is held is a part of a reference
-pub holds-part : (rows : List ReferenceRow) (st : State) (held : Option (List ℕ)) → fits_in rows held st ≡ true → HeldIn rows st held
+pub holds-part : (rows : List ReferenceRow) (st : State) (behind : Option Ampersand) → fits_in rows behind st ≡ true → HeldIn rows st behind
 holds-part rows st None f = tt
-holds-part rows st (Some cs) f = held-part (is_value st) rows cs (and_parts (is_held_front rows cs) (may_hold st) f).0
+holds-part rows st (Some Unknown) f = tt
+holds-part rows st (Some (Held cs)) f = held-part (is_value st) rows cs (and_parts (is_held_front rows cs) (may_hold st) f).0

@@ -1,7 +1,9 @@
 -- Where a sink refuses every token, all that is still to come is refused.
 use Rattle.std.proofs.Common.{ℕ, Bool, List, ◌∷◌, ◌++◌, take, drop}
 use Rattle.std.specs.Prelude.{IsErr, ◌+◌}
-use Rattle.html_tokens.specs.Notes.{NotedStep}
+use Rattle.html_tokens.specs.Notes.{Notes, NotedStep, noting, noting_error, noting_cdata, noting_end}
+use Rattle.html_tokens.specs.declared.sink.TokenSink.{Ghosts}
+use Rattle.html_tokens.specs.declared.token.Token.{Token}
 use Rattle.html_tokens.specs.declared.states.RawKind.TheVariants as raw
 use Rattle.html_tokens.specs.declared.states.ScriptEscapeKind.TheVariants as script
 use Rattle.html_tokens.specs.declared.states.DoctypeIdKind.TheVariants as id
@@ -12,11 +14,12 @@ use Rattle.html_tokens.specs.Comments.{comment_at, comment_after, bogus_comment_
 use Rattle.html_tokens.specs.Doctypes.{doctype_at, doctype_behind, doctype_name_after, after_name, after_public_keyword, after_system_keyword, public_after, system_after, after_public, after_system, junk_after}
 use Rattle.html_tokens.specs.Tags.{name_after, attribute_after, equals_at, value_at, unquoted_after, quoted_after, lacks_space}
 use Rattle.html_tokenizer.specs.declared.tokenizer.Tokenizer.{Tokenizer}
-use Rattle.html_tokenizer.specs.Rest.{rows_of, standing, held_at}
+use Rattle.html_tokenizer.specs.Rest.{fault_behind, pending, rows_of, standing, held_at}
 use Rattle.html_tokens.specs.Item.{Fault, slight_if, InData, Item}
 use Rattle.html_tokens.specs.Reading.{erred_by, next_stand, line_breaks, reading, play}
 use Rattle.html_tokens.specs.Table.{Row}
-use Rattle.html_tokenizer.proofs.Refused.{AllRefused, erred-refused, said-refused, reading-refused}
+use Rattle.html_tokenizer.proofs.Refused.{AllRefused, erred-refused, said-refused, reading-refused, noting-errs, noting-refused}
+use Rattle.html_tokenizer.specs.Steps.{now}
 
 module _ {T : Type 0} (step : NotedStep T) (erred : Fault → T → T) (cdata : T → Bool) (ends : T → T) (rows : List Row) (errs : (fault : Fault) (s : T) → AllRefused step s → AllRefused step (erred fault s)) where
   pub play-refused : (s : T) → AllRefused step s → (i : Item) (b : ℕ) (t : List ℕ) → IsErr (play step erred cdata ends rows i b s t)
@@ -86,3 +89,10 @@ module _ {K T : Type 0} (step : NotedStep T) (erred : Fault → T → T) (cdata 
   held-refused state.CdataSection k b s t h = reading-refused step erred cdata ends (rows_of k) errs s h 0 _ b _
   held-refused state.CdataSectionBracket k b s t h = reading-refused step erred cdata ends (rows_of k) errs s h 0 _ b _
   held-refused state.CdataSectionEnd k b s t h = reading-refused step erred cdata ends (rows_of k) errs s h 0 _ b _
+
+module _ {K H : Type 0} (Sink : Ghosts K H) where
+  -- the same of the machine where it is
+  pub now-refused : (k : Tokenizer K) (b : ℕ) (notes : Notes ℕ) (t : List ℕ) → ((token : Token) (line : ℕ) → IsErr (Sink.step (Sink.view k.sink) token line)) → IsErr (now Sink k b (Sink.view k.sink, notes) t)
+  now-refused k b notes t h =
+      held-refused (noting Sink.step Sink.is_quiet) noting_error (noting_cdata Sink.asks_cdata) (noting_end Sink.ended) (noting-errs Sink) k.state k b (erred_by noting_error (fault_behind k.char_ref) (Sink.view k.sink, notes)) (pending k.char_ref ++ t)
+      (erred-refused (noting Sink.step Sink.is_quiet) noting_error (noting_cdata Sink.asks_cdata) (noting_end Sink.ended) (rows_of k) (noting-errs Sink) (fault_behind k.char_ref) (Sink.view k.sink, notes) (noting-refused Sink (Sink.view k.sink) notes h))

@@ -1,3 +1,5 @@
+pub mod Ambiguous
+pub mod AmbiguousStates
 pub mod AttributeNames
 pub mod AttributeReadings
 pub mod AttributeValues

@@ -18,10 +18,12 @@ use Rattle.html_tokens.specs.Notes.{Notes, noted, noting, noting_error, noting_c
 use Rattle.html_tokens.specs.Reading.{◌>>=◌, next_stand, said, line_number, line_breaks, reading_from, reading, play, erred_by}
 use Rattle.html_tokens.specs.Sink.{Step, Reply, Refusal}
 use Rattle.html_tokens.specs.Table.{Row}
+use Rattle.html_tokenizer.specs.declared.held_reference.Ampersand.{Ampersand}
+use Rattle.html_tokenizer.specs.declared.held_reference.Ampersand.TheVariants.{Held, Unknown}
 use Rattle.html_tokenizer.specs.declared.tokenizer.Tokenizer.{Tokenizer}
 use Rattle.html_tokenizer.specs.Calls.{noted_with}
 use Rattle.html_tokenizer.specs.Laws.{IsOwing}
-use Rattle.html_tokenizer.specs.Rest.{rows_of, standing, pending, coming, held_at}
+use Rattle.html_tokenizer.specs.Rest.{rows_of, standing, fault_behind, pending, coming, held_at}
 use Rattle.html_tokenizer.specs.Steps.{and_more}
 use Rattle.html_tokenizer.proofs.Readings.{sum-zero}
 use Rattle.html_tokenizer.proofs.Rises.{more-sum}
@@ -148,13 +150,20 @@ module _ {K S : Type 0} (step : Step S) (quiet : S → Token → Bool) (cdata : 
   held-errors state.CdataSectionBracket k b s notes other t h = reading-errors step quiet cdata ends more_owed (rows_of k) 0 _ b s notes other _ h
   held-errors state.CdataSectionEnd k b s notes other t h = reading-errors step quiet cdata ends more_owed (rows_of k) 0 _ b s notes other _ h
 
+  -- the same where an unknown name may stand before
+  held_behind-errors : (behind : Option Ampersand) (st : State) (k : Tokenizer K) (b : ℕ) (s : S) (notes other : Notes ℕ) (t : List ℕ) → HasMore step quiet cdata ends more_owed notes other
+      → OwesMore step quiet cdata ends more_owed (held_at (noting step quiet) noting_error (noting_cdata cdata) (noting_end ends) st k b (erred_by noting_error (fault_behind behind) (s, notes)) t) (held_at (noting step quiet) noting_error (noting_cdata cdata) (noting_end ends) st k b (erred_by noting_error (fault_behind behind) (s, other)) t)
+  held_behind-errors None st k b s notes other t h = held-errors st k b s notes other t h
+  held_behind-errors (Some (Held cs)) st k b s notes other t h = held-errors st k b s notes other t h
+  held_behind-errors (Some Unknown) st k b s notes other t h = held-errors st k b s _ _ t h
+
 module _ {K H : Type 0} (Sink : Ghosts K H) where
   -- What is owed before a call for the characters that it takes and those that follow is owed by the items that ended, or behind it.
   pub is-owing : IsOwing Sink
   is-owing = (
     λ c t.
         ap errors_of (c.fed.same no_notes t)
-        ∙ held-errors Sink.step Sink.is_quiet Sink.asks_cdata Sink.ended c.fed.owed.faults c.after.state c.after c.after.stream.breaks (Sink.view c.after.sink) no_notes (noted_with Sink.number c.fed.owed no_notes c.result) (pending c.after.char_ref ++ coming c.after t) refl
+        ∙ held_behind-errors Sink.step Sink.is_quiet Sink.asks_cdata Sink.ended c.fed.owed.faults c.after.char_ref c.after.state c.after c.after.stream.breaks (Sink.view c.after.sink) no_notes (noted_with Sink.number c.fed.owed no_notes c.result) (pending c.after.char_ref ++ coming c.after t) refl
         ∙ more-sum c.fed.owed.faults _,
     λ old new e. ap errors_of (e.same no_notes) ∙ more-sum e.owed.faults 0 ∙ sum-zero e.owed.faults,
   )

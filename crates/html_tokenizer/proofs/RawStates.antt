@@ -20,6 +20,7 @@ use Rattle.html_tokens.specs.RawText.{is_fitting_end, ends_at_tag, has_reference
 use Rattle.html_tokens.specs.Reading.{◌>>=◌, line_number, line_break}
 use Rattle.html_tokens.specs.Sink.{Refusal, SinkLaws}
 use Rattle.html_tokenizer.specs.CharRefs.{may_hold}
+use Rattle.html_tokenizer.specs.declared.held_reference.Ampersand.TheVariants.{Held}
 use Rattle.html_tokenizer.specs.declared.tokenizer.Tokenizer.{Tokenizer}
 use Rattle.html_tokenizer.specs.Rest.{rows_of, standing, held_at}
 use Rattle.html_tokenizer.specs.Steps.{IsAt, TakesAs, Took, Keeps, nothing_owed, owed_for, reads}
@@ -76,7 +77,7 @@ module _ {K H : Type 0} (Sink : Ghosts K H) (laws : SinkLaws Sink.is_sound Sink.
       → raw_text Sink old kind b s (c ∷ t) ≡ (noting Sink.step Sink.is_quiet s (CharacterTokens (c ∷ [])) (line_number b) >>= λ p. raw_text Sink old (kind_behind kind c t) (b + line_break (nat_eq c 10)) p.0 t)
   raw-char old kind b s h c t e f z = reading-char (λ p. Sink.is_sound p.0) (noting Sink.step Sink.is_quiet) noting_error (noting_cdata Sink.asks_cdata) (noting_end Sink.ended) (rows_of old) (noting-lawful Sink.is_sound Sink.step Sink.ended Sink.is_quiet laws) (standing old (InRaw kind)) (standing old (InRaw (kind_behind kind c t))) b s h c c t (line_number b) (plain-item old kind (Sink.asks_cdata s.0) c t e f z)
 
-  shown-says : (old : Tokenizer K) (kind : RawKind) (c : ℕ) → nat_eq c 60 ≡ false → nat_eq c 38 ≡ false → nat_eq c 45 ≡ false → Says Sink (state.RawData kind) old c (owed_for (grave_if (nat_eq c 0))) (CharacterTokens (shown c ∷ [])) (λ b s t. at Sink (state.RawData kind) old (b + line_break (nat_eq c 10)) s t)
+  pub shown-says : (old : Tokenizer K) (kind : RawKind) (c : ℕ) → nat_eq c 60 ≡ false → nat_eq c 38 ≡ false → nat_eq c 45 ≡ false → Says Sink (state.RawData kind) old c (owed_for (grave_if (nat_eq c 0))) (CharacterTokens (shown c ∷ [])) (λ b s t. at Sink (state.RawData kind) old (b + line_break (nat_eq c 10)) s t)
   unfolding held_at
   shown-says old kind c e f d b s h t =
       reading-shown Sink.step Sink.asks_cdata Sink.ended Sink.is_sound Sink.is_quiet laws (rows_of old) (standing old (InRaw kind)) (standing old (InRaw kind)) b s h c t
@@ -106,9 +107,9 @@ module _ {K H : Type 0} (Sink : Ghosts K H) (laws : SinkLaws Sink.is_sound Sink.
       keeps_taken Sink nothing_owed old (record old { state = state.RawLessThanSign deep }) new 60 (state.RawData deep) (state.RawLessThanSign deep) (CharacterTokens (60 ∷ [])) result (rw is at from) (record { state = refl; fresh = from.fresh }) refl refl ok (rw is at told) (open-says old)
 
   -- "&" was taken, which is held
-  pub raw-reference : (old : Tokenizer K) (kind : RawKind) (begun : List ℕ) → IsAt old (state.RawData kind) → Sink.is_sound (Sink.view old.sink) → has_references kind ≡ true → begun ≡ [] → Took Sink old (record old { char_ref = Some begun }) 38 flow.Continue
+  pub raw-reference : (old : Tokenizer K) (kind : RawKind) (begun : List ℕ) → IsAt old (state.RawData kind) → Sink.is_sound (Sink.view old.sink) → has_references kind ≡ true → begun ≡ [] → Took Sink old (record old { char_ref = Some (Held begun) }) 38 flow.Continue
   unfolding held_at
-  raw-reference old kind begun from ok e is = rw is (took_reference Sink old (record old { char_ref = Some [] }) 38 (state.RawData kind) from (rcdata-holds kind e) refl from.state refl refl refl ok (λ b s t. refl))
+  raw-reference old kind begun from ok e is = rw is (took_reference Sink old (record old { char_ref = Some (Held []) }) 38 (state.RawData kind) from (rcdata-holds kind e) refl from.state refl refl refl ok (λ b s t. refl))
 
   amp-says : (old : Tokenizer K) (kind : RawKind) → has_references kind ≡ false → Says Sink (state.RawData kind) old 38 nothing_owed (CharacterTokens (38 ∷ [])) (λ b s t. at Sink (state.RawData kind) old (b + line_break (nat_eq 38 10)) s t)
   unfolding held_at

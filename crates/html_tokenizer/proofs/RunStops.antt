@@ -3,11 +3,12 @@ use Rattle.std.proofs.Common.{◌≡◌, ℕ, Bool, true, false, List, Option, S
 use Rattle.html_queue.specs.declared.set.SmallCharSet.{SmallCharSet}
 use Rattle.html_tokens.specs.declared.states.State.{State}
 use Rattle.html_tokenizer.specs.Stops.{state_stops, stops_of, IsRunAt}
+use Rattle.html_tokenizer.specs.declared.held_reference.Ampersand.{Ampersand}
 use Rattle.html_tokenizer.specs.declared.tokenizer.Tokenizer.{Tokenizer}
 use Rattle.html_tokenizer.specs.Steps.{IsAt}
 
--- where runs are read, no reference is held
-stops-fresh : (exact : Bool) (char_ref : Option (List ℕ)) (st : State) (set : SmallCharSet) → stops_of exact char_ref st ≡ Some set → (char_ref ≡ None) × (state_stops st ≡ Some set)
+-- where runs are read, nothing is awaited behind "&"
+stops-fresh : (exact : Bool) (char_ref : Option Ampersand) (st : State) (set : SmallCharSet) → stops_of exact char_ref st ≡ Some set → (char_ref ≡ None) × (state_stops st ≡ Some set)
 stops-fresh true char_ref st set are = absurd cc
 stops-fresh false None st set are = (refl, are)
 stops-fresh false (Some held) st set are = absurd cc

@@ -8,6 +8,7 @@ use Rattle.html_tokens.specs.declared.states.State.{State}
 use Rattle.html_tokens.specs.declared.sink.TokenSink.{Ghosts}
 use Rattle.html_tokens.specs.Sink.{Refusal}
 use Rattle.html_tokenizer.specs.CharRefs.{may_hold}
+use Rattle.html_tokenizer.specs.declared.held_reference.Ampersand.TheVariants.{Held}
 use Rattle.html_tokenizer.specs.declared.tokenizer.Tokenizer.{Tokenizer}
 use Rattle.html_tokenizer.specs.Steps.{IsAt, Took, nothing_owed}
 use Rattle.html_tokenizer.proofs.Glue.{stays-same, no-break, at, now-at, took, state-absorbs, Absorbs}
@@ -25,10 +26,10 @@ module _ {K H : Type 0} (Sink : Ghosts K H) where
 
   -- "&" is taken, and with it a reference may begin.
   pub took_reference : (old : Tokenizer K) (st : State) → IsAt old st → may_hold st ≡ true → Sink.is_sound (Sink.view old.sink)
-      → ((b : ℕ) (s : Sink.State × Notes ℕ) (t : List ℕ) → at Sink st (record old { char_ref = Some [] }) b s t ≡ at Sink st old b s t)
-      → Took Sink old (record old { char_ref = Some [] }) 38 flow.Continue
+      → ((b : ℕ) (s : Sink.State × Notes ℕ) (t : List ℕ) → at Sink st (record old { char_ref = Some (Held []) }) b s t ≡ at Sink st old b s t)
+      → Took Sink old (record old { char_ref = Some (Held []) }) 38 flow.Continue
   took_reference old st from fits ok same =
-      let new = record old { char_ref = Some [] } in
+      let new = record old { char_ref = Some (Held []) } in
       record {
         owed = nothing_owed;
         rises = rises-same Sink.errors old.sink old.sink refl;

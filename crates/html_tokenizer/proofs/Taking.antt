@@ -8,27 +8,28 @@ use Rattle.html_tokens.specs.declared.replies.ProcessResult.{ProcessResult}
 use Rattle.html_tokens.specs.declared.replies.ProcessResult.TheVariants as flow
 use Rattle.html_tokens.specs.declared.sink.TokenSink.{Ghosts}
 use Rattle.html_tokens.specs.Notes.{Notes, noting, noting_error, noting_cdata, noting_end}
-use Rattle.html_tokens.specs.Reading.{line_break}
+use Rattle.html_tokens.specs.Reading.{erred_by, line_break}
 use Rattle.html_tokenizer.specs.Calls.{counted, Passed, Passes, owed_for_text}
+use Rattle.html_tokenizer.specs.declared.held_reference.Ampersand.{Ampersand}
 use Rattle.html_tokenizer.specs.declared.tokenizer.Stream.{Stream}
 use Rattle.html_tokenizer.specs.declared.tokenizer.Tokenizer.{Tokenizer}
-use Rattle.html_tokenizer.specs.Rest.{pending}
+use Rattle.html_tokenizer.specs.Rest.{fault_behind, pending}
 use Rattle.html_tokenizer.specs.Steps.{Owed, now, noted_by, PausesAt, Erred, Errs, Took, Keeps, nothing_owed}
 use Rattle.html_tokenizer.proofs.Glue.{held-other, erred-now, stays-then, fell-behind, fails-along, fails-before}
 use Rattle.html_tokenizer.proofs.Rises.{rises-then}
-use Rattle.html_tokenizer.proofs.HeldRefused.{held-refused}
+use Rattle.html_tokenizer.proofs.HeldRefused.{now-refused}
 use Rattle.html_tokenizer.proofs.Lines.{held-lines, lines-capped}
 use Rattle.html_tokenizer.proofs.Readings.{sum-zero}
-use Rattle.html_tokenizer.proofs.Refused.{noting-refused, noting-errs, every-fails}
+use Rattle.html_tokenizer.proofs.Refused.{every-fails}
 
 module _ {K H : Type 0} (Sink : Ghosts K H) where
   -- The machine with what it held is the machine.
-  pub advanced : (old new : Tokenizer K) (r : Option (List ℕ)) (c : ℕ) (result : Result (ProcessResult H) ParseFault) → r ≡ old.char_ref → Keeps Sink (record old { char_ref = r }) new c result → Keeps Sink old new c result
+  pub advanced : (old new : Tokenizer K) (r : Option Ampersand) (c : ℕ) (result : Result (ProcessResult H) ParseFault) → r ≡ old.char_ref → Keeps Sink (record old { char_ref = r }) new c result → Keeps Sink old new c result
   advanced old new r c result e h = rw e at h
 
   counted-by : (k : Tokenizer K) (b : ℕ) (s : Sink.State × Notes ℕ) (t : List ℕ) (breaks : Bool)
       → now Sink k (b + line_break breaks) s t ≡ now Sink k (if breaks then min (b + 1) 0xffff_ffff_ffff_ffff else b) s t
-  counted-by k b s t true = held-lines (noting Sink.step Sink.is_quiet) noting_error (noting_cdata Sink.asks_cdata) (noting_end Sink.ended) k.state k (b + 1) (min (b + 1) 0xffff_ffff_ffff_ffff) s (pending k.char_ref ++ t) (lines-capped (b + 1))
+  counted-by k b s t true = held-lines (noting Sink.step Sink.is_quiet) noting_error (noting_cdata Sink.asks_cdata) (noting_end Sink.ended) k.state k (b + 1) (min (b + 1) 0xffff_ffff_ffff_ffff) (erred_by noting_error (fault_behind k.char_ref) s) (pending k.char_ref ++ t) (lines-capped (b + 1))
   counted-by k b s t false = ap (λ n. now Sink k n s t) (sum-zero b)
 
   -- a pause is where it was, whatever is known of the input
@@ -45,7 +46,7 @@ module _ {K H : Type 0} (Sink : Ghosts K H) where
       let new : Tokenizer K = record mid { stream = record mid.stream { breaks = counted mid.stream.breaks c } } in
       h.same notes t
       ∙ counted-by mid old.stream.breaks (Sink.view mid.sink, noted_by Sink.number h.owed notes result) t (nat_eq c 10)
-      ∙ sym (held-other (noting Sink.step Sink.is_quiet) noting_error (noting_cdata Sink.asks_cdata) (noting_end Sink.ended) mid.state mid mid.sink new.stream (counted old.stream.breaks c) (Sink.view mid.sink, noted_by Sink.number h.owed notes result) (pending mid.char_ref ++ t) refl)
+      ∙ sym (held-other (noting Sink.step Sink.is_quiet) noting_error (noting_cdata Sink.asks_cdata) (noting_end Sink.ended) mid.state mid mid.sink new.stream (counted old.stream.breaks c) (erred_by noting_error (fault_behind mid.char_ref) (Sink.view mid.sink, noted_by Sink.number h.owed notes result)) (pending mid.char_ref ++ t) refl)
       ∙ ap (λ x. now Sink new (counted x.breaks c) (Sink.view mid.sink, noted_by Sink.number h.owed notes result) t) (sym h.stream)
 
   -- what is to come is so too where an error of the character was told
@@ -84,6 +85,5 @@ module _ {K H : Type 0} (Sink : Ghosts K H) where
         fails.0,
         λ notes t.
             every-fails Sink old.sink mid.sink (Sink.view old.sink) fault (now Sink old old.stream.breaks (Sink.view old.sink, notes) (c ∷ t)) fails.1
-            (λ h. held-refused (noting Sink.step Sink.is_quiet) noting_error (noting_cdata Sink.asks_cdata) (noting_end Sink.ended) (noting-errs Sink) old.state old old.stream.breaks (Sink.view old.sink, notes) (pending old.char_ref ++ c ∷ t)
-            (noting-refused Sink (Sink.view old.sink) notes h)),
+            (λ h. now-refused Sink old old.stream.breaks notes (c ∷ t) h),
       )

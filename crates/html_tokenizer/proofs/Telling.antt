@@ -9,11 +9,12 @@ use Rattle.html_tokens.specs.declared.states.State.{State}
 use Rattle.html_tokens.specs.declared.token.Token.{Token}
 use Rattle.html_tokens.specs.declared.sink.TokenSink.{Ghosts}
 use Rattle.html_tokens.specs.Notes.{Notes, noting, noting_error, noting_cdata, noting_end}
-use Rattle.html_tokens.specs.Reading.{line_break, line_number}
+use Rattle.html_tokens.specs.Reading.{erred_by, line_break, line_number}
 use Rattle.html_tokens.specs.Sink.{Refusal}
 use Rattle.html_tokenizer.specs.CharRefs.{fits_in, may_hold}
+use Rattle.html_tokenizer.specs.declared.held_reference.Ampersand.TheVariants.{Held}
 use Rattle.html_tokenizer.specs.declared.tokenizer.Tokenizer.{Tokenizer}
-use Rattle.html_tokenizer.specs.Rest.{pending, held_at, rows_of}
+use Rattle.html_tokenizer.specs.Rest.{fault_behind, pending, held_at, rows_of}
 use Rattle.html_tokenizer.specs.Steps.{Owed, IsAt, more, Falls, Told, TakesAs, Took, Keeps, now, nothing_owed}
 use Rattle.html_tokenizer.proofs.Rises.{rises-same}
 use Rattle.html_tokenizer.proofs.Glue.{at, now-at, Says, took_told, keeps_told, token-fails, stays-same, no-break}
@@ -76,11 +77,11 @@ module _ {K H : Type 0} (Sink : Ghosts K H) where
       rw (p.1, p.2) (not-told owed old new c st token fault next from ok (fails-from old target new token fault same stream fails) law)
 
   -- what is to come where a reference has begun
-  begun : (k : Tokenizer K) (st : State) (b : ℕ) (s : Sink.State × Notes ℕ) (t : List ℕ) → k.state ≡ st → k.char_ref ≡ Some [] → now Sink k b s t ≡ at Sink st k b s (38 ∷ t)
-  begun k st b s t e f = ap (λ r. held_at (noting Sink.step Sink.is_quiet) noting_error (noting_cdata Sink.asks_cdata) (noting_end Sink.ended) k.state k b s (pending r ++ t)) f ∙ ap (λ x. held_at (noting Sink.step Sink.is_quiet) noting_error (noting_cdata Sink.asks_cdata) (noting_end Sink.ended) x k b s (38 ∷ t)) e
+  begun : (k : Tokenizer K) (st : State) (b : ℕ) (s : Sink.State × Notes ℕ) (t : List ℕ) → k.state ≡ st → k.char_ref ≡ Some (Held []) → now Sink k b s t ≡ at Sink st k b s (38 ∷ t)
+  begun k st b s t e f = ap (λ r. held_at (noting Sink.step Sink.is_quiet) noting_error (noting_cdata Sink.asks_cdata) (noting_end Sink.ended) k.state k b (erred_by noting_error (fault_behind r) s) (pending r ++ t)) f ∙ ap (λ x. held_at (noting Sink.step Sink.is_quiet) noting_error (noting_cdata Sink.asks_cdata) (noting_end Sink.ended) x k b s (38 ∷ t)) e
 
   -- A reference begins.
-  pub took_reference : (old new : Tokenizer K) (c : ℕ) (st : State) → IsAt old st → may_hold st ≡ true → nat_eq c 10 ≡ false → new.state ≡ st → new.char_ref ≡ Some [] → new.stream ≡ old.stream → new.sink ≡ old.sink → Sink.is_sound (Sink.view old.sink)
+  pub took_reference : (old new : Tokenizer K) (c : ℕ) (st : State) → IsAt old st → may_hold st ≡ true → nat_eq c 10 ≡ false → new.state ≡ st → new.char_ref ≡ Some (Held []) → new.stream ≡ old.stream → new.sink ≡ old.sink → Sink.is_sound (Sink.view old.sink)
       → ((b : ℕ) (s : Sink.State × Notes ℕ) (t : List ℕ) → at Sink st old b s (c ∷ t) ≡ at Sink st new b s (38 ∷ t))
       → Took Sink old new c flow.Continue
   took_reference old new c st from fits unbroken state held stream same ok law = record {

@@ -12,6 +12,7 @@ use Rattle.html_tokens.specs.Notes.{noting, noting_error, noting_cdata, noting_e
 use Rattle.html_tokens.specs.Item.{Grave, grave_if, InData, InPlaintext}
 use Rattle.html_tokens.specs.Reading.{line_number, line_break}
 use Rattle.html_tokens.specs.Sink.{SinkLaws}
+use Rattle.html_tokenizer.specs.declared.held_reference.Ampersand.TheVariants.{Held}
 use Rattle.html_tokenizer.specs.declared.tokenizer.Tokenizer.{Tokenizer}
 use Rattle.html_tokenizer.specs.Rest.{rows_of, standing, held_at}
 use Rattle.html_tokenizer.specs.Steps.{IsAt, TakesAs, Took, Keeps, nothing_owed, a_fault, owed_for, reads}
@@ -32,7 +33,7 @@ module _ {K H : Type 0} (Sink : Ghosts K H) (laws : SinkLaws Sink.is_sound Sink.
   pub plaintext-kept : (old new : Tokenizer K) (c : ℕ) (result : Result (ProcessResult H) ParseFault) → IsAt old state.Plaintext → Sink.is_sound (Sink.view old.sink) → TakesAs Sink (owed_for (grave_if (nat_eq c 0))) (CharacterTokens (shown c ∷ [])) old new result → Keeps Sink old new c result
   plaintext-kept old new c result from ok told = keeps_taken Sink (owed_for (grave_if (nat_eq c 0))) old old new c state.Plaintext state.Plaintext (CharacterTokens (shown c ∷ [])) result from from refl refl ok told (plaintext-says old c)
 
-  data-char : (old : Tokenizer K) (c : ℕ) → nat_eq c 60 ≡ false → nat_eq c 38 ≡ false → nat_eq c 0 ≡ false → Says Sink state.Data old c nothing_owed (CharacterTokens (c ∷ [])) (λ b s t. at Sink state.Data old (b + line_break (nat_eq c 10)) s t)
+  pub data-char : (old : Tokenizer K) (c : ℕ) → nat_eq c 60 ≡ false → nat_eq c 38 ≡ false → nat_eq c 0 ≡ false → Says Sink state.Data old c nothing_owed (CharacterTokens (c ∷ [])) (λ b s t. at Sink state.Data old (b + line_break (nat_eq c 10)) s t)
   unfolding held_at
   data-char old c f g z b s h t =
       let plain = standing old InData in
@@ -58,6 +59,6 @@ module _ {K H : Type 0} (Sink : Ghosts K H) (laws : SinkLaws Sink.is_sound Sink.
   data-opened old c from ok e = rw e (took Sink old (record old { state = state.TagOpen }) 60 state.Data state.TagOpen from (record { state = refl; fresh = from.fresh }) refl refl ok (λ b s t. ap (λ n. reads Sink (rows_of old) (standing old InData) n s (60 ∷ t)) (sym (sum-zero b))))
 
   -- "&" was taken, which is held
-  pub data-reference : (old : Tokenizer K) (c : ℕ) (begun : List ℕ) → IsAt old state.Data → Sink.is_sound (Sink.view old.sink) → c ≡ 38 → begun ≡ [] → Took Sink old (record old { char_ref = Some begun }) c flow.Continue
+  pub data-reference : (old : Tokenizer K) (c : ℕ) (begun : List ℕ) → IsAt old state.Data → Sink.is_sound (Sink.view old.sink) → c ≡ 38 → begun ≡ [] → Took Sink old (record old { char_ref = Some (Held begun) }) c flow.Continue
   unfolding held_at
-  data-reference old c begun from ok e is = rw (e, is) (took_reference Sink old (record old { char_ref = Some [] }) 38 state.Data from refl refl from.state refl refl refl ok (λ b s t. refl))
+  data-reference old c begun from ok e is = rw (e, is) (took_reference Sink old (record old { char_ref = Some (Held []) }) 38 state.Data from refl refl from.state refl refl refl ok (λ b s t. refl))

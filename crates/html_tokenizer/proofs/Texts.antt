@@ -9,9 +9,11 @@ use Rattle.html_tokens.specs.Notes.{NotedStep, noting, noting_error, noting_cdat
 use Rattle.html_tokens.specs.Reading.{first_place, reading}
 use Rattle.html_tokens.specs.TextState.{is_text_state}
 use Rattle.html_tokenizer.specs.Calls.{IsNew, ReadsAt}
+use Rattle.html_tokenizer.specs.declared.held_reference.Ampersand.{Ampersand}
 use Rattle.html_tokenizer.specs.declared.tokenizer.Tokenizer.{Tokenizer}
-use Rattle.html_tokenizer.specs.Rest.{rows_of, standing, coming, pending, held_at}
+use Rattle.html_tokenizer.specs.Rest.{rows_of, standing, coming, held_at}
 use Rattle.html_tokens.specs.Item.{Fault}
+use Rattle.html_tokenizer.proofs.Glue.{now-at}
 
 module _ {K T : Type 0} (step : NotedStep T) (erred : Fault → T → T) (cdata : T → Bool) (ends : T → T) where
   text-reads : (st : State) (k : Tokenizer K) (b : ℕ) (s : T) (t : List ℕ) → is_text_state st ≡ true → held_at step erred cdata ends st k b s t ≡ reading step erred cdata ends (rows_of k) (standing k (first_place (Some st))) b s t
@@ -21,14 +23,14 @@ module _ {K T : Type 0} (step : NotedStep T) (erred : Fault → T → T) (cdata 
   text-reads (state.RawData kind) k b s t h = refl
   text-reads _ k b s t h = absurd cc
 
-none-held : (r : Option (List ℕ)) → is_none r ≡ true → pending r ≡ []
-none-held None h = refl
-none-held (Some cs) h = absurd cc
+is-fresh : (r : Option Ampersand) → is_none r ≡ true → r ≡ None
+is-fresh None h = refl
+is-fresh (Some behind) h = absurd cc
 
 module _ {K H : Type 0} (Sink : Ghosts K H) where
   pub reads-text : (k : Tokenizer K) → is_none k.char_ref ≡ true → is_text_state k.state ≡ true → ReadsAt Sink (first_place (Some k.state)) k
   reads-text k none text = λ notes t.
-      ap (λ u. held_at (noting Sink.step Sink.is_quiet) noting_error (noting_cdata Sink.asks_cdata) (noting_end Sink.ended) k.state k k.stream.breaks (Sink.view k.sink, notes) (u ++ coming k t)) (none-held k.char_ref none)
+      now-at Sink k k.state k.stream.breaks (Sink.view k.sink, notes) (coming k t) (record { state = refl; fresh = is-fresh k.char_ref none })
       ∙ text-reads (noting Sink.step Sink.is_quiet) noting_error (noting_cdata Sink.asks_cdata) (noting_end Sink.ended) k.state k k.stream.breaks (Sink.view k.sink, notes) (coming k t) text
 
   -- the same of a new tokenizer, from where its options have it

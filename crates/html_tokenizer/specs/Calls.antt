@@ -23,6 +23,8 @@ use Rattle.html_tokens.specs.Reading.{◌>>=◌, line_number, first_place, first
 use Rattle.html_tokens.specs.Sink.{Reply, Refusal}
 use Rattle.html_tokenizer.specs.CharRefs.{BeginsReference, fits_in}
 use Rattle.html_tokenizer.specs.Forbidden.{is_forbidden}
+use Rattle.html_tokenizer.specs.declared.held_reference.Ampersand.{Ampersand}
+use Rattle.html_tokenizer.specs.declared.held_reference.Ampersand.TheVariants.{Held, Unknown}
 use Rattle.html_tokenizer.specs.declared.tokenizer.Stream.{Stream}
 use Rattle.html_tokenizer.specs.declared.tokenizer.Tokenizer.{Tokenizer}
 use Rattle.html_tokenizer.specs.declared.piece.Piece.{Piece}
@@ -103,9 +105,10 @@ is_value (state.AttributeValue kind) = true
 is_value _ = false
 
 -- what is held of a reference, if something is, begins one
-abbrev pub HeldIn : List Row → State → Option (List ℕ) → Type 0
+abbrev pub HeldIn : List Row → State → Option Ampersand → Type 0
 HeldIn rows st None = Unit {0}
-HeldIn rows st (Some cs) = BeginsReference (is_value st) rows cs
+HeldIn rows st (Some (Held cs)) = BeginsReference (is_value st) rows cs
+HeldIn rows st (Some Unknown) = Unit {0}
 
 -- the letters that are held behind "</" in raw text, if they are, begin the name of the end tag that ends it
 abbrev pub EndHeldIn : State → FittingEnd → Type 0

@@ -1,5 +1,5 @@
 -- What a tokenizer holds of a character reference, and what it makes of it (HTML Standard, sections 13.2.5.72 to 13.2.5.80).
-use Rattle.std.specs.Prelude.{◌≡◌, ℕ, Bool, true, false, ◌&&◌, ◌||◌, not, nat_eq, List, [], ◌∷◌, ◌++◌, ◌≤◌, length, take, drop, Option, Some, None, if◌then◌else◌}
+use Rattle.std.specs.Prelude.{◌≡◌, ℕ, Bool, true, false, ◌&&◌, ◌||◌, not, nat_eq, is_none, List, [], ◌∷◌, ◌++◌, ◌≤◌, length, take, drop, Option, Some, None, if◌then◌else◌}
 use Rattle.std.specs.Char.{is_ascii_alphanumeric, is_ascii_digit, is_ascii_hexdigit}
 use Rattle.std.specs.List.{ends_with, list_all}
 use Rattle.std.specs.Option.{is_some}
@@ -11,16 +11,11 @@ use Rattle.html_tokens.specs.Reference.{Reference, goes_on_at, is_no_character, 
 use Rattle.html_tokens.specs.Table.{Row, longest, values_of}
 use Rattle.html_references.specs.References.{IsCheckedTable, is_front}
 use Rattle.html_tokenizer.specs.Forbidden.{is_forbidden}
+pub use Rattle.html_tokenizer.specs.HeldChars.{is_held, is_named_with}
+use Rattle.html_tokenizer.specs.declared.held_reference.Ampersand.{Ampersand}
+use Rattle.html_tokenizer.specs.declared.held_reference.Ampersand.TheVariants.{Held, Unknown}
 use Rattle.html_tokenizer.specs.declared.numbers.Found.{Found}
 use Rattle.html_tokenizer.specs.declared.numbers.ReferenceFaults.{ReferenceFaults}
-
--- what names and digits are written with: letters, digits and ";"
-abbrev pub is_named_with : ℕ → Bool
-is_named_with c = is_ascii_alphanumeric c || nat_eq c 59
-
--- what stands behind the "&" of a reference: the same, and "#"
-abbrev pub is_held : ℕ → Bool
-is_held c = is_named_with c || nat_eq c 35
 
 -- where the digits of a number in base 16, or else 10, end
 abbrev pub stops : Bool → ℕ → Bool
@@ -119,9 +114,9 @@ is_faulty_numeric (c ∷ t) = is_faulty_numeric_by (nat_eq c 120 || nat_eq c 88)
 abbrev pub ends_in_semicolon : List ℕ → Bool
 ends_in_semicolon cs = ends_with nat_eq cs (59 ∷ [])
 
--- the same of a named one: an unknown name that ";" ends, or a name without ";" that is no text
+-- the same of a named one: a name without ";" that is no text
 abbrev pub is_faulty_named : Bool → Option Row → List ℕ → Bool → Bool
-is_faulty_named in_value None cs follows = not (nat_eq (length cs) 1) && ends_in_semicolon cs
+is_faulty_named in_value None cs follows = false
 is_faulty_named in_value (Some row) cs follows = not (in_value && is_text_before row.name (drop (length row.name) cs) follows) && not (ends_in_semicolon row.name)
 
 abbrev pub is_faulty_by : Bool → Bool → List Row → ℕ → List ℕ → Bool → Bool
@@ -132,6 +127,11 @@ is_faulty_by false in_value rows h hs follows = is_faulty_named in_value (longes
 abbrev pub is_faulty : Bool → List Row → List ℕ → Bool → Bool
 is_faulty in_value rows [] follows = false
 is_faulty in_value rows (h ∷ hs) follows = is_faulty_by (nat_eq h 35) in_value rows h hs follows
+
+-- whether what was held, or else c behind it, is or begins a name, and no name of the table stands there
+abbrev pub is_unknown : List Row → List ℕ → ℕ → Bool
+is_unknown rows [] c = is_ascii_alphanumeric c
+is_unknown rows (h ∷ hs) c = not (nat_eq h 35) && is_none (longest rows (h ∷ hs))
 
 -- whether a reference has an error: no ";" ends it, or what it names is faulty
 abbrev pub has_fault : ReferenceFaults → Bool
@@ -158,7 +158,8 @@ pub record BeginsReference (in_value : Bool) (rows : List Row) (cs : List ℕ) :
   pub is : reference_at in_value rows (cs ++ more) ≡ Some reference
   pub whole : length cs ≤ reference.len
 
--- whether a reference is held in one of them, of which more may follow, if one is held
-abbrev pub fits_in : List Row → Option (List ℕ) → State → Bool
+-- whether a reference is held in one of them, of which more may follow, or an unknown name stands there, if one of the two is so
+abbrev pub fits_in : List Row → Option Ampersand → State → Bool
 fits_in rows None st = true
-fits_in rows (Some cs) st = is_held_front rows cs && may_hold st
+fits_in rows (Some (Held cs)) st = is_held_front rows cs && may_hold st
+fits_in rows (Some Unknown) st = may_hold st

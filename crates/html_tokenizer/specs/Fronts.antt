@@ -13,6 +13,7 @@ use Rattle.html_tokens.specs.declared.tags.TagKind.TheVariants.{StartTag, EndTag
 use Rattle.html_tokens.specs.Tags.{named, with_attribute}
 use Rattle.html_tokenizer.specs.Calls.{TookRun}
 use Rattle.html_tokenizer.specs.CharRefs.{is_held, is_held_front}
+use Rattle.html_tokenizer.specs.declared.held_reference.Ampersand.TheVariants.{Held}
 use Rattle.html_tokenizer.specs.declared.tokenizer.Tokenizer.{Tokenizer}
 use Rattle.html_tokenizer.specs.Quotes.{quote_of}
 use Rattle.html_tokenizer.specs.Rest.{rows_of}
@@ -102,7 +103,7 @@ pub record IsReferenceAt (name rest text : List ℕ) : Type 0 where
 
 -- some name of the table begins with these characters, and they are held; or none does, and nothing changed
 abbrev pub HoldsName : {K : Type 0} → Bool → Tokenizer K → Tokenizer K → List ℕ → Type 0
-HoldsName true old new cs = (new ≡ record old { char_ref = Some cs }) × (is_held_front (rows_of old) cs ≡ true) × (list_all is_held cs ≡ true)
+HoldsName true old new cs = (new ≡ record old { char_ref = Some (Held cs) }) × (is_held_front (rows_of old) cs ≡ true) × (list_all is_held cs ≡ true)
 HoldsName false old new cs = new ≡ old
 
 -- the machine in a tag of this name

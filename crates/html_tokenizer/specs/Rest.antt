@@ -12,23 +12,32 @@ use Rattle.html_tokens.specs.declared.states.State.TheVariants as state
 use Rattle.html_tokens.specs.declared.token.Doctype.{Doctype}
 use Rattle.html_tokens.specs.Comments.{comment_at, comment_after, bogus_comment_after}
 use Rattle.html_tokens.specs.Doctypes.{doctype_at, doctype_behind, doctype_name_after, after_name, after_public_keyword, after_system_keyword, public_after, system_after, after_public, after_system, junk_after}
-use Rattle.html_tokens.specs.Item.{Fault, slight_if, Place, InData, InRaw, InPlaintext, InCdata, InTag, Stand, Item}
+use Rattle.html_tokens.specs.Item.{Fault, Slight, slight_if, Place, InData, InRaw, InPlaintext, InCdata, InTag, Stand, Item}
 use Rattle.html_tokens.specs.NormalText.{newlines_behind, without_mark}
 use Rattle.html_tokens.specs.RawText.{kind_behind}
 use Rattle.html_tokens.specs.Reading.{erred_by, reading, play}
 use Rattle.html_tokens.specs.Sink.{Refusal}
 use Rattle.html_tokens.specs.Table.{Row}
 use Rattle.html_tokens.specs.Tags.{name_after, attribute_after, equals_at, value_at, unquoted_after, quoted_after, lacks_space}
+use Rattle.html_tokenizer.specs.declared.held_reference.Ampersand.{Ampersand}
+use Rattle.html_tokenizer.specs.declared.held_reference.Ampersand.TheVariants.{Held, Unknown}
 use Rattle.html_tokenizer.specs.declared.tokenizer.Tokenizer.{Tokenizer}
 
 -- the rows of the table of references
 abbrev pub rows_of : {K : Type 0} → Tokenizer K → List Row
 rows_of k = k.stream.table
 
--- what is held of a reference that may go on, with its "&"
-abbrev pub pending : Option (List ℕ) → List ℕ
+-- what is held of a reference that may go on, with its "&"; of an unknown name nothing is
+abbrev pub pending : Option Ampersand → List ℕ
 pending None = []
-pending (Some cs) = 38 ∷ cs
+pending (Some (Held cs)) = 38 ∷ cs
+pending (Some Unknown) = []
+
+-- what was wrong with what was told: an unknown name stands behind "&"
+abbrev pub fault_behind : Option Ampersand → Option Fault
+fault_behind None = None
+fault_behind (Some (Held cs)) = None
+fault_behind (Some Unknown) = Some Slight
 
 -- where a reading stands at this place
 abbrev pub standing : {K : Type 0} → Tokenizer K → Place → Stand
@@ -121,9 +130,9 @@ module _ {K T : Type 0} (step : NotedStep T) (erred : Fault → T → T) (cdata 
   held_at state.CdataSectionBracket k b s t = read_at InCdata k b s (93 ∷ t)
   held_at state.CdataSectionEnd k b s t = read_at InCdata k b s (93 ∷ 93 ∷ t)
 
-  -- the same where the machine is, with the reference that is held
+  -- the same where the machine is, with the reference that is held, or behind an unknown name
   abbrev pub held : Tokenizer K → ℕ → T → List ℕ → Result T (Refusal × ℕ)
-  held k b s t = held_at k.state k b s (pending k.char_ref ++ t)
+  held k b s t = held_at k.state k b (erred_by erred (fault_behind k.char_ref) s) (pending k.char_ref ++ t)
 
   -- what a further text of the input makes of the sink
   abbrev pub rest : Tokenizer K → T → List ℕ → Result T (Refusal × ℕ)

@@ -8,6 +8,7 @@ use Rattle.html_tokens.specs.declared.states.RawKind.{RawKind}
 use Rattle.html_tokens.specs.declared.states.RawKind.TheVariants as raw
 use Rattle.html_tokens.specs.declared.states.State.{State}
 use Rattle.html_tokens.specs.declared.states.State.TheVariants as state
+use Rattle.html_tokenizer.specs.declared.held_reference.Ampersand.{Ampersand}
 use Rattle.html_tokenizer.specs.declared.tokenizer.Tokenizer.{Tokenizer}
 
 -- the bits of these characters, of which none stands twice
@@ -55,8 +56,8 @@ state_stops state.BogusComment = Some (with_breaks (62 ∷ []))
 state_stops state.Comment = Some (with_breaks (45 ∷ []))
 state_stops _ = None
 
--- the same where errors of single characters are not told, and no reference is held
-abbrev pub stops_of : Bool → Option (List ℕ) → State → Option SmallCharSet
+-- the same where errors of single characters are not told, and nothing is awaited behind "&"
+abbrev pub stops_of : Bool → Option Ampersand → State → Option SmallCharSet
 stops_of true char_ref st = None
 stops_of false None st = state_stops st
 stops_of false (Some held) st = None

@@ -13,7 +13,7 @@ ghost use Rattle.html_tokenizer.specs.Stops.{IsRunAt};
 
 use crate::characters::{ends_tag_name, ends_word, is_white_space, lowered, shown};
 use crate::error_code::ErrorCode;
-use crate::held_reference::HeldReference;
+use crate::held_reference::{Ampersand, HeldReference};
 use crate::tokenizer::Tokenizer;
 use html_tokens::ProcessResult;
 use html_tokens::sink::TokenSink;
@@ -266,7 +266,7 @@ impl<Sink: TokenSink> Tokenizer<Sink> {
             return self.before_attribute_name_state(c);
         }
         if c == '&' {
-            self.char_ref = Some(HeldReference::new(self.stream.alloc));
+            self.char_ref = Some(Ampersand::Held(HeldReference::new(self.stream.alloc)));
             return Ok(ProcessResult::Continue);
         }
         self.attribute_value.push(shown(c))?;
@@ -346,7 +346,7 @@ impl<Sink: TokenSink> Tokenizer<Sink> {
             return Ok(ProcessResult::Continue);
         }
         if c == '&' {
-            self.char_ref = Some(HeldReference::new(self.stream.alloc));
+            self.char_ref = Some(Ampersand::Held(HeldReference::new(self.stream.alloc)));
             return Ok(ProcessResult::Continue);
         }
         self.attribute_value.push(shown(c))?;

@@ -6,12 +6,13 @@ ghost use Rattle.html_tokens.specs.declared.states.State.TheVariants as state;
 ghost use Rattle.html_tokenizer.specs.Calls.{Closes};
 ghost use Rattle.html_tokenizer.specs.Rest.{rows_of};
 ghost use Rattle.html_tokenizer.specs.CharRefs.{fits_in, is_held, may_hold};
+ghost use Rattle.html_tokenizer.specs.declared.held_reference.Ampersand.TheVariants.{Held, Unknown};
 ghost use Rattle.html_tokenizer.specs.EndText.{is_told_text, is_tag_part, is_escaped};
 ghost use Rattle.html_tokenizer.specs.Steps.{IsAt, Errs, owed_for};
 ghost use Rattle.html_tokens.specs.Item.{grave_if};
 
 use crate::error_code::ErrorCode;
-use crate::held_reference::HeldReference;
+use crate::held_reference::{Ampersand, HeldReference};
 use crate::raw_states::ends_at_tag;
 use crate::tokenizer::Tokenizer;
 use html_tokens::sink::TokenSink;
@@ -210,7 +211,7 @@ impl<Sink: TokenSink> Tokenizer<Sink> {
         requires at { IsAt self.old state.Data }
         requires held { list_all is_held held.now ≡ true }
         requires sound { Sink.is_sound (Sink.view self.old.sink) }
-        ensures { Closes Sink.TokenSink (record self.old { char_ref = Some held.now }) self.new result }
+        ensures { Closes Sink.TokenSink (record self.old { char_ref = Some (Held held.now) }) self.new result }
     {
         self.tell_reference(held)
     }
@@ -220,7 +221,7 @@ impl<Sink: TokenSink> Tokenizer<Sink> {
         requires at { IsAt self.old (state.RawData raw.Rcdata) }
         requires held { list_all is_held held.now ≡ true }
         requires sound { Sink.is_sound (Sink.view self.old.sink) }
-        ensures { Closes Sink.TokenSink (record self.old { char_ref = Some held.now }) self.new result }
+        ensures { Closes Sink.TokenSink (record self.old { char_ref = Some (Held held.now) }) self.new result }
     {
         self.tell_reference(held)
     }
@@ -234,7 +235,7 @@ impl<Sink: TokenSink> Tokenizer<Sink> {
         requires at { IsAt self.old (state.AttributeValue kind) }
         requires held { list_all is_held held.now ≡ true }
         requires sound { Sink.is_sound (Sink.view self.old.sink) }
-        ensures { Closes Sink.TokenSink (record self.old { char_ref = Some held.now }) self.new result }
+        ensures { Closes Sink.TokenSink (record self.old { char_ref = Some (Held held.now) }) self.new result }
     {
         self.tell_error(ErrorCode::EofInTag)
     }
@@ -245,7 +246,7 @@ impl<Sink: TokenSink> Tokenizer<Sink> {
         requires fits { may_hold self.old.state ≡ true }
         requires held { list_all is_held held.now ≡ true }
         requires sound { Sink.is_sound (Sink.view self.old.sink) }
-        ensures { Closes Sink.TokenSink (record self.old { char_ref = Some held.now }) self.new result }
+        ensures { Closes Sink.TokenSink (record self.old { char_ref = Some (Held held.now) }) self.new result }
     {
         match self.state {
             State::Data => self.end_data_reference(held),
@@ -255,6 +256,16 @@ impl<Sink: TokenSink> Tokenizer<Sink> {
         }
     }
 
+    /// The input ends behind an unknown name, of which nothing is held.
+    fn end_unknown(&mut self) -> Result<(), ParseFault>
+        requires fresh { self.old.char_ref ≡ None }
+        requires fits { may_hold self.old.state ≡ true }
+        requires sound { Sink.is_sound (Sink.view self.old.sink) }
+        ensures { Closes Sink.TokenSink (record self.old { char_ref = Some Unknown }) self.new result }
+    {
+        self.end_state()
+    }
+
     /// Hands out what is held where the input ends.
     pub(crate) fn tell_held(&mut self) -> Result<(), ParseFault>
         requires fits { fits_in (rows_of self.old) self.old.char_ref self.old.state ≡ true }
@@ -262,7 +273,8 @@ impl<Sink: TokenSink> Tokenizer<Sink> {
         ensures { Closes Sink.TokenSink self.old self.new result }
     {
         match self.char_ref.take() {
-            Some(held) => self.end_reference(&held),
+            Some(Ampersand::Held(held)) => self.end_reference(&held),
+            Some(Ampersand::Unknown) => self.end_unknown(),
             None => self.end_state(),
         }
     }

@@ -6,7 +6,7 @@ ghost use Rattle.html_tokenizer.specs.Fronts;
 ghost use Rattle.html_tokenizer.specs.Fronts.{HoldsName, IsReferenceAt};
 
 use crate::front_tags::behind;
-use crate::held_reference::HeldReference;
+use crate::held_reference::{Ampersand, HeldReference};
 use crate::text_runs::BREAKS;
 use crate::tokenizer::Tokenizer;
 use html_queue::SmallCharSet;
@@ -49,7 +49,7 @@ impl<Sink: TokenSink> Tokenizer<Sink> {
         if !self.stream.table.is_front(text.as_str()) {
             return Ok(false);
         }
-        self.char_ref = Some(HeldReference::of_name(text));
+        self.char_ref = Some(Ampersand::Held(HeldReference::of_name(text)));
         Ok(true)
     }
 }

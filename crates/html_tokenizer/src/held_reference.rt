@@ -1,9 +1,9 @@
-//! What is held of a character reference.
+//! What is known behind an `&`: what is held of a character reference, or that an unknown name stands there.
 ghost use Rattle.std.specs.Prelude.{◌≡◌, ◌≤◌, ◌∷◌, [], ◌++◌, true, IfErr, OnOk, drop, length};
 ghost use Rattle.std.specs.List.{list_all};
 ghost use Rattle.std.specs.Str.{chars};
 ghost use Rattle.markup.specs.declared.fault.ParseFault.TheVariants.{Memory};
-ghost use Rattle.html_tokenizer.specs.CharRefs.{is_held};
+ghost use Rattle.html_tokenizer.specs.HeldChars.{is_held};
 
 use markup::{ParseFault, Text};
 use std::alloc::Global;
@@ -18,13 +18,22 @@ pub struct HeldReference {
 impl Model for HeldReference {
     ghost use Rattle.std.specs.Prelude.{List, ℕ, ◌≡◌, true};
     ghost use Rattle.std.specs.List.{list_all};
-    ghost use Rattle.html_tokenizer.specs.CharRefs.{is_held};
+    ghost use Rattle.html_tokenizer.specs.HeldChars.{is_held};
 
     ghost Value = { List ℕ };
 
     ghost view = { λ h. h.text };
 
     ghost invariant = { λ h. list_all is_held h.text ≡ true };
+}
+
+/// What stands behind an `&`.
+#[derive(Drop)]
+pub enum Ampersand {
+    /// What is held of a reference that may go on.
+    Held(HeldReference),
+    /// A name that is in no table, of which nothing is held. It goes on with letters and digits, and `;` behind it is an error.
+    Unknown,
 }
 
 impl HeldReference {

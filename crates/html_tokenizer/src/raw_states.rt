@@ -10,7 +10,7 @@ ghost use Rattle.html_tokens.specs.RawText.{ends_at_tag, has_references};
 ghost use Rattle.html_tokenizer.specs.Steps.{IsAt, Tells, Keeps, nothing_owed};
 ghost use Rattle.html_tokenizer.specs.Words.{ends_raw_text, may_escape};
 
-use crate::held_reference::HeldReference;
+use crate::held_reference::{Ampersand, HeldReference};
 use crate::letters::Letters;
 use crate::tokenizer::Tokenizer;
 use html_tokens::sink::TokenSink;
@@ -82,7 +82,7 @@ impl<Sink: TokenSink> Tokenizer<Sink> {
         ensures { Keeps Sink.TokenSink self.old self.new 38 result }
     {
         if has_references(kind) {
-            self.char_ref = Some(HeldReference::new(self.stream.alloc));
+            self.char_ref = Some(Ampersand::Held(HeldReference::new(self.stream.alloc)));
             Ok(ProcessResult::Continue)
         } else {
             self.take_char('&')

@@ -1,18 +1,20 @@
 //! Character references in text and in attributes' values (HTML Standard, sections 13.2.5.72 to 13.2.5.80).
 ghost use Rattle.std.specs.Prelude.{◌≡◌, Some, None, true, false};
+ghost use Rattle.std.specs.Char.{is_ascii_alphanumeric};
 ghost use Rattle.html_tokens.specs.Reference.{fault_of_reference};
 ghost use Rattle.html_tokens.specs.declared.states.RawKind.TheVariants as raw;
 ghost use Rattle.html_tokens.specs.declared.states.State.TheVariants as state;
 ghost use Rattle.html_tokens.specs.declared.token.Token.TheVariants.{CharacterTokens};
 ghost use Rattle.html_tokenizer.specs.CharRefs.{IsDecided, has_fault, is_held_front, may_hold, resolved};
+ghost use Rattle.html_tokenizer.specs.declared.held_reference.Ampersand.TheVariants.{Held, Unknown};
 ghost use Rattle.html_tokenizer.specs.Rest.{rows_of};
 ghost use Rattle.html_tokenizer.specs.Steps.{IsAt, Keeps, Errs, Tells, owed_for};
 ghost use Rattle.html_tokens.specs.Item.{grave_if};
 
 use crate::error_code::ErrorCode;
-use crate::held_reference::HeldReference;
+use crate::held_reference::{Ampersand, HeldReference};
 use crate::numbers::ReferenceFaults;
-use crate::references::{decided, goes_on_at, may_go_on, push_resolved};
+use crate::references::{decided, goes_on_at, is_unknown, may_go_on, push_resolved};
 use crate::tokenizer::Tokenizer;
 use html_tokens::sink::TokenSink;
 use html_tokens::states::{AttrValueKind, RawKind, State};
@@ -53,9 +55,13 @@ impl<Sink: TokenSink> Tokenizer<Sink> {
         requires at { IsAt self.old state.Data }
         requires decided { IsDecided (rows_of self.old) held.now c }
         requires sound { Sink.is_sound (Sink.view self.old.sink) }
-        ensures { Keeps Sink.TokenSink (record self.old { char_ref = Some held.now }) self.new c result }
+        ensures { Keeps Sink.TokenSink (record self.old { char_ref = Some (Held held.now) }) self.new c result }
     {
+        let unknown = is_unknown(&self.stream.table, held, c);
         self.tell_reference(held)?;
+        if unknown {
+            return self.ambiguous_ampersand_state(c);
+        }
         self.data_state(c)
     }
 
@@ -68,9 +74,13 @@ impl<Sink: TokenSink> Tokenizer<Sink> {
         requires at { IsAt self.old (state.RawData raw.Rcdata) }
         requires decided { IsDecided (rows_of self.old) held.now c }
         requires sound { Sink.is_sound (Sink.view self.old.sink) }
-        ensures { Keeps Sink.TokenSink (record self.old { char_ref = Some held.now }) self.new c result }
+        ensures { Keeps Sink.TokenSink (record self.old { char_ref = Some (Held held.now) }) self.new c result }
     {
+        let unknown = is_unknown(&self.stream.table, held, c);
         self.tell_reference(held)?;
+        if unknown {
+            return self.ambiguous_ampersand_state(c);
+        }
         self.raw_data_state(RawKind::Rcdata, c)
     }
 
@@ -84,12 +94,95 @@ impl<Sink: TokenSink> Tokenizer<Sink> {
         requires at { IsAt self.old (state.AttributeValue kind) }
         requires decided { IsDecided (rows_of self.old) held.now c }
         requires sound { Sink.is_sound (Sink.view self.old.sink) }
-        ensures { Keeps Sink.TokenSink (record self.old { char_ref = Some held.now }) self.new c result }
+        ensures { Keeps Sink.TokenSink (record self.old { char_ref = Some (Held held.now) }) self.new c result }
     {
+        let unknown = is_unknown(&self.stream.table, held, c);
         let decision = decided(&self.stream.table, true, held, goes_on_at(c));
         self.tell_reference_faults(decision.faults)?;
         push_resolved(&mut self.attribute_value, decision.found, held)?;
+        if unknown {
+            return self.ambiguous_ampersand_state(c);
+        }
         self.attribute_value_state(kind, c)
+    }
+
+    /// A letter or digit of an unknown name in data.
+    fn take_unknown_in_data(
+        &mut self,
+        c: char,
+    ) -> Result<ProcessResult<Sink::Handle>, ParseFault>
+        requires at { IsAt self.old state.Data }
+        requires named { is_ascii_alphanumeric c ≡ true }
+        requires sound { Sink.is_sound (Sink.view self.old.sink) }
+        ensures { Keeps Sink.TokenSink (record self.old { char_ref = Some Unknown }) self.new c result }
+    {
+        self.tell_char(c)?;
+        self.char_ref = Some(Ampersand::Unknown);
+        Ok(ProcessResult::Continue)
+    }
+
+    /// The same in text with references that only its end tag ends.
+    fn take_unknown_in_rcdata(
+        &mut self,
+        c: char,
+    ) -> Result<ProcessResult<Sink::Handle>, ParseFault>
+        requires at { IsAt self.old (state.RawData raw.Rcdata) }
+        requires named { is_ascii_alphanumeric c ≡ true }
+        requires sound { Sink.is_sound (Sink.view self.old.sink) }
+        ensures { Keeps Sink.TokenSink (record self.old { char_ref = Some Unknown }) self.new c result }
+    {
+        self.tell_shown(c)?;
+        self.char_ref = Some(Ampersand::Unknown);
+        Ok(ProcessResult::Continue)
+    }
+
+    /// The same in an attribute's value.
+    fn take_unknown_in_value(
+        &mut self,
+        kind: AttrValueKind,
+        c: char,
+    ) -> Result<ProcessResult<Sink::Handle>, ParseFault>
+        requires at { IsAt self.old (state.AttributeValue kind) }
+        requires named { is_ascii_alphanumeric c ≡ true }
+        requires sound { Sink.is_sound (Sink.view self.old.sink) }
+        ensures { Keeps Sink.TokenSink (record self.old { char_ref = Some Unknown }) self.new c result }
+    {
+        self.attribute_value.push(c)?;
+        self.char_ref = Some(Ampersand::Unknown);
+        Ok(ProcessResult::Continue)
+    }
+
+    /// A letter or digit of an unknown name: text, or a part of the value.
+    fn take_unknown(&mut self, c: char) -> Result<ProcessResult<Sink::Handle>, ParseFault>
+        requires fresh { self.old.char_ref ≡ None }
+        requires fits { may_hold self.old.state ≡ true }
+        requires named { is_ascii_alphanumeric c ≡ true }
+        requires sound { Sink.is_sound (Sink.view self.old.sink) }
+        ensures { Keeps Sink.TokenSink (record self.old { char_ref = Some Unknown }) self.new c result }
+    {
+        match self.state {
+            State::Data => self.take_unknown_in_data(c),
+            State::RawData(RawKind::Rcdata) => self.take_unknown_in_rcdata(c),
+            State::AttributeValue(kind) => self.take_unknown_in_value(kind, c),
+            _ => Ok(ProcessResult::Continue),
+        }
+    }
+
+    /// Section 13.2.5.74: behind `&` and an unknown name.
+    pub(crate) fn ambiguous_ampersand_state(
+        &mut self,
+        c: char,
+    ) -> Result<ProcessResult<Sink::Handle>, ParseFault>
+        requires fresh { self.old.char_ref ≡ None }
+        requires fits { may_hold self.old.state ≡ true }
+        requires sound { Sink.is_sound (Sink.view self.old.sink) }
+        ensures { Keeps Sink.TokenSink (record self.old { char_ref = Some Unknown }) self.new c result }
+    {
+        if c.is_ascii_alphanumeric() {
+            return self.take_unknown(c);
+        }
+        self.tell_if(c == ';', ErrorCode::UnknownNamedCharacterReference)?;
+        self.step(c)
     }
 
     /// Goes on with the reference that was held: by one character more of it, or else by what it stands for and then the character.
@@ -102,12 +195,12 @@ impl<Sink: TokenSink> Tokenizer<Sink> {
         requires fits { may_hold self.old.state ≡ true }
         requires front { is_held_front (rows_of self.old) held ≡ true }
         requires sound { Sink.is_sound (Sink.view self.old.sink) }
-        ensures { Keeps Sink.TokenSink (record self.old { char_ref = Some held }) self.new c result }
+        ensures { Keeps Sink.TokenSink (record self.old { char_ref = Some (Held held) }) self.new c result }
     {
         let goes_on = may_go_on(self.stream.alloc, &self.stream.table, &held, c)?;
         if goes_on {
             held.push(c)?;
-            self.char_ref = Some(held);
+            self.char_ref = Some(Ampersand::Held(held));
             return Ok(ProcessResult::Continue);
         }
         match self.state {

@@ -1,5 +1,5 @@
 //! What a reference that was held stands for (HTML Standard, sections 13.2.5.72 to 13.2.5.80).
-ghost use Rattle.std.specs.Prelude.{◌≡◌, ◌≤◌, ◌&&◌, not, nat_eq, ◌∷◌, [], ◌++◌, IfErr, IfOk, IfSome, IsTrue, OnOk, length, true};
+ghost use Rattle.std.specs.Prelude.{◌≡◌, ◌≤◌, ◌&&◌, not, ◌∷◌, [], ◌++◌, IfErr, IfOk, IfSome, IsTrue, OnOk, length, true};
 ghost use Rattle.std.specs.Option.{is_some, option_map};
 ghost use Rattle.std.specs.List.{list_all};
 ghost use Rattle.std.specs.Str.{chars};
@@ -9,7 +9,6 @@ ghost use Rattle.markup.specs.declared.fault.ParseFault.TheVariants.{Memory};
 ghost use Rattle.html_tokenizer.specs.CharRefs;
 ghost use Rattle.html_tokens.specs.Table.{values};
 
-use crate::error_code::ErrorCode;
 use crate::held_reference::HeldReference;
 use crate::numbers::{self, Found, ReferenceFaults};
 use html_references::References;
@@ -136,19 +135,6 @@ const NO_FAULTS: ReferenceFaults = ReferenceFaults {
     fault: None,
 };
 
-/// The errors of a name that is in no table, if it has one: `;` ends it.
-fn unknown_faults(text: &str) -> ReferenceFaults
-    ensures { CharRefs.has_fault result ≡ (not (nat_eq (length text.now) 1) && CharRefs.ends_in_semicolon text.now) }
-{
-    if text.len() != 1 && text.as_bytes().ends_with(b";") {
-        return ReferenceFaults {
-            lacks_semicolon: false,
-            fault: Some(ErrorCode::UnknownNamedCharacterReference),
-        };
-    }
-    NO_FAULTS
-}
-
 /// The errors of a name of the table, if it has one: it has no `;`.
 fn name_faults(name: &str) -> ReferenceFaults
     ensures { CharRefs.has_fault result ≡ not (CharRefs.ends_in_semicolon name.now) }
@@ -169,7 +155,7 @@ fn named(table: &References, in_value: bool, text: &str, follows: bool) -> Decis
     let Some(row) = table.longest(text) else {
         return Decision {
             found: None,
-            faults: unknown_faults(text),
+            faults: NO_FAULTS,
         };
     };
     let found = row_found(row);
@@ -221,6 +207,18 @@ pub(crate) fn decided(
     ensures within { IfSome result.found (λ found. found.len ≤ length held.now) }
 {
     find(table, in_value, held, follows)
+}
+
+/// Whether what was held is a name, or the character behind `&` begins one, and no name of the table stands there.
+pub(crate) fn is_unknown(table: &References, held: &HeldReference, c: char) -> bool
+    ensures { result ≡ CharRefs.is_unknown table.now held.now c }
+{
+    let text = held.as_str();
+    match text.as_bytes().first() {
+        None => c.is_ascii_alphanumeric(),
+        Some(b'#') => false,
+        Some(_) => table.longest(text).is_none(),
+    }
 }
 
 /// Adds what `&` and the characters that were held stand for to a text.

@@ -6,6 +6,7 @@ ghost use Rattle.html_tokenizer.specs.CharRefs.{fits_in};
 ghost use Rattle.html_tokenizer.specs.Steps.{Errs, Keeps};
 
 use crate::characters::{forbidden_code, is_forbidden};
+use crate::held_reference::Ampersand;
 use crate::tokenizer::{Stream, Tokenizer};
 use html_tokens::ProcessResult;
 use html_tokens::sink::TokenSink;
@@ -34,7 +35,7 @@ impl<Sink: TokenSink> Tokenizer<Sink> {
         )
     }
 
-    /// Takes a character, by the reference that is held if there is one.
+    /// Takes a character, by what stands behind `&` if something does.
     fn advance(&mut self, c: char) -> Result<ProcessResult<Sink::Handle>, ParseFault>
         requires sound { Sink.is_sound (Sink.view self.old.sink) }
         requires fits { fits_in (rows_of self.old) self.old.char_ref self.old.state ≡ true }
@@ -44,7 +45,8 @@ impl<Sink: TokenSink> Tokenizer<Sink> {
             return self.step(c);
         }
         match self.char_ref.take() {
-            Some(held) => self.reference_state(held, c),
+            Some(Ampersand::Held(held)) => self.reference_state(held, c),
+            Some(Ampersand::Unknown) => self.ambiguous_ampersand_state(c),
             None => self.step(c),
         }
     }

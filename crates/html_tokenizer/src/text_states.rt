@@ -7,7 +7,7 @@ ghost use Rattle.html_tokenizer.specs.Steps.{IsAt, Tells, TakesAs, Keeps, nothin
 ghost use Rattle.html_tokens.specs.Item.{grave_if};
 
 use crate::error_code::ErrorCode;
-use crate::held_reference::HeldReference;
+use crate::held_reference::{Ampersand, HeldReference};
 use crate::tokenizer::Tokenizer;
 use html_tokens::sink::TokenSink;
 use html_tokens::states::State;
@@ -26,7 +26,7 @@ impl<Sink: TokenSink> Tokenizer<Sink> {
             return Ok(ProcessResult::Continue);
         }
         if c == '&' {
-            self.char_ref = Some(HeldReference::new(self.stream.alloc));
+            self.char_ref = Some(Ampersand::Held(HeldReference::new(self.stream.alloc)));
             return Ok(ProcessResult::Continue);
         }
         if c == '\0' {

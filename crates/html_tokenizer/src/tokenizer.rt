@@ -1,7 +1,7 @@
 //! What a tokenizer holds between two characters.
 
 use crate::error_code::ErrorCode;
-use crate::held_reference::HeldReference;
+use crate::held_reference::Ampersand;
 use crate::keyword::Keyword;
 use crate::letters::Letters;
 use crate::raw_end::RawEnd;
@@ -39,8 +39,8 @@ pub struct Tokenizer<Sink> {
     pub sink: Sink,
     pub(crate) stream: Stream,
     pub(crate) state: State,
-    /// What stands behind the `&` of a reference that may go on.
-    pub(crate) char_ref: Option<HeldReference>,
+    /// What stands behind an `&` that is not done with.
+    pub(crate) char_ref: Option<Ampersand>,
     /// The end tag that ends raw text: the last start tag's name, and what was read of it.
     pub(crate) raw_end: RawEnd,
     /// The tag that is read.

@@ -237,6 +237,56 @@ fn faulty_texts_tell_errors(rt: HostRuntime) -> Result<(), Fail> {
     Ok(())
 }
 
+const UNKNOWN_NAMES: &[Row] = &[
+    ("&zz;", " unknown-named-character-reference"),
+    ("&0;", " unknown-named-character-reference"),
+    ("&no;", " unknown-named-character-reference"),
+    ("&nox;", " unknown-named-character-reference"),
+    ("&rrraannddom;", " unknown-named-character-reference"),
+    ("a&zz;;b", " unknown-named-character-reference"),
+    ("&z&z;", " unknown-named-character-reference"),
+    (
+        "&z;&z;",
+        " unknown-named-character-reference unknown-named-character-reference",
+    ),
+    ("&zz x;", ""),
+    ("&zz</b>;", ""),
+    ("&zz", ""),
+    ("&no", ""),
+    ("&;", ""),
+    ("&-;", ""),
+    ("&zz&notin;", ""),
+    ("&notx;", " missing-semicolon-after-character-reference"),
+];
+
+const UNKNOWN_NAMES_IN_VALUES: &[Row] = &[
+    ("<a b=\"&zz;\">", " unknown-named-character-reference"),
+    ("<a b='&no;'>", " unknown-named-character-reference"),
+    ("<a b=&zz;>", " unknown-named-character-reference"),
+    ("<a b='&zz=;'>", ""),
+    ("<a b=&zz>;", ""),
+    ("<a b='&notit;'>", ""),
+    ("<a b='&zz", " eof-in-tag"),
+];
+
+#[test]
+fn unknown_names_tell_errors(rt: HostRuntime) -> Result<(), Fail> {
+    let page = Setting {
+        table: Table::Not,
+        ..PAGE
+    };
+    let title = Setting {
+        initial_state: Some(State::RawData(RawKind::Rcdata)),
+        last_start_tag: Some("title"),
+        ..page
+    };
+    for setting in [page, exact(page), title] {
+        assert_codes(&rt, rt.alloc(), setting, UNKNOWN_NAMES)?;
+    }
+    assert_codes(&rt, rt.alloc(), page, UNKNOWN_NAMES_IN_VALUES)?;
+    Ok(())
+}
+
 const SECTIONS: &[Row] = &[
     ("<![CDATA[a", " eof-in-cdata"),
     ("<![CDATA[a]]", " eof-in-cdata"),

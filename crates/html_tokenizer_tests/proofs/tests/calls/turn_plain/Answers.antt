@@ -7,6 +7,7 @@ use Rattle.html_tokenizer.specs.Calls.{refused_by, refusal, is_nothing_pending, 
 use Rattle.html_tokens.specs.Table.{Row}
 use Rattle.html_tokenizer.specs.CharRefs.{fits_in}
 use Rattle.html_tokenizer.specs.Rest.{rows_of}
+use Rattle.html_tokenizer.specs.declared.held_reference.Ampersand.{Ampersand}
 use Rattle.html_tokenizer.specs.declared.tokenizer.Tokenizer.{Tokenizer}
 use Rattle.html_tokenizer_tests.proofs.tests.calls.turn_plain.Goals as goal
 use Rattle.html_tokens.specs.declared.sink.TokenSink.{Ghosts}
@@ -19,9 +20,9 @@ third true false false d h = absurd cc
 third false b false d h = absurd cc
 
 -- where no reference is held, any state will do
-fits-none : (rows : List Row) (held : Option (List ℕ)) (st : State) → is_none held ≡ true → fits_in rows held st ≡ true
+fits-none : (rows : List Row) (behind : Option Ampersand) (st : State) → is_none behind ≡ true → fits_in rows behind st ≡ true
 fits-none rows None st h = refl
-fits-none rows (Some cs) st h = absurd cc
+fits-none rows (Some behind) st h = absurd cc
 
 module _ {K H : Type 0} (Sink : Ghosts K H) where
   ready-if : (failed ended : Bool) (k : Tokenizer K) → is_none k.char_ref ≡ true → IsReadyIf Sink (refused_by failed ended) k
