@@ -54,6 +54,21 @@ impl<Sink: TokenSink> Tokenizer<Sink> {
         }
     }
 
+    /// Takes a character of data.
+    fn move_by_char(
+        &mut self,
+        input: &mut BufferQueue,
+    ) -> Result<ProcessResult<Sink::Handle>, ParseFault>
+        requires ready { IsReady Sink.TokenSink self.old }
+        requires tags { ReadsTags self.old }
+        ensures { Moves Sink.TokenSink self.old self.new input.old input.new result }
+    {
+        match self.stream.next_char(input) {
+            Some(c) => self.take_in_data(c),
+            None => Ok(ProcessResult::Suspend),
+        }
+    }
+
     /// Takes a run of text of data from the front of the input, or else what comes next.
     fn move_by_run(
         &mut self,
@@ -65,7 +80,7 @@ impl<Sink: TokenSink> Tokenizer<Sink> {
     {
         let (run, _rest) = data_stops().split(input.as_str());
         if run.is_empty() {
-            return self.move_by_piece(input);
+            return self.move_by_char(input);
         }
         let width = run.len();
         let made = Text::from_str(self.stream.alloc, run)?;
@@ -117,7 +132,7 @@ impl<Sink: TokenSink> Tokenizer<Sink> {
         Ok(ProcessResult::Continue)
     }
 
-    /// Takes what comes next of the input behind a tag's name or a value in quotes, where `>` ends the tag.
+    /// Takes what comes next of the input in a tag where `>` ends it.
     fn move_in_tag(
         &mut self,
         input: &mut BufferQueue,
@@ -130,7 +145,7 @@ impl<Sink: TokenSink> Tokenizer<Sink> {
             return Ok(ProcessResult::Suspend);
         };
         if c == '>' {
-            return self.emit_tag();
+            return self.close_tag();
         }
         self.take(c)
     }
@@ -146,7 +161,7 @@ impl<Sink: TokenSink> Tokenizer<Sink> {
         if self.reads_tags() {
             return self.move_by_tag(input);
         }
-        if self.is_in_tag() {
+        if self.is_in_tag() && input.peek() == Some('>') {
             return self.move_in_tag(input);
         }
         self.move_by_piece(input)
