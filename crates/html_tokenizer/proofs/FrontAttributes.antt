@@ -59,7 +59,7 @@ plain-goes_on c lacks =
     let bits = plain_stops.bits in
     rw (not-member bits c 9 refl lacks, not-member bits c 10 refl lacks, not-member bits c 12 refl lacks, not-member bits c 32 refl lacks, not-member bits c 62 refl lacks) refl
 
-close-equals : 62 ≢ 61
+close-equals : ◌≢◌ {A = ℕ} 62 61
 close-equals e = omega (arith, e)
 
 -- what is so of the machine without an attribute that it reads
@@ -255,11 +255,11 @@ module _ {K H : Type 0} (Sink : Ghosts K H) where
       took-then Sink old (valuing old value.Unquoted (c ∷ [])) (valuing old value.Unquoted (c ∷ cs)) c cs (not-member bits c 10 refl lacks) first
       (run-held Sink (valuing old value.Unquoted) bits refl (λ front. ok) (λ front. fits-at (valuing old value.Unquoted front) (state.AttributeValue value.Unquoted) (record { state = refl; fresh = from.fresh })) each (c ∷ []) cs (All-tail (λ c. has bits c ≡ false) c cs lacking))
 
-  pub plain-front : (old : Tokenizer K) (text value rest made : List ℕ) → IsAt old state.BeforeAttributeValue → Sink.is_sound (Sink.view old.sink) → text ≡ value ++ rest → IsUtf8 value → IsFilled (chars value) → Lacks plain_stops (chars value) → made ≡ chars value
+  pub plain-front : (old : Tokenizer K) (text taken rest made : List ℕ) → IsAt old state.BeforeAttributeValue → Sink.is_sound (Sink.view old.sink) → text ≡ taken ++ rest → IsUtf8 taken → IsFilled (chars taken) → Lacks plain_stops (chars taken) → made ≡ chars taken
       → TakesFront Sink old (valuing old value.Unquoted made) text rest
-  plain-front old text value rest made from ok whole utf8 filled lacking e =
-      let took : TookRun Sink old (valuing old value.Unquoted (chars value)) (chars value) = rw filled.split (plain-took old filled.first filled.more from ok (rw filled.split at lacking)) in
-      rw e (run-front old (valuing old value.Unquoted (chars value)) value rest text whole utf8 (lacks-breaks plain_stops.bits refl refl (chars value) lacking) took)
+  plain-front old text taken rest made from ok whole utf8 filled lacking e =
+      let took : TookRun Sink old (valuing old value.Unquoted (chars taken)) (chars taken) = rw filled.split (plain-took old filled.first filled.more from ok (rw filled.split at lacking)) in
+      rw e (run-front old (valuing old value.Unquoted (chars taken)) taken rest text whole utf8 (lacks-breaks plain_stops.bits refl refl (chars taken) lacking) took)
 
   -- ATTRIBUTES
 

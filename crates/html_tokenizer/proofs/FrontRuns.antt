@@ -1,18 +1,19 @@
 -- Runs of text, and the ends of tags, at the front of the input.
-use Rattle.std.proofs.Common.{◌≡◌, ◌∙◌, ℕ, ◌<◌, ◌==◌, Bool, true, false, nat_eq, List, [], ◌∷◌, ◌++◌, length, take, Some, Result, Ok, Err, refl, sym, ap, subst, arith, length-append}
+use Rattle.std.proofs.Common.{◌≡◌, ◌∙◌, ℕ, ◌<◌, ◌==◌, Bool, true, false, nat_eq, List, [], ◌∷◌, ◌++◌, length, take, Result, Ok, Err, refl, sym, ap, subst, arith, length-append}
 use Rattle.std.specs.Result.{IsErrAnd}
 use Rattle.std.specs.Str.{IsCharBoundary, IsUtf8, chars}
 use Rattle.std.proofs.lemmas.Str.{encodes-chars, IsCharBoundary-from_take}
 use Rattle.std.proofs.Math.Seq.{take-append_seam}
 use Rattle.markup.specs.declared.fault.ParseFault.{ParseFault}
 use Rattle.html_queue.specs.Queue.{Queue, Takes}
+use Rattle.html_queue.specs.declared.set.SmallCharSet.{SmallCharSet}
 use Rattle.html_queue.proofs.Taking.{filled}
 use Rattle.html_tokens.specs.declared.replies.ProcessResult.{ProcessResult}
 use Rattle.html_tokens.specs.declared.sink.TokenSink.{Ghosts}
 use Rattle.html_tokenizer.specs.Calls.{ComesAsRunAt, Passed, Passes, counted, owed_for_text}
 use Rattle.html_tokenizer.specs.Fronts.{IsInTag, Lacks, ReadsTags, after_name, after_value, in_name, in_value}
 use Rattle.html_tokenizer.specs.Steps.{Erred, Keeps, Rises, Took}
-use Rattle.html_tokenizer.specs.Stops.{IsRunAt, data_stops, stops_of}
+use Rattle.html_tokenizer.specs.Stops.{IsRunAt, IsStoppedBy, data_stops}
 use Rattle.html_tokenizer.specs.declared.tokenizer.Stream.{Stream}
 use Rattle.html_tokenizer.specs.declared.tokenizer.Tokenizer.{Tokenizer}
 use Rattle.html_tokenizer.proofs.FrontTags.{lacks-breaks}
@@ -37,23 +38,24 @@ run-filled : (bytes : List ℕ) (empty : Bool) → IsUtf8 bytes → empty ≡ (l
 run-filled bytes empty utf8 e f = filled (chars bytes) bytes (encodes-chars bytes utf8) (some-of (length bytes) (sym e ∙ f))
 
 module _ {K : Type 0} where
-  data-stops : (k : Tokenizer K) → ReadsTags k → stops_of k.stream.exact_errors k.char_ref k.state ≡ Some data_stops
-  data-stops k reads = rw (reads.plain, reads.at.fresh, reads.at.state) refl
+  -- where a machine in data is stopped
+  pub data-stopped : (k : Tokenizer K) (set : SmallCharSet) → ReadsTags k → set ≡ data_stops → IsStoppedBy set k
+  data-stopped k set reads is = rw (is, reads.plain, reads.at.fresh, reads.at.state) (record { are = refl; breaks = (refl, refl, refl) })
 
-  pub run-at : (k : Tokenizer K) (bytes made : List ℕ) (empty : Bool) → ReadsTags k → IsUtf8 bytes → made ≡ chars bytes → empty ≡ (length bytes == 0) → empty ≡ false → Lacks data_stops (chars bytes) → IsRunAt k made
-  run-at k bytes made empty reads utf8 is e f lacks = rw is (record { stops = data_stops; are = data-stops k reads; filled = run-filled bytes empty utf8 e f; lacking = lacks })
+  pub run-at : (k : Tokenizer K) (set : SmallCharSet) (bytes made : List ℕ) (empty : Bool) → IsStoppedBy set k → IsUtf8 bytes → made ≡ chars bytes → empty ≡ (length bytes == 0) → empty ≡ false → Lacks set (chars bytes) → IsRunAt k made
+  run-at k set bytes made empty stopped utf8 is e f lacks = rw is (record { stops = set; are = stopped.are; filled = run-filled bytes empty utf8 e f; lacking = lacks })
 
-  pub run-comes_at : (k : Tokenizer K) (text spelled bytes rest made : List ℕ) (empty : Bool) (from to : Queue) → ReadsTags k → text ≡ spelled → text ≡ bytes ++ rest → IsUtf8 bytes → made ≡ chars bytes → empty ≡ (length bytes == 0) → empty ≡ false → Lacks data_stops (chars bytes)
+  pub run-comes_at : (k : Tokenizer K) (set : SmallCharSet) (text spelled bytes rest made : List ℕ) (empty : Bool) (from to : Queue) → IsStoppedBy set k → k.stream.discard_bom ≡ false → text ≡ spelled → text ≡ bytes ++ rest → IsUtf8 bytes → made ≡ chars bytes → empty ≡ (length bytes == 0) → empty ≡ false → Lacks set (chars bytes)
       → Takes (chars (take (length bytes) spelled)) from to → ComesAsRunAt k (record k.stream { ignore_lf = false }) from to made
-  run-comes_at k text spelled bytes rest made empty from to reads e whole utf8 is none f lacks takes =
+  run-comes_at k set text spelled bytes rest made empty from to stopped unmarked e whole utf8 is none f lacks takes =
       let taken : chars (take (length bytes) spelled) ≡ chars bytes = ap (λ u. chars (take (length bytes) u)) (sym e) ∙ ap chars (front-of_both text bytes rest whole) in
       let some = run-filled bytes empty utf8 none f in
       rw is (record {
-        stops = data_stops;
-        are = data-stops k reads;
+        stops = set;
+        are = stopped.are;
         comes = record {
           takes = subst (λ u. Takes u from to) taken takes;
-          front = λ t. front-comes k.stream (chars bytes) t reads.unmarked some (lacks-breaks data_stops.bits refl refl (chars bytes) lacks);
+          front = λ t. front-comes k.stream (chars bytes) t unmarked some (lacks-breaks set.bits stopped.breaks.1 stopped.breaks.2 (chars bytes) lacks);
           changed = refl;
           filled = some;
           lacking = lacks;

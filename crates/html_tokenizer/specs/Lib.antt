@@ -7,7 +7,6 @@ pub mod Fronts
 pub mod Input
 pub mod Keywords
 pub mod Laws
-pub mod Pieces
 pub mod Quotes
 pub mod Ready
 pub mod Rest

@@ -23,7 +23,6 @@ pub mod laws;
 mod letters;
 mod numbers;
 mod open_states;
-mod piece;
 mod raw_end;
 mod raw_states;
 mod reference_states;

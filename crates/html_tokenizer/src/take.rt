@@ -50,20 +50,8 @@ impl<Sink: TokenSink> Tokenizer<Sink> {
         }
     }
 
-    /// Takes a character, and counts its line.
-    pub(crate) fn take(&mut self, c: char) -> Result<ProcessResult<Sink::Handle>, ParseFault>
-        requires sound { Sink.is_sound (Sink.view self.old.sink) }
-        requires fits { fits_in (rows_of self.old) self.old.char_ref self.old.state ≡ true }
-        ensures { Passes Sink.TokenSink self.old self.new c result }
-    {
-        self.tell_forbidden(c)?;
-        let result = self.advance(c)?;
-        self.stream.count_break(c);
-        Ok(result)
-    }
-
     /// Takes a character of data where errors of single characters are not told, and counts its line.
-    pub(crate) fn take_in_data(
+    fn take_in_data(
         &mut self,
         c: char,
     ) -> Result<ProcessResult<Sink::Handle>, ParseFault>
@@ -73,6 +61,21 @@ impl<Sink: TokenSink> Tokenizer<Sink> {
         ensures { Passes Sink.TokenSink self.old self.new c result }
     {
         let result = self.data_state(c)?;
+        self.stream.count_break(c);
+        Ok(result)
+    }
+
+    /// Takes a character, and counts its line.
+    pub(crate) fn take(&mut self, c: char) -> Result<ProcessResult<Sink::Handle>, ParseFault>
+        requires sound { Sink.is_sound (Sink.view self.old.sink) }
+        requires fits { fits_in (rows_of self.old) self.old.char_ref self.old.state ≡ true }
+        ensures { Passes Sink.TokenSink self.old self.new c result }
+    {
+        if self.reads_tags() {
+            return self.take_in_data(c);
+        }
+        self.tell_forbidden(c)?;
+        let result = self.advance(c)?;
         self.stream.count_break(c);
         Ok(result)
     }
