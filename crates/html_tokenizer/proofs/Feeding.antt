@@ -226,17 +226,6 @@ module _ {K H : Type 0} (Sink : Ghosts K H) where
             (fails-before Sink old.sink mid.sink new.sink _ fault stays (p.1 notes (coming_in mid.stream t)));
       }
 
-  -- what comes next could not be had
-  pub not-moved : (old mid : Tokenizer K) (from to : Queue) (fault : ParseFault) (result : Result (ProcessResult H) ParseFault) → mid ≡ record old { stream = mid.stream } → to ≡ from → fault ≡ Memory → IsReady Sink old → IsErrAnd result (λ y. y ≡ fault) → Moves Sink old mid from to result
-  not-moved old mid from to fault result is same memory ready e =
-      let p = err_from_is_err_and result e in
-      rw (p.1, p.2, memory, same) (record {
-        lost = [];
-        takes = record { split = refl; counted = omega arith };
-        fell = fell-same Sink old.sink mid.sink (ap (λ (k : Tokenizer K). k.sink) is) ready.sound;
-        fails = λ notes t. tt;
-      })
-
   pub moved-run : (old mid new : Tokenizer K) (from to : Queue) (run : List ℕ) (result : Result (ProcessResult H) ParseFault) → mid ≡ record old { stream = mid.stream } → ComesAsRunAt old mid.stream from to run
       → KeepsText Sink mid new run result → Moves Sink old new from to result
   moved-run old mid new from to run (Ok flow.Continue) is h p = record {

@@ -1,31 +1,27 @@
 -- Runs of text, and the ends of tags, at the front of the input.
-use Rattle.std.proofs.Common.{◌≡◌, ◌∙◌, ℕ, ◌<◌, ◌==◌, Bool, true, false, nat_eq, List, [], ◌∷◌, ◌++◌, length, take, Some, Result, Ok, Err, refl, sym, ap, subst, arith, length-append}
+use Rattle.std.proofs.Common.{◌≡◌, ◌∙◌, ℕ, ◌<◌, ◌==◌, Bool, true, false, nat_eq, List, [], ◌∷◌, ◌++◌, length, take, Result, Ok, Err, refl, sym, ap, subst, arith, length-append}
+use Rattle.std.specs.Result.{IsErrAnd}
 use Rattle.std.specs.Str.{IsCharBoundary, IsUtf8, chars}
 use Rattle.std.proofs.lemmas.Str.{encodes-chars, IsCharBoundary-from_take}
 use Rattle.std.proofs.Math.Seq.{take-append_seam}
 use Rattle.markup.specs.declared.fault.ParseFault.{ParseFault}
 use Rattle.html_queue.specs.Queue.{Queue, Takes}
+use Rattle.html_queue.specs.declared.set.SmallCharSet.{SmallCharSet}
 use Rattle.html_queue.proofs.Taking.{filled}
 use Rattle.html_tokens.specs.declared.replies.ProcessResult.{ProcessResult}
 use Rattle.html_tokens.specs.declared.sink.TokenSink.{Ghosts}
-use Rattle.html_tokens.specs.declared.states.State.{State}
-use Rattle.html_tokens.specs.declared.states.State.TheVariants as state
-use Rattle.html_tokenizer.specs.Calls.{ComesAsRunAt, Passes, owed_for_text}
-use Rattle.html_tokenizer.specs.Fronts.{IsInTag, Lacks, ReadsTags, after_name, after_value}
-use Rattle.html_tokenizer.specs.Steps.{EndsTag, IsAt, Keeps, Rises}
-use Rattle.html_tokenizer.specs.Stops.{IsRunAt, data_stops, stops_of}
+use Rattle.html_tokenizer.specs.Calls.{ComesAsRunAt, Passed, Passes, counted, owed_for_text}
+use Rattle.html_tokenizer.specs.Fronts.{IsInTag, Lacks, ReadsTags, after_name, after_value, in_name, in_value}
+use Rattle.html_tokenizer.specs.Steps.{Erred, Keeps, Rises, Took}
+use Rattle.html_tokenizer.specs.Stops.{IsRunAt, IsStoppedBy, data_stops}
 use Rattle.html_tokenizer.specs.declared.tokenizer.Stream.{Stream}
 use Rattle.html_tokenizer.specs.declared.tokenizer.Tokenizer.{Tokenizer}
-use Rattle.html_tokenizer.proofs.AttributeNames.{before-close}
-use Rattle.html_tokenizer.proofs.AttributeValues.{value_behind}
-use Rattle.html_tokenizer.proofs.Fronts.{heeding}
 use Rattle.html_tokenizer.proofs.FrontTags.{lacks-breaks}
 use Rattle.html_tokenizer.proofs.FrontTexts.{some-of}
 use Rattle.html_tokenizer.proofs.Glue.{stays-same}
 use Rattle.html_tokenizer.proofs.InputRuns.{front-comes}
 use Rattle.html_tokenizer.proofs.Rises.{rises-same}
-use Rattle.html_tokenizer.proofs.Taking.{passed}
-use Rattle.html_tokenizer.proofs.TagStates.{tag_name-close}
+use Rattle.html_tokenizer.proofs.Taking.{not-passed, passed}
 
 -- RUNS OF DATA
 
@@ -42,23 +38,24 @@ run-filled : (bytes : List ℕ) (empty : Bool) → IsUtf8 bytes → empty ≡ (l
 run-filled bytes empty utf8 e f = filled (chars bytes) bytes (encodes-chars bytes utf8) (some-of (length bytes) (sym e ∙ f))
 
 module _ {K : Type 0} where
-  data-stops : (k : Tokenizer K) → ReadsTags k → stops_of k.stream.exact_errors k.char_ref k.state ≡ Some data_stops
-  data-stops k reads = rw (reads.plain, reads.at.fresh, reads.at.state) refl
+  -- where a machine in data is stopped
+  pub data-stopped : (k : Tokenizer K) (set : SmallCharSet) → ReadsTags k → set ≡ data_stops → IsStoppedBy set k
+  data-stopped k set reads is = rw (is, reads.plain, reads.at.fresh, reads.at.state) (record { are = refl; breaks = (refl, refl, refl) })
 
-  pub run-at : (k : Tokenizer K) (bytes made : List ℕ) (empty : Bool) → ReadsTags k → IsUtf8 bytes → made ≡ chars bytes → empty ≡ (length bytes == 0) → empty ≡ false → Lacks data_stops (chars bytes) → IsRunAt k made
-  run-at k bytes made empty reads utf8 is e f lacks = rw is (record { stops = data_stops; are = data-stops k reads; filled = run-filled bytes empty utf8 e f; lacking = lacks })
+  pub run-at : (k : Tokenizer K) (set : SmallCharSet) (bytes made : List ℕ) (empty : Bool) → IsStoppedBy set k → IsUtf8 bytes → made ≡ chars bytes → empty ≡ (length bytes == 0) → empty ≡ false → Lacks set (chars bytes) → IsRunAt k made
+  run-at k set bytes made empty stopped utf8 is e f lacks = rw is (record { stops = set; are = stopped.are; filled = run-filled bytes empty utf8 e f; lacking = lacks })
 
-  pub run-comes_at : (k : Tokenizer K) (text spelled bytes rest made : List ℕ) (empty : Bool) (from to : Queue) → ReadsTags k → text ≡ spelled → text ≡ bytes ++ rest → IsUtf8 bytes → made ≡ chars bytes → empty ≡ (length bytes == 0) → empty ≡ false → Lacks data_stops (chars bytes)
+  pub run-comes_at : (k : Tokenizer K) (set : SmallCharSet) (text spelled bytes rest made : List ℕ) (empty : Bool) (from to : Queue) → IsStoppedBy set k → k.stream.discard_bom ≡ false → text ≡ spelled → text ≡ bytes ++ rest → IsUtf8 bytes → made ≡ chars bytes → empty ≡ (length bytes == 0) → empty ≡ false → Lacks set (chars bytes)
       → Takes (chars (take (length bytes) spelled)) from to → ComesAsRunAt k (record k.stream { ignore_lf = false }) from to made
-  run-comes_at k text spelled bytes rest made empty from to reads e whole utf8 is none f lacks takes =
+  run-comes_at k set text spelled bytes rest made empty from to stopped unmarked e whole utf8 is none f lacks takes =
       let taken : chars (take (length bytes) spelled) ≡ chars bytes = ap (λ u. chars (take (length bytes) u)) (sym e) ∙ ap chars (front-of_both text bytes rest whole) in
       let some = run-filled bytes empty utf8 none f in
       rw is (record {
-        stops = data_stops;
-        are = data-stops k reads;
+        stops = set;
+        are = stopped.are;
         comes = record {
           takes = subst (λ u. Takes u from to) taken takes;
-          front = λ t. front-comes k.stream (chars bytes) t reads.unmarked some (lacks-breaks data_stops.bits refl refl (chars bytes) lacks);
+          front = λ t. front-comes k.stream (chars bytes) t unmarked some (lacks-breaks set.bits stopped.breaks.1 stopped.breaks.2 (chars bytes) lacks);
           changed = refl;
           filled = some;
           lacking = lacks;
@@ -70,20 +67,14 @@ module _ {K : Type 0} where
   pub in-tag-still : (k : Tokenizer K) (stream : Stream) → IsInTag k → IsInTag (record k { stream = stream })
   in-tag-still k stream (after_name from) = after_name (record { state = from.state; fresh = from.fresh })
   in-tag-still k stream (after_value from) = after_value (record { state = from.state; fresh = from.fresh })
+  in-tag-still k stream (in_name from) = in_name (record { state = from.state; fresh = from.fresh })
+  in-tag-still k stream (in_value from) = in_value (record { state = from.state; fresh = from.fresh })
 
 module _ {K H : Type 0} (Sink : Ghosts K H) where
-  -- how a tag ends does not depend on the state
-  ends-anywhere : (old new : Tokenizer K) (st : State) (result : Result (ProcessResult H) ParseFault) → EndsTag Sink old new result → EndsTag Sink (record old { state = st }) new result
-  ends-anywhere old new st (Ok result) h = record { same = h.same; rises = h.rises; stream = h.stream; sound = h.sound; fits = h.fits; stays = h.stays; paused = h.paused }
-  ends-anywhere old new st (Err fault) h = h
+  -- a character is no error on its own where such are not told, and ">" is none anywhere
+  plain-unforbidden : (exact : Bool) (c : ℕ) (k : K) → exact ≡ false → Rises Sink.errors (owed_for_text exact (c ∷ [])) k k
+  plain-unforbidden exact c k e = rw e (rises-same Sink.errors k k refl)
 
-  tag-closes : (old new : Tokenizer K) (result : Result (ProcessResult H) ParseFault) → IsInTag old → Sink.is_sound (Sink.view old.sink) → EndsTag Sink old new result → Keeps Sink old new 62 result
-  tag-closes old new result (after_name from) ok h = tag_name-close Sink old new 62 result from ok refl h
-  tag-closes old new result (after_value from) ok h =
-      value_behind Sink old new 62 result from
-      (before-close Sink (record old { state = state.BeforeAttributeName }) new 62 result (record { state = refl; fresh = from.fresh }) ok refl (ends-anywhere old new state.BeforeAttributeName result h))
-
-  -- ">" is no error on its own
   close-unforbidden : (exact : Bool) (k : K) → Rises Sink.errors (owed_for_text exact (62 ∷ [])) k k
   close-unforbidden true k = rises-same Sink.errors k k refl
   close-unforbidden false k = rises-same Sink.errors k k refl
@@ -94,5 +85,17 @@ module _ {K H : Type 0} (Sink : Ghosts K H) where
   close-passes old new (Err fault) h = h
 
   -- ">" ends the tag
-  pub tag-passes : (old new : Tokenizer K) (c : ℕ) (result : Result (ProcessResult H) ParseFault) → IsInTag old → Sink.is_sound (Sink.view old.sink) → c ≡ 62 → EndsTag Sink old new result → Passes Sink old new c result
-  tag-passes old new c result at ok e h = rw e (close-passes old new result (tag-closes old new result at ok h))
+  pub tag-passes : (old new : Tokenizer K) (c : ℕ) (result : Result (ProcessResult H) ParseFault) → c ≡ 62 → Keeps Sink old new 62 result → Passes Sink old new c result
+  tag-passes old new c result e h = rw e (close-passes old new result h)
+
+  -- CHARACTERS OF DATA
+
+  -- no error was told
+  unerred : (old : Tokenizer K) (c : ℕ) → old.stream.exact_errors ≡ false → Erred Sink (owed_for_text old.stream.exact_errors (c ∷ [])) old old
+  unerred old c plain = record { sink = refl; changed = refl; stays = stays-same Sink old.sink old.sink refl; rises = plain-unforbidden old.stream.exact_errors c old.sink plain }
+
+  pub data-passes : (old mid : Tokenizer K) (stream : Stream) (c : ℕ) (result : ProcessResult H) → old.stream.exact_errors ≡ false → Took Sink old mid c result → stream ≡ record mid.stream { breaks = counted mid.stream.breaks c } → Passed Sink old (record mid { stream = stream }) c result
+  data-passes old mid stream c result plain h is = passed Sink old old mid stream c result (unerred old c plain) h is
+
+  pub data-refused : (old mid : Tokenizer K) (c : ℕ) (fault : ParseFault) (result : Result (ProcessResult H) ParseFault) → old.stream.exact_errors ≡ false → Keeps Sink old mid c (Err fault) → IsErrAnd result (λ y. y ≡ fault) → Passes Sink old mid c result
+  data-refused old mid c fault result plain h is = not-passed Sink old old mid c fault result (unerred old c plain) h is

@@ -1,5 +1,5 @@
 -- Texts that are cut behind characters of ASCII.
-use Rattle.std.proofs.Common.{◌≡◌, ◌∙◌, ℕ, zero, suc, ◌<◌, Bool, true, false, List, [], ◌∷◌, ◌++◌, length, drop, get_or, refl, sym, ap, arith, append_assoc}
+use Rattle.std.proofs.Common.{◌≡◌, ◌∙◌, ℕ, zero, suc, ◌<◌, Bool, true, false, List, [], ◌∷◌, ◌++◌, length, drop, get_or, refl, sym, ap, arith}
 use Rattle.std.specs.Prelude.{encode_utf8_all, ◌==◌, not}
 use Rattle.std.specs.Char.{is_ascii_alphabetic}
 use Rattle.std.specs.Str.{IsAscii, IsCharBoundary, IsUtf8, chars}
@@ -8,7 +8,7 @@ use Rattle.std.proofs.lemmas.Str.{chars-append, chars-IsAscii, encodes-chars, Is
 use Rattle.std.proofs.lemmas.Str.Ascii.{IsAscii-cons}
 use Rattle.html_tokens.specs.declared.tags.TagKind.{TagKind}
 use Rattle.html_tokens.specs.declared.tags.TagKind.TheVariants.{StartTag, EndTag}
-use Rattle.html_tokenizer.specs.Fronts.{BeginsWithLetter, IsAttribute, IsFilled, IsQuoted, Lacks, attribute_stops, mark}
+use Rattle.html_tokenizer.specs.Fronts.{BeginsWithLetter, IsFilled, mark}
 
 -- an ASCII byte is a character
 pub ascii-one : (b : ℕ) → b < 128 → IsAscii (b ∷ [])
@@ -50,55 +50,10 @@ pub letter-chars : (bs : List ℕ) → 0 < length bs → is_ascii_alphabetic (ge
 letter-chars [] some e = absurd (omega (arith, some))
 letter-chars (b ∷ bs) some e = record { first = b; more = chars bs; split = chars-cons b bs (letter-low b e); letter = e }
 
--- what stands at the front is an attribute
-pub attribute-is : (text inner name after behind value rest : List ℕ) → text ≡ 32 ∷ inner → inner ≡ name ++ after → IsUtf8 name → Lacks attribute_stops (chars name) → IsFilled (chars name) → after ≡ 61 ∷ behind → IsQuoted value rest behind
-    → IsAttribute name value rest text
-attribute-is text inner name after behind value rest e f u lacking filled g quoted = record {
-  behind = behind;
-  whole = e ∙ ap (λ u. 32 ∷ u) (f ∙ ap (λ u. name ++ u) g);
-  utf8 = u;
-  filled = filled;
-  lacking = lacking;
-  quoted = quoted;
-}
-
 -- a text is its first character and what follows it
 pub front-split : (bs rest : List ℕ) (b : ℕ) → 0 < length bs → get_or bs 0 0 ≡ b → rest ≡ drop 1 bs → bs ≡ b ∷ rest
 front-split [] rest b some is e = absurd (omega (arith, some))
 front-split (x ∷ bs) rest b some is e = rw (is, e) refl
-
--- the bytes of an attribute as those of its parts
-pub attribute-whole : (text name value behind rest : List ℕ) (quote : ℕ) → text ≡ 32 ∷ (name ++ 61 ∷ behind) → behind ≡ quote ∷ (value ++ quote ∷ rest)
-    → text ≡ (32 ∷ ((name ++ 61 ∷ []) ++ quote ∷ (value ++ quote ∷ []))) ++ rest
-attribute-whole text name value behind rest quote e f =
-    e
-    ∙ ap (λ u. 32 ∷ (name ++ 61 ∷ u)) f
-    ∙ ap (λ u. 32 ∷ u)
-    (sym (append_assoc (name ++ 61 ∷ []) (quote ∷ (value ++ quote ∷ [])) rest
-    ∙ append_assoc name (61 ∷ []) (quote ∷ ((value ++ quote ∷ []) ++ rest))
-    ∙ ap (λ u. name ++ 61 ∷ quote ∷ u) (append_assoc value (quote ∷ []) rest)))
-
--- ASCII at the end of a text
-chars-end : (bs : List ℕ) (b : ℕ) → IsUtf8 bs → b < 128 → chars (bs ++ b ∷ []) ≡ chars bs ++ b ∷ []
-chars-end bs b u low = chars-append bs (b ∷ []) u ∙ ap (λ cs. chars bs ++ cs) (chars-IsAscii (b ∷ []) (ascii-one b low))
-
-utf8-end : (bs : List ℕ) (b : ℕ) → IsUtf8 bs → b < 128 → IsUtf8 (bs ++ b ∷ [])
-utf8-end bs b u low = IsUtf8-append bs (b ∷ []) u (IsUtf8-from_ascii (b ∷ []) (ascii-one b low))
-
--- the characters of an attribute
-pub attribute-chars : (name value : List ℕ) (quote : ℕ) → IsUtf8 name → IsUtf8 value → quote < 128
-    → chars (32 ∷ ((name ++ 61 ∷ []) ++ quote ∷ (value ++ quote ∷ []))) ≡ 32 ∷ ((chars name ++ 61 ∷ []) ++ quote ∷ (chars value ++ quote ∷ []))
-attribute-chars name value quote u v low =
-    chars-cons 32 ((name ++ 61 ∷ []) ++ quote ∷ (value ++ quote ∷ [])) (omega arith)
-    ∙ ap (λ cs. 32 ∷ cs)
-    (chars-append (name ++ 61 ∷ []) (quote ∷ (value ++ quote ∷ [])) (utf8-end name 61 u (omega arith))
-    ∙ ap (λ cs. cs ++ chars (quote ∷ (value ++ quote ∷ []))) (chars-end name 61 u (omega arith))
-    ∙ ap (λ cs. (chars name ++ 61 ∷ []) ++ cs) (chars-cons quote (value ++ quote ∷ []) low ∙ ap (λ cs. quote ∷ cs) (chars-end value quote v low)))
-
-pub attribute-utf8 : (name value : List ℕ) (quote : ℕ) → IsUtf8 name → IsUtf8 value → quote < 128 → IsUtf8 (32 ∷ ((name ++ 61 ∷ []) ++ quote ∷ (value ++ quote ∷ [])))
-attribute-utf8 name value quote u v low =
-    utf8-cons 32 ((name ++ 61 ∷ []) ++ quote ∷ (value ++ quote ∷ [])) (omega arith)
-    (IsUtf8-append (name ++ 61 ∷ []) (quote ∷ (value ++ quote ∷ [])) (utf8-end name 61 u (omega arith)) (utf8-cons quote (value ++ quote ∷ []) low (utf8-end value quote v low)))
 
 -- the same of what stands before a tag's name, and the name
 pub mark-utf8 : (kind : TagKind) (name : List ℕ) → IsUtf8 name → IsUtf8 (mark kind ++ name)

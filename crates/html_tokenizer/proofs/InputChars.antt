@@ -23,16 +23,6 @@ last-joined c (d ∷ a) b = last-joined d a b
 marked : (old mid : Stream) → mid ≡ record old { discard_bom = false } → mid ≡ record old { ignore_lf = mid.ignore_lf; discard_bom = mid.discard_bom }
 marked old mid e = rw e refl
 
--- no byte order mark is passed where none is dropped
-pub no-mark : (old : Stream) (from : Queue) (c : ℕ) → old.discard_bom ≡ false → MarkPassed old old from from c (Some c)
-no-mark old from c e = record {
-  more = [];
-  takes = record { split = refl; counted = omega arith };
-  front = λ t. ap (λ b. without_mark b (c ∷ t)) e ∙ without_none (c ∷ t);
-  changed = ap {A = Bool} (λ b. record old { discard_bom = b }) e;
-  last = refl;
-}
-
 module _ (old mid new : Stream) (start from via to : Queue) (c : ℕ) (first : Takes (c ∷ []) start from) where
   -- the byte order mark was all that was left
   pub next-vanishes : MarkPassed old mid from via c None → via.characters ≡ [] → Vanishes old mid start via

@@ -2,14 +2,10 @@
 use Rattle.std.proofs.Common.{◌≡◌, ◌∙◌, ℕ, ◌<◌, Bool, true, false, nat_eq, List, [], ◌∷◌, ◌++◌, length, refl, sym, ap, arith}
 use Rattle.std.specs.Prelude.{◌&&◌, All}
 use Rattle.std.proofs.lemmas.List.Elements.{All-head, All-tail}
-use Rattle.html_queue.specs.Queue.{Queue, Takes, IsRun}
-use Rattle.html_queue.specs.Set.{has}
 use Rattle.html_tokens.specs.NormalText.{newline_by, newlines_behind, without_mark}
 use Rattle.html_tokenizer.specs.declared.tokenizer.Stream.{Stream}
 use Rattle.html_tokenizer.specs.Fronts.{IsUnbroken}
 use Rattle.html_tokenizer.specs.Input.{coming_in}
-use Rattle.html_tokenizer.specs.Pieces.{ComesAsRun}
-use Rattle.html_tokenizer.proofs.Sets.{not-member}
 
 -- a character that is no line end comes as it is, also behind a carriage return
 newline_by-plain : (a cr b : Bool) (c : ℕ) (go : Bool → List ℕ) → a ≡ false → b ≡ false → newline_by a (cr && b) c go ≡ c ∷ go false
@@ -20,39 +16,6 @@ newline_by-plain a false b c go h k = rw h refl
 pub without_none : (t : List ℕ) → without_mark false t ≡ t
 without_none [] = refl
 without_none (c ∷ t) = refl
-
-module _ (bits : ℕ) (line_feed : has bits 10 ≡ true) (carriage_return : has bits 13 ≡ true) where
-  plain-first : (cr : Bool) (c : ℕ) (t : List ℕ) → has bits c ≡ false → newlines_behind cr (c ∷ t) ≡ c ∷ newlines_behind false t
-  plain-first cr c t lacks = newline_by-plain (nat_eq c 13) cr (nat_eq c 10) c (λ b. newlines_behind b t) (not-member bits c 13 carriage_return lacks) (not-member bits c 10 line_feed lacks)
-
-  plain-rest : (run t : List ℕ) → All (λ c. has bits c ≡ false) run → newlines_behind false (run ++ t) ≡ run ++ newlines_behind false t
-  plain-rest [] t lacking = refl
-  plain-rest (c ∷ run) t lacking =
-      plain-first false c (run ++ t) (All-head (λ c. has bits c ≡ false) c run lacking)
-      ∙ ap (λ u. c ∷ u) (plain-rest run t (All-tail (λ c. has bits c ≡ false) c run lacking))
-
-  -- a run without line ends comes as it is, also behind a carriage return
-  plain-run : (cr : Bool) (run t : List ℕ) → 0 < length run → All (λ c. has bits c ≡ false) run → newlines_behind cr (run ++ t) ≡ run ++ newlines_behind false t
-  plain-run cr [] t filled lacking = absurd (omega arith)
-  plain-run cr (c ∷ run) t filled lacking =
-      plain-first cr c (run ++ t) (All-head (λ c. has bits c ≡ false) c run lacking)
-      ∙ ap (λ u. c ∷ u) (plain-rest run t (All-tail (λ c. has bits c ≡ false) c run lacking))
-
-  -- a run that was taken from the queue is the next that comes
-  pub run-comes : (old new : Stream) (from to : Queue) (run : List ℕ) → old.discard_bom ≡ false → new ≡ record old { ignore_lf = false } → IsRun bits run to.characters × Takes run from to → ComesAsRun bits old new from to run
-  run-comes old new from to run unmarked is taken =
-      rw is (record {
-        takes = taken.1;
-        front = λ t.
-            ap (λ mark. newlines_behind old.ignore_lf (without_mark mark (run ++ t))) unmarked
-            ∙ ap (newlines_behind old.ignore_lf) (without_none (run ++ t))
-            ∙ plain-run old.ignore_lf run t taken.0.filled taken.0.lacking
-            ∙ ap (λ u. run ++ newlines_behind false u) (sym (without_none t))
-            ∙ ap (λ mark. run ++ newlines_behind false (without_mark mark t)) (sym unmarked);
-        changed = refl;
-        filled = taken.0.filled;
-        lacking = taken.0.lacking;
-      })
 
 -- a character that is no line end comes as it is, and so does a text of them
 unbroken-first : (cr : Bool) (c : ℕ) (t : List ℕ) → nat_eq c 10 ≡ false → nat_eq c 13 ≡ false → newlines_behind cr (c ∷ t) ≡ c ∷ newlines_behind false t

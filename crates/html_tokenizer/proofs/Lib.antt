@@ -24,6 +24,7 @@ pub mod Erring
 pub mod Errors
 pub mod Feeding
 pub mod Finished
+pub mod FrontAttributes
 pub mod FrontReferences
 pub mod FrontRuns
 pub mod FrontTags

@@ -86,7 +86,7 @@ module _ {T : Type 0} (sound : T → Type 0) (step : NotedStep T) (erred : Fault
 
 -- CHARACTERS
 
-shown-same : (c : ℕ) → nat_eq c 0 ≡ false → shown c ≡ c
+pub shown-same : (c : ℕ) → nat_eq c 0 ≡ false → shown c ≡ c
 shown-same c e = rw e refl
 
 and-false : (b : Bool) → (b && false) ≡ false

@@ -27,10 +27,7 @@ use Rattle.html_tokenizer.specs.declared.held_reference.Ampersand.{Ampersand}
 use Rattle.html_tokenizer.specs.declared.held_reference.Ampersand.TheVariants.{Held, Unknown}
 use Rattle.html_tokenizer.specs.declared.tokenizer.Stream.{Stream}
 use Rattle.html_tokenizer.specs.declared.tokenizer.Tokenizer.{Tokenizer}
-use Rattle.html_tokenizer.specs.declared.piece.Piece.{Piece}
-use Rattle.html_tokenizer.specs.declared.piece.Piece.TheVariants.{Nothing, Char, Run}
-use Rattle.html_tokenizer.specs.Input.{last_of, ComesAs, Vanishes}
-use Rattle.html_tokenizer.specs.Pieces.{ComesAsRun}
+use Rattle.html_tokenizer.specs.Input.{last_of, ComesAsRun}
 use Rattle.html_tokenizer.specs.Stops.{stops_of}
 use Rattle.html_queue.specs.declared.set.SmallCharSet.{SmallCharSet}
 use Rattle.html_tokenizer.specs.Rest.{rest, rows_of, standing, coming}
@@ -71,12 +68,6 @@ pub record ComesAsRunAt {K : Type 0} (k : Tokenizer K) (new : Stream) (from to :
   pub stops : SmallCharSet
   pub are : stops_of k.stream.exact_errors k.char_ref k.state ≡ Some stops
   pub comes : ComesAsRun stops.bits k.stream new from to run
-
--- what comes next where the machine stands
-abbrev pub NextsAt : {K : Type 0} → Tokenizer K → Stream → Queue → Queue → Piece → Type 0
-NextsAt k new from to Nothing = Vanishes k.stream new from to
-NextsAt k new from to (Char d) = ComesAs k.stream new from to d
-NextsAt k new from to (Run run) = ComesAsRunAt k new from to run
 
 -- the same of a tokenizer
 abbrev pub refusal_of : {K : Type 0} → Tokenizer K → Option ParseFault

@@ -6,7 +6,8 @@ use Rattle.std.specs.Str.{IsUtf8, chars}
 use Rattle.html_queue.specs.Set.{has}
 use Rattle.html_queue.specs.declared.set.SmallCharSet.{SmallCharSet}
 use Rattle.html_tokens.specs.declared.sink.TokenSink.{Ghosts}
-use Rattle.html_tokens.specs.declared.states.AttrValueKind.{AttrValueKind}
+use Rattle.html_tokens.specs.declared.states.AttrValueKind.TheVariants as value
+use Rattle.html_tokens.specs.declared.states.State.{State}
 use Rattle.html_tokens.specs.declared.states.State.TheVariants as state
 use Rattle.html_tokens.specs.declared.tags.TagKind.{TagKind}
 use Rattle.html_tokens.specs.declared.tags.TagKind.TheVariants.{StartTag, EndTag}
@@ -15,15 +16,18 @@ use Rattle.html_tokenizer.specs.Calls.{TookRun}
 use Rattle.html_tokenizer.specs.CharRefs.{is_held, is_held_front}
 use Rattle.html_tokenizer.specs.declared.held_reference.Ampersand.TheVariants.{Held}
 use Rattle.html_tokenizer.specs.declared.tokenizer.Tokenizer.{Tokenizer}
-use Rattle.html_tokenizer.specs.Quotes.{quote_of}
 use Rattle.html_tokenizer.specs.Rest.{rows_of}
 use Rattle.html_tokenizer.specs.Steps.{IsAt}
-use Rattle.html_tokenizer.specs.Stops.{with_breaks, value_stops}
+use Rattle.html_tokenizer.specs.Stops.{with_breaks}
 pub use Rattle.html_tokenizer.specs.Stops.{attribute_stops}
 
 -- the characters at which a tag's name is taken no further at once
 abbrev pub name_stops : SmallCharSet
 name_stops = with_breaks (9 ∷ 12 ∷ 32 ∷ 47 ∷ 62 ∷ [])
+
+-- the characters at which a value without quotes is taken no further at once
+abbrev pub plain_stops : SmallCharSet
+plain_stops = with_breaks (9 ∷ 12 ∷ 32 ∷ 34 ∷ 38 ∷ 39 ∷ 60 ∷ 61 ∷ 62 ∷ [])
 
 -- the characters before which no name of a reference goes on
 abbrev pub reference_stops : SmallCharSet
@@ -70,31 +74,12 @@ pub record IsNamed (name rest text : List ℕ) : Type 0 where
 abbrev pub IsOpening : TagKind → List ℕ → List ℕ → List ℕ → Type 0
 IsOpening kind name rest text = (text ≡ mark kind ++ (name ++ rest)) × IsUtf8 name × IsTagName (chars name)
 
--- the bytes of a text are those of a value, its quote, and what follows them
-pub record IsQuotedBehind (kind : AttrValueKind) (quote : ℕ) (value rest text : List ℕ) : Type 0 where
-  pub whole : text ≡ value ++ quote ∷ rest
-  pub utf8 : IsUtf8 value
-  pub rest_utf8 : IsUtf8 rest
-  pub lacking : Lacks (value_stops kind) (chars value)
-
--- the same with the quote before the value
-pub record IsQuoted (value rest text : List ℕ) : Type 0 where
-  pub kind : AttrValueKind
-  pub quote : ℕ
-  pub is : quote_of kind ≡ Some quote
-  pub whole : text ≡ quote ∷ (value ++ quote ∷ rest)
-  pub utf8 : IsUtf8 value
-  pub rest_utf8 : IsUtf8 rest
-  pub lacking : Lacks (value_stops kind) (chars value)
-
--- the bytes of a text are those of a space and an attribute with a value in quotes, and what follows them
-pub record IsAttribute (name value rest text : List ℕ) : Type 0 where
-  pub behind : List ℕ
-  pub whole : text ≡ 32 ∷ (name ++ 61 ∷ behind)
+-- the bytes of a text are those of a space and an attribute's name, and what follows them
+pub record IsNameAt (name rest text : List ℕ) : Type 0 where
+  pub whole : text ≡ 32 ∷ (name ++ rest)
   pub utf8 : IsUtf8 name
   pub filled : IsFilled (chars name)
   pub lacking : Lacks attribute_stops (chars name)
-  pub quoted : IsQuoted value rest behind
 
 -- the bytes of a text are those of "&", a name, ";", and what follows them
 pub record IsReferenceAt (name rest text : List ℕ) : Type 0 where
@@ -110,14 +95,29 @@ HoldsName false old new cs = new ≡ old
 abbrev pub opened_tag : {K : Type 0} → Tokenizer K → TagKind → List ℕ → Tokenizer K
 opened_tag k kind name = record k { tag = named kind (map to_ascii_lowercase name); state = state.TagName }
 
--- the machine behind an attribute with a value in quotes
-abbrev pub with_quoted : {K : Type 0} → Tokenizer K → List ℕ → List ℕ → Tokenizer K
-with_quoted k name value = record k { tag = with_attribute k.tag (map to_ascii_lowercase name) value; attribute_name = []; attribute_value = []; state = state.AfterAttributeValueQuoted }
+-- the machine in an attribute's name of which this was read
+abbrev pub naming : {K : Type 0} → Tokenizer K → List ℕ → Tokenizer K
+naming k name = record k { attribute_name = map to_ascii_lowercase name; state = state.AttributeName }
 
--- the machine stands behind a tag's name, or behind a value in quotes
+-- the machine with an attribute of this value in its tag
+abbrev pub with_value : {K : Type 0} → Tokenizer K → List ℕ → Tokenizer K
+with_value k value = record k { tag = with_attribute k.tag k.attribute_name value; attribute_name = []; attribute_value = [] }
+
+-- the machine with the attribute in its tag that it reads in this state, if it reads one
+abbrev pub ended_in : {K : Type 0} → State → Tokenizer K → Tokenizer K
+ended_in state.AttributeName k = with_value k []
+ended_in (state.AttributeValue kind) k = with_value k k.attribute_value
+ended_in _ k = k
+
+abbrev pub ended : {K : Type 0} → Tokenizer K → Tokenizer K
+ended k = ended_in k.state k
+
+-- the machine stands behind a tag's name or a value in quotes, or in an attribute's name or a value without quotes
 pub data IsInTag {K : Type 0} (k : Tokenizer K) : Type 0 where
   after_name : IsAt k state.TagName → IsInTag k
   after_value : IsAt k state.AfterAttributeValueQuoted → IsInTag k
+  in_name : IsAt k state.AttributeName → IsInTag k
+  in_value : IsAt k (state.AttributeValue value.Unquoted) → IsInTag k
 
 -- the machine is in data and holds nothing, no byte order mark may come, and errors of single characters are not told
 pub record ReadsTags {K : Type 0} (k : Tokenizer K) : Type 0 where

@@ -1,6 +1,7 @@
 -- The characters that come, of those of the input.
-use Rattle.std.specs.Prelude.{if◌then◌else◌, nat_eq, ◌≡◌, ◌<◌, ℕ, false, List, [], ◌∷◌, ◌++◌, length, Option, Some, None, IfSome}
+use Rattle.std.specs.Prelude.{if◌then◌else◌, nat_eq, ◌≡◌, ◌<◌, ℕ, false, List, [], ◌∷◌, ◌++◌, length, All, Option, Some, None, IfSome}
 use Rattle.html_queue.specs.Queue.{Queue, Takes}
+use Rattle.html_queue.specs.Set.{has}
 use Rattle.html_tokens.specs.NormalText.{newlines_behind, without_mark}
 use Rattle.html_tokenizer.specs.declared.tokenizer.Stream.{Stream}
 
@@ -60,3 +61,11 @@ pub record NewlineMade (old new : Stream) (from to : Queue) (c : ℕ) (d : Optio
   pub front : (t : List ℕ) → newlines_behind old.ignore_lf (c ∷ more ++ t) ≡ before d (newlines_behind new.ignore_lf t)
   pub changed : new ≡ record old { ignore_lf = new.ignore_lf }
   pub last : IfSome d (λ d. newline_for (last_of (c ∷ more)) ≡ d)
+
+-- The next of the characters that come are this run, which is not empty. None of them is in the set with these bits.
+pub record ComesAsRun (bits : ℕ) (old new : Stream) (from to : Queue) (run : List ℕ) : Type 0 where
+  pub takes : Takes run from to
+  pub front : (t : List ℕ) → coming_in old (run ++ t) ≡ run ++ coming_in new t
+  pub changed : new ≡ record old { ignore_lf = new.ignore_lf; discard_bom = new.discard_bom }
+  pub filled : 0 < length run
+  pub lacking : All (λ c. has bits c ≡ false) run

@@ -8,7 +8,6 @@ pub mod HeldChars
 pub mod Input
 pub mod Keywords
 pub mod Laws
-pub mod Pieces
 pub mod Quotes
 pub mod Ready
 pub mod Rest

@@ -62,6 +62,11 @@ stops_of true char_ref st = None
 stops_of false None st = state_stops st
 stops_of false (Some held) st = None
 
+-- these are the stops where the machine stands, and line ends are among them
+pub record IsStoppedBy {K : Type 0} (set : SmallCharSet) (k : Tokenizer K) : Type 0 where
+  pub are : stops_of k.stream.exact_errors k.char_ref k.state ≡ Some set
+  pub breaks : HasBreaks set
+
 -- A run, which is not empty, of characters that are no stops where the machine stands.
 pub record IsRunAt {K : Type 0} (k : Tokenizer K) (run : List ℕ) : Type 0 where
   pub stops : SmallCharSet

@@ -94,7 +94,7 @@ impl<Sink: TokenSink> Tokenizer<Sink> {
     }
 
     /// Adds the attribute that was read to the tag, without a value.
-    fn finish_without_value(&mut self) -> Result<(), ParseFault>
+    pub(crate) fn finish_without_value(&mut self) -> Result<(), ParseFault>
         ensures ok { OnOk result (self.new ≡ record self.old { tag = with_attribute self.old.tag self.old.attribute_name []; attribute_name = []; attribute_value = [] }) }
         ensures fault { IfErr result (λ fault. fault ≡ Memory) }
         ensures sink { self.new.sink ≡ self.old.sink }

@@ -1,34 +1,19 @@
 //! The input, taken piece by piece.
-ghost use Rattle.std.specs.Prelude.{◌≡◌, IfOk, IfErr, OnErr};
-ghost use Rattle.markup.specs.declared.fault.ParseFault.TheVariants.{Memory};
-ghost use Rattle.html_tokenizer.specs.Calls.{IsReady, KeepsText, Moves, NextsAt, Runs};
+ghost use Rattle.std.specs.Prelude.{◌≡◌, false};
+ghost use Rattle.html_tokenizer.specs.Calls.{IsReady, KeepsText, Moves, Runs};
 ghost use Rattle.html_tokenizer.specs.Fronts.{IsInTag, ReadsTags};
-ghost use Rattle.html_tokenizer.specs.Stops.{IsRunAt};
+ghost use Rattle.html_tokenizer.specs.Stops.{IsRunAt, IsStoppedBy};
 
 use crate::front_references::reference_of;
 use crate::front_tags::opening_of;
-use crate::piece::Piece;
 use crate::text_runs::data_stops;
 use crate::tokenizer::Tokenizer;
-use html_queue::BufferQueue;
+use html_queue::{BufferQueue, SmallCharSet};
 use html_tokens::ProcessResult;
 use html_tokens::sink::TokenSink;
 use markup::{ParseFault, Text, TokenizerResult};
 
 impl<Sink: TokenSink> Tokenizer<Sink> {
-    /// What comes next of the input: a run of text where runs are read, or else a character.
-    fn next(&mut self, input: &mut BufferQueue) -> Result<Piece, ParseFault>
-        ensures ok { IfOk result (NextsAt self.old self.new.stream input.old input.new) }
-        ensures kept { self.new ≡ record self.old { stream = self.new.stream } }
-        ensures err { IfErr result (λ fault. fault ≡ Memory) }
-        ensures left { OnErr result (input.new ≡ input.old) }
-    {
-        match self.stops() {
-            Some(stops) => self.stream.next_piece(stops, input),
-            None => Ok(self.stream.next_one(input)),
-        }
-    }
-
     /// Takes a run of text, and goes on.
     fn take_text(&mut self, run: Text) -> Result<ProcessResult<Sink::Handle>, ParseFault>
         requires run { IsRunAt self.old run }
@@ -39,7 +24,43 @@ impl<Sink: TokenSink> Tokenizer<Sink> {
         Ok(ProcessResult::Continue)
     }
 
-    /// Takes what comes next of the input: a character, or a run of text.
+    /// Takes the next character of the input.
+    fn move_by_one(
+        &mut self,
+        input: &mut BufferQueue,
+    ) -> Result<ProcessResult<Sink::Handle>, ParseFault>
+        requires ready { IsReady Sink.TokenSink self.old }
+        ensures { Moves Sink.TokenSink self.old self.new input.old input.new result }
+    {
+        match self.stream.next_char(input) {
+            Some(c) => self.take(c),
+            None => Ok(ProcessResult::Suspend),
+        }
+    }
+
+    /// Takes the characters at the front of the input of which none is a stop, or else the next one.
+    fn move_by_run(
+        &mut self,
+        stops: SmallCharSet,
+        input: &mut BufferQueue,
+    ) -> Result<ProcessResult<Sink::Handle>, ParseFault>
+        requires ready { IsReady Sink.TokenSink self.old }
+        requires stops { IsStoppedBy stops self.old }
+        requires unmarked { self.old.stream.discard_bom ≡ false }
+        ensures { Moves Sink.TokenSink self.old self.new input.old input.new result }
+    {
+        let (run, _rest) = stops.split(input.as_str());
+        if run.is_empty() {
+            return self.move_by_one(input);
+        }
+        let width = run.len();
+        let made = Text::from_str(self.stream.alloc, run)?;
+        self.stream.ignore_lf = false;
+        input.skip(width);
+        self.take_text(made)
+    }
+
+    /// Takes what comes next of the input: a run of text where runs are read, or else a character.
     fn move_by_piece(
         &mut self,
         input: &mut BufferQueue,
@@ -47,31 +68,13 @@ impl<Sink: TokenSink> Tokenizer<Sink> {
         requires ready { IsReady Sink.TokenSink self.old }
         ensures { Moves Sink.TokenSink self.old self.new input.old input.new result }
     {
-        match self.next(input)? {
-            Piece::Nothing => Ok(ProcessResult::Suspend),
-            Piece::Char(c) => self.take(c),
-            Piece::Run(run) => self.take_text(run),
+        if self.stream.discard_bom {
+            return self.move_by_one(input);
         }
-    }
-
-    /// Takes a run of text of data from the front of the input, or else what comes next.
-    fn move_by_run(
-        &mut self,
-        input: &mut BufferQueue,
-    ) -> Result<ProcessResult<Sink::Handle>, ParseFault>
-        requires ready { IsReady Sink.TokenSink self.old }
-        requires tags { ReadsTags self.old }
-        ensures { Moves Sink.TokenSink self.old self.new input.old input.new result }
-    {
-        let (run, _rest) = data_stops().split(input.as_str());
-        if run.is_empty() {
-            return self.move_by_piece(input);
+        match self.stops() {
+            Some(stops) => self.move_by_run(stops, input),
+            None => self.move_by_one(input),
         }
-        let width = run.len();
-        let made = Text::from_str(self.stream.alloc, run)?;
-        self.stream.ignore_lf = false;
-        input.skip(width);
-        self.take_text(made)
     }
 
     /// Holds a reference by name from the front of the input at once, or else takes what comes next.
@@ -85,7 +88,7 @@ impl<Sink: TokenSink> Tokenizer<Sink> {
     {
         let text = input.as_str();
         let Some((name, rest)) = reference_of(text) else {
-            return self.move_by_run(input);
+            return self.move_by_run(data_stops(), input);
         };
         let holds = self.hold_name(name)?;
         if !holds {
@@ -117,7 +120,7 @@ impl<Sink: TokenSink> Tokenizer<Sink> {
         Ok(ProcessResult::Continue)
     }
 
-    /// Takes what comes next of the input behind a tag's name or a value in quotes, where `>` ends the tag.
+    /// Takes what comes next of the input in a tag where `>` ends it.
     fn move_in_tag(
         &mut self,
         input: &mut BufferQueue,
@@ -130,7 +133,7 @@ impl<Sink: TokenSink> Tokenizer<Sink> {
             return Ok(ProcessResult::Suspend);
         };
         if c == '>' {
-            return self.emit_tag();
+            return self.close_tag();
         }
         self.take(c)
     }
@@ -146,7 +149,7 @@ impl<Sink: TokenSink> Tokenizer<Sink> {
         if self.reads_tags() {
             return self.move_by_tag(input);
         }
-        if self.is_in_tag() {
+        if self.is_in_tag() && input.peek() == Some('>') {
             return self.move_in_tag(input);
         }
         self.move_by_piece(input)

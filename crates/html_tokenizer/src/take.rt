@@ -1,9 +1,10 @@
 //! One character of the input, with its line and its own errors.
-ghost use Rattle.std.specs.Prelude.{◌≡◌, ◌∷◌, [], true};
+ghost use Rattle.std.specs.Prelude.{◌≡◌, ◌∷◌, [], true, false};
+ghost use Rattle.html_tokens.specs.declared.states.State.TheVariants as state;
 ghost use Rattle.html_tokenizer.specs.Calls.{Passes, counted, owed_for_text};
 ghost use Rattle.html_tokenizer.specs.Rest.{rows_of};
 ghost use Rattle.html_tokenizer.specs.CharRefs.{fits_in};
-ghost use Rattle.html_tokenizer.specs.Steps.{Errs, Keeps};
+ghost use Rattle.html_tokenizer.specs.Steps.{Errs, IsAt, Keeps};
 
 use crate::characters::{forbidden_code, is_forbidden};
 use crate::held_reference::Ampersand;
@@ -51,12 +52,30 @@ impl<Sink: TokenSink> Tokenizer<Sink> {
         }
     }
 
+    /// Takes a character of data where errors of single characters are not told, and counts its line.
+    fn take_in_data(
+        &mut self,
+        c: char,
+    ) -> Result<ProcessResult<Sink::Handle>, ParseFault>
+        requires at { IsAt self.old state.Data }
+        requires plain { self.old.stream.exact_errors ≡ false }
+        requires sound { Sink.is_sound (Sink.view self.old.sink) }
+        ensures { Passes Sink.TokenSink self.old self.new c result }
+    {
+        let result = self.data_state(c)?;
+        self.stream.count_break(c);
+        Ok(result)
+    }
+
     /// Takes a character, and counts its line.
     pub(crate) fn take(&mut self, c: char) -> Result<ProcessResult<Sink::Handle>, ParseFault>
         requires sound { Sink.is_sound (Sink.view self.old.sink) }
         requires fits { fits_in (rows_of self.old) self.old.char_ref self.old.state ≡ true }
         ensures { Passes Sink.TokenSink self.old self.new c result }
     {
+        if self.reads_tags() {
+            return self.take_in_data(c);
+        }
         self.tell_forbidden(c)?;
         let result = self.advance(c)?;
         self.stream.count_break(c);

@@ -1,7 +1,7 @@
 use Rattle.std.proofs.Common.{refl}
 use Rattle.html_tokenizer.proofs.Feeding.{moved-run}
 use Rattle.html_tokenizer.proofs.FrontRuns.{run-at, run-comes_at, run-cut}
-use Rattle.html_tokenizer.proofs.Fronts.{heeding, not-fronted}
+use Rattle.html_tokenizer.proofs.Fronts.{heeding}
 use Rattle.html_tokenizer.proofs.tokenizer.Tokenizer.move_by_run.Goals as goal
 
 pub skip-requires : goal.skip-requires
@@ -10,13 +10,12 @@ skip-requires g c = run-cut c.as_str.result.now _ c.split.result.0.now c.split.r
 pub take_text-requires-clause-run : goal.take_text-requires-clause-run
 take_text-requires-clause-run g c =
     let m = g.Sink.TokenSink in
-    run-at (heeding m c.args.self.now) c.split.result.0.now c.in_ok-made.made _
-    (record { at = record { state = c.requires.tags.at.state; fresh = c.requires.tags.at.fresh }; plain = c.requires.tags.plain; unmarked = c.requires.tags.unmarked })
-    c.split.ensures.cut c.in_ok-made.ensures.ok c.is_empty.ensures c.if-is_empty.false (rw c.data_stops.ensures at c.split.ensures.lacking)
+    run-at (heeding m c.args.self.now) c.args.stops c.split.result.0.now c.in_ok-made.made _ (record { are = c.requires.stops.are; breaks = c.requires.stops.breaks })
+    c.split.ensures.cut c.in_ok-made.ensures.ok c.is_empty.ensures c.if-is_empty.false c.split.ensures.lacking
 
 pub returns : goal.returns
 returns g c =
     let m = g.Sink.TokenSink in
     moved-run m c.args.self.now (heeding m c.args.self.now) c.take_text.new.self c.args.input.now c.skip.new.self c.in_ok-made.made c.take_text.result refl
-    (run-comes_at c.args.self.now c.as_str.result.now _ c.split.result.0.now c.split.result.1.now c.in_ok-made.made _ c.args.input.now c.skip.new.self c.requires.tags c.as_str.ensures c.split.ensures.whole c.split.ensures.cut c.in_ok-made.ensures.ok c.is_empty.ensures c.if-is_empty.false (rw c.data_stops.ensures at c.split.ensures.lacking) c.skip.ensures)
+    (run-comes_at c.args.self.now c.args.stops c.as_str.result.now _ c.split.result.0.now c.split.result.1.now c.in_ok-made.made _ c.args.input.now c.skip.new.self c.requires.stops c.requires.unmarked c.as_str.ensures c.split.ensures.whole c.split.ensures.cut c.in_ok-made.ensures.ok c.is_empty.ensures c.if-is_empty.false c.split.ensures.lacking c.skip.ensures)
     c.take_text.ensures

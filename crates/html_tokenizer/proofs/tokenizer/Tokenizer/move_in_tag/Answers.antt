@@ -1,18 +1,17 @@
 use Rattle.std.proofs.Common.{refl}
 use Rattle.html_tokenizer.proofs.Feeding.{moved-nowhere, moved-one}
 use Rattle.html_tokenizer.proofs.FrontRuns.{in-tag-still, tag-passes}
-use Rattle.html_tokenizer.proofs.FrontTags.{in-tag-fresh}
 use Rattle.html_tokenizer.proofs.tokenizer.Tokenizer.move_in_tag.Goals as goal
 
-pub emit_tag-requires-clause-fresh : goal.emit_tag-requires-clause-fresh
-emit_tag-requires-clause-fresh g c = in-tag-fresh g.Sink.TokenSink c.args.self.now c.requires.at
+pub close_tag-requires-clause-at : goal.close_tag-requires-clause-at
+close_tag-requires-clause-at g c = in-tag-still c.args.self.now c.next_char.new.self c.requires.at
 
 pub returns-then-c-eq62 : goal.returns-then-c-eq62
 returns-then-c-eq62 g c =
     let m = g.Sink.TokenSink in
     let mid = record c.args.self.now { stream = c.next_char.new.self } in
-    moved-one m c.args.self.now mid c.emit_tag.new.self c.args.input.now c.next_char.new.input c.in-Some.c c.emit_tag.result refl (rw c.in-Some.is at c.next_char.ensures)
-    (tag-passes m mid c.emit_tag.new.self c.in-Some.c c.emit_tag.result (in-tag-still c.args.self.now c.next_char.new.self c.requires.at) c.requires.ready.sound c.if-c-eq62.true c.emit_tag.ensures)
+    moved-one m c.args.self.now mid c.close_tag.new.self c.args.input.now c.next_char.new.input c.in-Some.c c.close_tag.result refl (rw c.in-Some.is at c.next_char.ensures)
+    (tag-passes m mid c.close_tag.new.self c.in-Some.c c.close_tag.result c.if-c-eq62.true c.close_tag.ensures)
 
 pub returns : goal.returns
 returns g c =

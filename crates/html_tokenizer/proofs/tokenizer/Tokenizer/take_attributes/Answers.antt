@@ -1,15 +1,17 @@
 use Rattle.std.proofs.Common.{◌∙◌, refl}
-use Rattle.html_tokenizer.proofs.FrontTags.{attributes-begin, attributes-more, attribute-in}
+use Rattle.html_tokenizer.proofs.FrontAttributes.{attributes-begin, attributes-more}
 use Rattle.html_tokenizer.proofs.tokenizer.Tokenizer.take_attributes.Goals as goal
 
-pub loop-attribute-init : goal.loop-attribute-init
-loop-attribute-init g c =
+pub loop-name-init : goal.loop-name-init
+loop-name-init g c =
     let m = g.Sink.TokenSink in
-    (c.utf8.text, c.requires.at, attributes-begin m c.args.self.now c.args.text.now c.requires.at c.requires.sound, refl)
+    (c.utf8.text, attributes-begin m c.args.self.now c.args.text.now c.requires.at c.requires.sound, refl)
 
-pub loop-attribute-preserved : goal.loop-attribute-preserved
-loop-attribute-preserved g c =
+pub loop-name-preserved : goal.loop-name-preserved
+loop-name-preserved g c =
     let m = g.Sink.TokenSink in
-    let is = c.in-Some.ensures in
-    let at = c.loop-attribute.invariant.1 in
-    (is.quoted.rest_utf8, attribute-in m _ _ _ _ at c.in_ok-take_quoted.ensures.ok, attributes-more m _ _ _ _ _ _ _ _ at c.loop-attribute.invariant.2 is c.in_ok-take_quoted.ensures.ok, c.take_quoted.ensures.sink ∙ c.loop-attribute.invariant.3)
+    (
+      c.in_ok-rest.ensures.utf8,
+      attributes-more m c.args.self.now c.loop-name.self c.begin_attribute.new.self c.take_equals.new.self _ _ _ _ _ c.in-Some.ensures.at c.loop-name.invariant.1 c.in-Some.ensures.name c.in_ok-begin_attribute.ensures.ok c.in_ok-rest.ensures.ok,
+      c.take_equals.ensures.sink ∙ c.begin_attribute.ensures.sink ∙ c.loop-name.invariant.2,
+    )

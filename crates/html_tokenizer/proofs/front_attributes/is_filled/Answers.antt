@@ -1,5 +1,5 @@
 use Rattle.html_tokenizer.proofs.FrontTexts.{filled-if}
-use Rattle.html_tokenizer.proofs.front_tags.is_filled.Goals as goal
+use Rattle.html_tokenizer.proofs.front_attributes.is_filled.Goals as goal
 
 pub returns : goal.returns
 returns c = filled-if c.args.text.now c.is_empty.result c.utf8.text c.is_empty.ensures

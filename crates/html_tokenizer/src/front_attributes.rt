@@ -1,0 +1,225 @@
+//! Attributes at the front of the input, which are taken at once behind one space each (HTML Standard, sections 13.2.5.32 to
+//! 13.2.5.39): the name, and a value as far as its characters stand for themselves.
+ghost use Rattle.std.specs.Prelude.{◌≡◌, ◌<◌, ◌∷◌, true, Some, IfErr, IfOk, IfSome, OnOk};
+ghost use Rattle.std.specs.Str.{IsUtf8, chars};
+ghost use Rattle.html_tokens.specs.declared.states.State.TheVariants as state;
+ghost use Rattle.markup.specs.declared.fault.ParseFault.TheVariants.{Memory};
+ghost use Rattle.html_tokenizer.specs.Fronts;
+ghost use Rattle.html_tokenizer.specs.Fronts.{IsFilled, IsInTag, IsNameAt, TakesFront, ended, naming};
+ghost use Rattle.html_tokenizer.specs.Quotes.{quote_of};
+ghost use Rattle.html_tokenizer.specs.Steps.{IsAt, Keeps};
+
+use crate::front_tags::behind;
+use crate::text_runs::{BREAKS, attribute_stops, value_stops};
+use crate::tokenizer::Tokenizer;
+use html_queue::SmallCharSet;
+use html_tokens::ProcessResult;
+use html_tokens::sink::TokenSink;
+use html_tokens::states::{AttrValueKind, State};
+use markup::{ParseFault, Text};
+
+/// The characters below U+0040 of a value without quotes that end it or do not stand for themselves.
+fn plain_stops() -> SmallCharSet
+    ensures { result ≡ Fronts.plain_stops }
+{
+    SmallCharSet {
+        bits: BREAKS
+            | 1 << 9
+            | 1 << 12
+            | 1 << 32
+            | 1 << 34
+            | 1 << 38
+            | 1 << 39
+            | 1 << 60
+            | 1 << 61
+            | 1 << 62,
+    }
+}
+
+/// Whether a grave accent stands in a text, which is an error in a value without quotes.
+fn has_grave_accent(text: &str) -> bool {
+    text.as_bytes().iter().any(|byte| *byte == b'`')
+}
+
+/// Whether a character stands at the front.
+fn is_filled(text: &str) -> bool
+    ensures { result ≡ true → IsFilled (chars text.now) }
+{
+    !text.is_empty()
+}
+
+/// The name of an attribute at the front of a text behind a space, if one stands there, and what follows it.
+fn name_of(text: &str) -> Option<(&str, &str)>
+    ensures { IfSome result (λ r. IsNameAt r.0.now r.1.now text.now) }
+{
+    let Some(inner) = behind(text, b' ') else {
+        return None;
+    };
+    let (name, rest) = attribute_stops().split(inner);
+    if !is_filled(name) {
+        return None;
+    }
+    Some((name, rest))
+}
+
+impl<Sink: TokenSink> Tokenizer<Sink> {
+    /// Whether the machine stands where `>` ends the tag, and an attribute may follow a space: behind the tag's name or a value
+    /// in quotes, or in an attribute's name or a value without quotes.
+    pub(crate) fn is_in_tag(&self) -> bool
+        ensures { result ≡ true → IsInTag self.now }
+    {
+        self.char_ref.is_none()
+            && matches!(
+                self.state,
+                State::TagName
+                    | State::AfterAttributeValueQuoted
+                    | State::AttributeName
+                    | State::AttributeValue(AttrValueKind::Unquoted)
+            )
+    }
+
+    /// Adds the attribute that is read to the tag, if one is.
+    fn end_attribute(&mut self) -> Result<(), ParseFault>
+        ensures ok { OnOk result (self.new ≡ ended self.old) }
+        ensures fault { IfErr result (λ fault. fault ≡ Memory) }
+        ensures sink { self.new.sink ≡ self.old.sink }
+    {
+        match self.state {
+            State::AttributeName => self.finish_without_value(),
+            State::AttributeValue(_) => self.finish_attribute(),
+            _ => Ok(()),
+        }
+    }
+
+    /// Ends the tag at its `>`.
+    pub(crate) fn close_tag(&mut self) -> Result<ProcessResult<Sink::Handle>, ParseFault>
+        requires at { IsInTag self.old }
+        requires sound { Sink.is_sound (Sink.view self.old.sink) }
+        ensures { Keeps Sink.TokenSink self.old self.new 62 result }
+    {
+        self.end_attribute()?;
+        self.emit_tag()
+    }
+
+    /// Begins an attribute of this name.
+    fn begin_attribute(&mut self, name: &str) -> Result<(), ParseFault>
+        ensures ok { OnOk result (self.new ≡ naming (ended self.old) (chars name.now)) }
+        ensures fault { IfErr result (λ fault. fault ≡ Memory) }
+        ensures sink { self.new.sink ≡ self.old.sink }
+    {
+        self.end_attribute()?;
+        let mut text = Text::empty(self.stream.alloc);
+        text.push_lowered(name)?;
+        self.attribute_name = text;
+        self.state = State::AttributeName;
+        Ok(())
+    }
+
+    /// Takes a value, behind its first quote, from the front of a text, as far as its characters stand for themselves: what is
+    /// left of the text.
+    fn take_quoted<'a>(
+        &mut self,
+        kind: AttrValueKind,
+        quote: u8,
+        text: &'a str,
+    ) -> Result<&'a str, ParseFault>
+        requires at { IsAt self.old state.BeforeAttributeValue }
+        requires quote { quote_of kind ≡ Some quote }
+        requires ascii { quote < 128 }
+        requires sound { Sink.is_sound (Sink.view self.old.sink) }
+        ensures ok { IfOk result (λ rest. TakesFront Sink.TokenSink self.old self.new (quote ∷ text.now) rest.now) }
+        ensures utf8 { IfOk result (λ rest. IsUtf8 rest.now) }
+        ensures fault { IfErr result (λ fault. fault ≡ Memory) }
+        ensures sink { self.new.sink ≡ self.old.sink }
+    {
+        let (value, after) = value_stops(kind).split(text);
+        self.attribute_value = Text::from_str(self.stream.alloc, value)?;
+        let Some(rest) = behind(after, quote) else {
+            self.state = State::AttributeValue(kind);
+            return Ok(after);
+        };
+        self.finish_attribute()?;
+        self.state = State::AfterAttributeValueQuoted;
+        Ok(rest)
+    }
+
+    /// Takes a value without quotes from the front of a text, if it is one without an error and without a reference: what is
+    /// left of the text.
+    fn take_plain<'a>(&mut self, text: &'a str) -> Result<&'a str, ParseFault>
+        requires at { IsAt self.old state.BeforeAttributeValue }
+        requires sound { Sink.is_sound (Sink.view self.old.sink) }
+        ensures ok { IfOk result (λ rest. TakesFront Sink.TokenSink self.old self.new text.now rest.now) }
+        ensures utf8 { IfOk result (λ rest. IsUtf8 rest.now) }
+        ensures fault { IfErr result (λ fault. fault ≡ Memory) }
+        ensures sink { self.new.sink ≡ self.old.sink }
+    {
+        let (value, rest) = plain_stops().split(text);
+        if !is_filled(value) || has_grave_accent(value) {
+            return Ok(text);
+        }
+        self.attribute_value = Text::from_str(self.stream.alloc, value)?;
+        self.state = State::AttributeValue(AttrValueKind::Unquoted);
+        Ok(rest)
+    }
+
+    /// Takes a value behind `=` from the front of a text, as far as it can be taken at once: what is left of the text.
+    fn take_value<'a>(&mut self, text: &'a str) -> Result<&'a str, ParseFault>
+        requires at { IsAt self.old state.BeforeAttributeValue }
+        requires sound { Sink.is_sound (Sink.view self.old.sink) }
+        ensures ok { IfOk result (λ rest. TakesFront Sink.TokenSink self.old self.new text.now rest.now) }
+        ensures utf8 { IfOk result (λ rest. IsUtf8 rest.now) }
+        ensures fault { IfErr result (λ fault. fault ≡ Memory) }
+        ensures sink { self.new.sink ≡ self.old.sink }
+    {
+        if let Some(inner) = behind(text, b'"') {
+            return self.take_quoted(AttrValueKind::DoubleQuoted, b'"', inner);
+        }
+        if let Some(inner) = behind(text, b'\'') {
+            return self.take_quoted(AttrValueKind::SingleQuoted, b'\'', inner);
+        }
+        self.take_plain(text)
+    }
+
+    /// Takes what follows an attribute's name, if it is `=`, and the value behind it: what is left of the text.
+    fn take_equals<'a>(&mut self, text: &'a str) -> Result<&'a str, ParseFault>
+        requires at { IsAt self.old state.AttributeName }
+        requires sound { Sink.is_sound (Sink.view self.old.sink) }
+        ensures ok { IfOk result (λ rest. TakesFront Sink.TokenSink self.old self.new text.now rest.now) }
+        ensures utf8 { IfOk result (λ rest. IsUtf8 rest.now) }
+        ensures fault { IfErr result (λ fault. fault ≡ Memory) }
+        ensures sink { self.new.sink ≡ self.old.sink }
+    {
+        let Some(inner) = behind(text, b'=') else {
+            return Ok(text);
+        };
+        self.state = State::BeforeAttributeValue;
+        self.take_value(inner)
+    }
+
+    /// The name of an attribute at the front of a text, where one may stand, and what follows it.
+    fn next_name<'a>(&self, text: &'a str) -> Option<(&'a str, &'a str)>
+        ensures at { IfSome result (λ r. IsInTag self.now) }
+        ensures name { IfSome result (λ r. IsNameAt r.0.now r.1.now text.now) }
+    {
+        if !self.is_in_tag() {
+            return None;
+        }
+        name_of(text)
+    }
+
+    /// Takes the attributes at the front of a text, as far as they can be taken at once: what is left of the text.
+    pub(crate) fn take_attributes<'a>(&mut self, text: &'a str) -> Result<&'a str, ParseFault>
+        requires at { IsInTag self.old }
+        requires sound { Sink.is_sound (Sink.view self.old.sink) }
+        ensures ok { IfOk result (λ rest. TakesFront Sink.TokenSink self.old self.new text.now rest.now) }
+        ensures fault { IfErr result (λ fault. fault ≡ Memory) }
+        ensures sink { self.new.sink ≡ self.old.sink }
+    {
+        let mut rest = text;
+        while let Some((name, after)) = self.next_name(rest) {
+            self.begin_attribute(name)?;
+            rest = self.take_equals(after)?;
+        }
+        Ok(rest)
+    }
+}
