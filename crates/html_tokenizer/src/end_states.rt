@@ -252,6 +252,7 @@ impl<Sink: TokenSink> Tokenizer<Sink> {
             State::Data => self.end_data_reference(held),
             State::RawData(RawKind::Rcdata) => self.end_rcdata_reference(held),
             State::AttributeValue(kind) => self.end_value_reference(kind, held),
+            // Never met: behind `&` the machine is in one of these three.
             _ => Ok(()),
         }
     }

@@ -9,8 +9,11 @@ ghost use Rattle.html_tokenizer.specs.Fronts.{IsFilled, IsInTag, IsNameAt, Takes
 ghost use Rattle.html_tokenizer.specs.Quotes.{quote_of};
 ghost use Rattle.html_tokenizer.specs.Steps.{IsAt, Keeps};
 
+use crate::char_bits::{
+    AMPERSAND, APOSTROPHE, BREAKS, EQUALS, FORM_FEED, GREATER_THAN, LESS_THAN, QUOTE, SPACE, TAB,
+};
 use crate::front_tags::behind;
-use crate::text_runs::{BREAKS, attribute_stops, value_stops};
+use crate::text_runs::{attribute_stops, value_stops};
 use crate::tokenizer::Tokenizer;
 use html_queue::SmallCharSet;
 use html_tokens::ProcessResult;
@@ -24,15 +27,15 @@ fn plain_stops() -> SmallCharSet
 {
     SmallCharSet {
         bits: BREAKS
-            | 1 << 9
-            | 1 << 12
-            | 1 << 32
-            | 1 << 34
-            | 1 << 38
-            | 1 << 39
-            | 1 << 60
-            | 1 << 61
-            | 1 << 62,
+            | TAB
+            | FORM_FEED
+            | SPACE
+            | QUOTE
+            | AMPERSAND
+            | APOSTROPHE
+            | LESS_THAN
+            | EQUALS
+            | GREATER_THAN,
     }
 }
 

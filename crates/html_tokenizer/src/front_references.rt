@@ -5,9 +5,9 @@ ghost use Rattle.markup.specs.declared.fault.ParseFault.TheVariants.{Memory};
 ghost use Rattle.html_tokenizer.specs.Fronts;
 ghost use Rattle.html_tokenizer.specs.Fronts.{HoldsName, IsReferenceAt};
 
+use crate::char_bits::{AMPERSAND, BREAKS, FORM_FEED, LESS_THAN, SEMICOLON, SPACE, TAB};
 use crate::front_tags::behind;
 use crate::held_reference::{Ampersand, HeldReference};
-use crate::text_runs::BREAKS;
 use crate::tokenizer::Tokenizer;
 use html_queue::SmallCharSet;
 use html_tokens::sink::TokenSink;
@@ -18,7 +18,7 @@ fn reference_stops() -> SmallCharSet
     ensures { result ≡ Fronts.reference_stops }
 {
     SmallCharSet {
-        bits: BREAKS | 1 << 9 | 1 << 12 | 1 << 32 | 1 << 38 | 1 << 59 | 1 << 60,
+        bits: BREAKS | TAB | FORM_FEED | SPACE | AMPERSAND | SEMICOLON | LESS_THAN,
     }
 }
 

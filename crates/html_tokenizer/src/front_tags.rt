@@ -8,8 +8,8 @@ ghost use Rattle.html_tokenizer.specs.Fronts;
 ghost use Rattle.html_tokenizer.specs.Fronts.{BeginsWithLetter, IsNamed, IsOpening, IsTagName, ReadsTags, TakesFront, mark, opened_tag};
 ghost use Rattle.html_tokenizer.specs.Steps.{IsAt};
 
+use crate::char_bits::{BREAKS, FORM_FEED, GREATER_THAN, SOLIDUS, SPACE, TAB};
 use crate::tag_states::nameless;
-use crate::text_runs::BREAKS;
 use crate::tokenizer::Tokenizer;
 use html_queue::SmallCharSet;
 use html_tokens::TagKind;
@@ -22,7 +22,7 @@ fn name_stops() -> SmallCharSet
     ensures { result ≡ Fronts.name_stops }
 {
     SmallCharSet {
-        bits: BREAKS | 1 << 9 | 1 << 12 | 1 << 32 | 1 << 47 | 1 << 62,
+        bits: BREAKS | TAB | FORM_FEED | SPACE | SOLIDUS | GREATER_THAN,
     }
 }
 

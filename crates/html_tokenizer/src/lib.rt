@@ -4,6 +4,7 @@
 mod attribute_states;
 mod calls;
 mod cdata_states;
+mod char_bits;
 mod characters;
 mod comment_states;
 mod declaration_states;

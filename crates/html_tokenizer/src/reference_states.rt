@@ -107,10 +107,7 @@ impl<Sink: TokenSink> Tokenizer<Sink> {
     }
 
     /// A letter or digit of an unknown name in data.
-    fn take_unknown_in_data(
-        &mut self,
-        c: char,
-    ) -> Result<ProcessResult<Sink::Handle>, ParseFault>
+    fn take_unknown_in_data(&mut self, c: char) -> Result<ProcessResult<Sink::Handle>, ParseFault>
         requires at { IsAt self.old state.Data }
         requires named { is_ascii_alphanumeric c ≡ true }
         requires sound { Sink.is_sound (Sink.view self.old.sink) }
@@ -122,10 +119,7 @@ impl<Sink: TokenSink> Tokenizer<Sink> {
     }
 
     /// The same in text with references that only its end tag ends.
-    fn take_unknown_in_rcdata(
-        &mut self,
-        c: char,
-    ) -> Result<ProcessResult<Sink::Handle>, ParseFault>
+    fn take_unknown_in_rcdata(&mut self, c: char) -> Result<ProcessResult<Sink::Handle>, ParseFault>
         requires at { IsAt self.old (state.RawData raw.Rcdata) }
         requires named { is_ascii_alphanumeric c ≡ true }
         requires sound { Sink.is_sound (Sink.view self.old.sink) }
@@ -164,6 +158,7 @@ impl<Sink: TokenSink> Tokenizer<Sink> {
             State::Data => self.take_unknown_in_data(c),
             State::RawData(RawKind::Rcdata) => self.take_unknown_in_rcdata(c),
             State::AttributeValue(kind) => self.take_unknown_in_value(kind, c),
+            // Never met: behind `&` the machine is in one of these three.
             _ => Ok(ProcessResult::Continue),
         }
     }
@@ -207,6 +202,7 @@ impl<Sink: TokenSink> Tokenizer<Sink> {
             State::Data => self.end_reference_in_data(&held, c),
             State::RawData(RawKind::Rcdata) => self.end_reference_in_rcdata(&held, c),
             State::AttributeValue(kind) => self.end_reference_in_value(kind, &held, c),
+            // Never met: behind `&` the machine is in one of these three.
             _ => Ok(ProcessResult::Continue),
         }
     }

@@ -53,10 +53,7 @@ impl<Sink: TokenSink> Tokenizer<Sink> {
     }
 
     /// Takes a character of data where errors of single characters are not told, and counts its line.
-    fn take_in_data(
-        &mut self,
-        c: char,
-    ) -> Result<ProcessResult<Sink::Handle>, ParseFault>
+    fn take_in_data(&mut self, c: char) -> Result<ProcessResult<Sink::Handle>, ParseFault>
         requires at { IsAt self.old state.Data }
         requires plain { self.old.stream.exact_errors ≡ false }
         requires sound { Sink.is_sound (Sink.view self.old.sink) }

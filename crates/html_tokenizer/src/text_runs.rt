@@ -4,6 +4,10 @@ ghost use Rattle.html_tokenizer.specs.Stops as stops;
 ghost use Rattle.html_tokenizer.specs.Stops.{HasBreaks, IsRunAt};
 ghost use Rattle.html_tokenizer.specs.Calls.{KeepsRun};
 
+use crate::char_bits::{
+    AMPERSAND, APOSTROPHE, BREAKS, EQUALS, FORM_FEED, GREATER_THAN, HYPHEN, LESS_THAN, QUOTE,
+    SOLIDUS, SPACE, TAB,
+};
 use crate::tokenizer::Tokenizer;
 use html_queue::SmallCharSet;
 use html_tokens::Token;
@@ -11,15 +15,12 @@ use html_tokens::sink::TokenSink;
 use html_tokens::states::{AttrValueKind, RawKind, State};
 use markup::{ParseFault, Text};
 
-/// NUL, line feed and carriage return.
-pub(crate) const BREAKS: u64 = 1 << 0 | 1 << 10 | 1 << 13;
-
 /// The characters of data that are no plain text.
 pub(crate) fn data_stops() -> SmallCharSet
     ensures { result ≡ stops.data_stops }
 {
     SmallCharSet {
-        bits: BREAKS | 1 << 38 | 1 << 60,
+        bits: BREAKS | AMPERSAND | LESS_THAN,
     }
 }
 
@@ -29,13 +30,13 @@ fn raw_stops(kind: RawKind) -> SmallCharSet
 {
     match kind {
         RawKind::Rcdata => SmallCharSet {
-            bits: BREAKS | 1 << 38 | 1 << 60,
+            bits: BREAKS | AMPERSAND | LESS_THAN,
         },
         RawKind::Rawtext | RawKind::ScriptData => SmallCharSet {
-            bits: BREAKS | 1 << 60,
+            bits: BREAKS | LESS_THAN,
         },
         RawKind::ScriptDataEscaped(_) => SmallCharSet {
-            bits: BREAKS | 1 << 45 | 1 << 60,
+            bits: BREAKS | HYPHEN | LESS_THAN,
         },
     }
 }
@@ -46,15 +47,15 @@ pub(crate) fn attribute_stops() -> SmallCharSet
 {
     SmallCharSet {
         bits: BREAKS
-            | 1 << 9
-            | 1 << 12
-            | 1 << 32
-            | 1 << 34
-            | 1 << 39
-            | 1 << 47
-            | 1 << 60
-            | 1 << 61
-            | 1 << 62,
+            | TAB
+            | FORM_FEED
+            | SPACE
+            | QUOTE
+            | APOSTROPHE
+            | SOLIDUS
+            | LESS_THAN
+            | EQUALS
+            | GREATER_THAN,
     }
 }
 
@@ -64,13 +65,13 @@ pub(crate) fn value_stops(kind: AttrValueKind) -> SmallCharSet
 {
     match kind {
         AttrValueKind::Unquoted => SmallCharSet {
-            bits: BREAKS | 1 << 9 | 1 << 12 | 1 << 32 | 1 << 38 | 1 << 62,
+            bits: BREAKS | TAB | FORM_FEED | SPACE | AMPERSAND | GREATER_THAN,
         },
         AttrValueKind::SingleQuoted => SmallCharSet {
-            bits: BREAKS | 1 << 38 | 1 << 39,
+            bits: BREAKS | AMPERSAND | APOSTROPHE,
         },
         AttrValueKind::DoubleQuoted => SmallCharSet {
-            bits: BREAKS | 1 << 34 | 1 << 38,
+            bits: BREAKS | QUOTE | AMPERSAND,
         },
     }
 }
@@ -91,10 +92,10 @@ impl<Sink: TokenSink> Tokenizer<Sink> {
             State::AttributeName => Some(attribute_stops()),
             State::AttributeValue(kind) => Some(value_stops(kind)),
             State::BogusComment => Some(SmallCharSet {
-                bits: BREAKS | 1 << 62,
+                bits: BREAKS | GREATER_THAN,
             }),
             State::Comment => Some(SmallCharSet {
-                bits: BREAKS | 1 << 45,
+                bits: BREAKS | HYPHEN,
             }),
             _ => None,
         }
