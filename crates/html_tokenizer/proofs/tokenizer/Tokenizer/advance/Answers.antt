@@ -1,11 +1,17 @@
-use Rattle.std.proofs.Common.{◌∙◌, Some, sym}
+use Rattle.std.proofs.Common.{◌∙◌, Some, ap, sym}
+use Rattle.html_tokenizer.specs.declared.held_reference.Ampersand.TheVariants.{Held, Unknown}
 use Rattle.html_tokenizer.proofs.Taking.{advanced}
 use Rattle.html_tokenizer.proofs.tokenizer.Tokenizer.advance.Goals as goal
 
-pub returns-in-Some : goal.returns-in-Some
-returns-in-Some g c =
+pub returns-in-Some-Held : goal.returns-in-Some-Held
+returns-in-Some-Held g c =
     let m = g.Sink.TokenSink in
-    advanced m c.args.self.now c.reference_state.new.self (Some c.in-Some.held) _ _ (sym c.in-Some.is ∙ c.take.ensures.value) c.reference_state.ensures
+    advanced m c.args.self.now c.reference_state.new.self (Some (Held c.in-Some-Held.held)) _ _ (sym (ap Some c.in-Some-Held.field-0-is) ∙ (sym c.in-Some-Held.is ∙ c.take.ensures.value)) c.reference_state.ensures
+
+pub returns-in-Some-Unknown : goal.returns-in-Some-Unknown
+returns-in-Some-Unknown g c =
+    let m = g.Sink.TokenSink in
+    advanced m c.args.self.now c.ambiguous_ampersand_state.new.self (Some Unknown) _ _ (sym (ap Some c.in-Some-Unknown.field-0-is) ∙ (sym c.in-Some-Unknown.is ∙ c.take.ensures.value)) c.ambiguous_ampersand_state.ensures
 
 pub returns-in-None : goal.returns-in-None
 returns-in-None g c =
