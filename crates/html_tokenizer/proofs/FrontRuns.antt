@@ -1,6 +1,5 @@
 -- Runs of text, and the ends of tags, at the front of the input.
 use Rattle.std.proofs.Common.{◌≡◌, ◌∙◌, ℕ, ◌<◌, ◌==◌, Bool, true, false, nat_eq, List, [], ◌∷◌, ◌++◌, length, take, Result, Ok, Err, refl, sym, ap, subst, arith, length-append}
-use Rattle.std.specs.Result.{IsErrAnd}
 use Rattle.std.specs.Str.{IsCharBoundary, IsUtf8, chars}
 use Rattle.std.proofs.lemmas.Str.{encodes-chars, IsCharBoundary-from_take}
 use Rattle.std.proofs.Math.Seq.{take-append_seam}
@@ -10,9 +9,9 @@ use Rattle.html_queue.specs.declared.set.SmallCharSet.{SmallCharSet}
 use Rattle.html_queue.proofs.Taking.{filled}
 use Rattle.html_tokens.specs.declared.replies.ProcessResult.{ProcessResult}
 use Rattle.html_tokens.specs.declared.sink.TokenSink.{Ghosts}
-use Rattle.html_tokenizer.specs.Calls.{ComesAsRunAt, Passed, Passes, counted, owed_for_text}
+use Rattle.html_tokenizer.specs.Calls.{ComesAsRunAt, Passes, owed_for_text}
 use Rattle.html_tokenizer.specs.Fronts.{IsInTag, Lacks, ReadsTags, after_name, after_value, in_name, in_value}
-use Rattle.html_tokenizer.specs.Steps.{Erred, Keeps, Rises, Took}
+use Rattle.html_tokenizer.specs.Steps.{Keeps, Rises}
 use Rattle.html_tokenizer.specs.Stops.{IsRunAt, IsStoppedBy, data_stops}
 use Rattle.html_tokenizer.specs.declared.tokenizer.Stream.{Stream}
 use Rattle.html_tokenizer.specs.declared.tokenizer.Tokenizer.{Tokenizer}
@@ -21,7 +20,7 @@ use Rattle.html_tokenizer.proofs.FrontTexts.{some-of}
 use Rattle.html_tokenizer.proofs.Glue.{stays-same}
 use Rattle.html_tokenizer.proofs.InputRuns.{front-comes}
 use Rattle.html_tokenizer.proofs.Rises.{rises-same}
-use Rattle.html_tokenizer.proofs.Taking.{not-passed, passed}
+use Rattle.html_tokenizer.proofs.Taking.{passed}
 
 -- RUNS OF DATA
 
@@ -71,10 +70,7 @@ module _ {K : Type 0} where
   in-tag-still k stream (in_value from) = in_value (record { state = from.state; fresh = from.fresh })
 
 module _ {K H : Type 0} (Sink : Ghosts K H) where
-  -- a character is no error on its own where such are not told, and ">" is none anywhere
-  plain-unforbidden : (exact : Bool) (c : ℕ) (k : K) → exact ≡ false → Rises Sink.errors (owed_for_text exact (c ∷ [])) k k
-  plain-unforbidden exact c k e = rw e (rises-same Sink.errors k k refl)
-
+  -- ">" is no error on its own
   close-unforbidden : (exact : Bool) (k : K) → Rises Sink.errors (owed_for_text exact (62 ∷ [])) k k
   close-unforbidden true k = rises-same Sink.errors k k refl
   close-unforbidden false k = rises-same Sink.errors k k refl
@@ -87,15 +83,3 @@ module _ {K H : Type 0} (Sink : Ghosts K H) where
   -- ">" ends the tag
   pub tag-passes : (old new : Tokenizer K) (c : ℕ) (result : Result (ProcessResult H) ParseFault) → c ≡ 62 → Keeps Sink old new 62 result → Passes Sink old new c result
   tag-passes old new c result e h = rw e (close-passes old new result h)
-
-  -- CHARACTERS OF DATA
-
-  -- no error was told
-  unerred : (old : Tokenizer K) (c : ℕ) → old.stream.exact_errors ≡ false → Erred Sink (owed_for_text old.stream.exact_errors (c ∷ [])) old old
-  unerred old c plain = record { sink = refl; changed = refl; stays = stays-same Sink old.sink old.sink refl; rises = plain-unforbidden old.stream.exact_errors c old.sink plain }
-
-  pub data-passes : (old mid : Tokenizer K) (stream : Stream) (c : ℕ) (result : ProcessResult H) → old.stream.exact_errors ≡ false → Took Sink old mid c result → stream ≡ record mid.stream { breaks = counted mid.stream.breaks c } → Passed Sink old (record mid { stream = stream }) c result
-  data-passes old mid stream c result plain h is = passed Sink old old mid stream c result (unerred old c plain) h is
-
-  pub data-refused : (old mid : Tokenizer K) (c : ℕ) (fault : ParseFault) (result : Result (ProcessResult H) ParseFault) → old.stream.exact_errors ≡ false → Keeps Sink old mid c (Err fault) → IsErrAnd result (λ y. y ≡ fault) → Passes Sink old mid c result
-  data-refused old mid c fault result plain h is = not-passed Sink old old mid c fault result (unerred old c plain) h is

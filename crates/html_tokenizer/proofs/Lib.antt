@@ -31,6 +31,7 @@ pub mod FrontTags
 pub mod FrontTexts
 pub mod Fronts
 pub mod Glue
+pub mod Going
 pub mod HeldFronts
 pub mod HeldGlue
 pub mod HeldParts

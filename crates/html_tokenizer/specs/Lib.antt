@@ -4,6 +4,7 @@ pub mod EndStates
 pub mod EndText
 pub mod Forbidden
 pub mod Fronts
+pub mod Going
 pub mod HeldChars
 pub mod Input
 pub mod Keywords

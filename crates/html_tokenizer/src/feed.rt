@@ -25,6 +25,7 @@ impl<Sink: TokenSink> Tokenizer<Sink> {
     }
 
     /// Takes the next character of the input.
+    #[inline(always)]
     fn move_by_one(
         &mut self,
         input: &mut BufferQueue,
@@ -39,6 +40,7 @@ impl<Sink: TokenSink> Tokenizer<Sink> {
     }
 
     /// Takes the characters at the front of the input of which none is a stop, or else the next one.
+    #[inline(always)]
     fn move_by_run(
         &mut self,
         stops: SmallCharSet,
@@ -61,6 +63,7 @@ impl<Sink: TokenSink> Tokenizer<Sink> {
     }
 
     /// Takes what comes next of the input: a run of text where runs are read, or else a character.
+    #[inline(always)]
     fn move_by_piece(
         &mut self,
         input: &mut BufferQueue,

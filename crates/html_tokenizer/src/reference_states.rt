@@ -181,6 +181,7 @@ impl<Sink: TokenSink> Tokenizer<Sink> {
     }
 
     /// Goes on with the reference that was held: by one character more of it, or else by what it stands for and then the character.
+    #[inline(never)]
     pub(crate) fn reference_state(
         &mut self,
         mut held: HeldReference,

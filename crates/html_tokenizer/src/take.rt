@@ -1,7 +1,8 @@
 //! One character of the input, with its line and its own errors.
-ghost use Rattle.std.specs.Prelude.{◌≡◌, ◌∷◌, [], true, false};
+ghost use Rattle.std.specs.Prelude.{◌≡◌, ◌≢◌, ◌∷◌, [], true, false};
 ghost use Rattle.html_tokens.specs.declared.states.State.TheVariants as state;
 ghost use Rattle.html_tokenizer.specs.Calls.{Passes, counted, owed_for_text};
+ghost use Rattle.html_tokenizer.specs.Going.{KeepsOn, PassesOn};
 ghost use Rattle.html_tokenizer.specs.Rest.{rows_of};
 ghost use Rattle.html_tokenizer.specs.CharRefs.{fits_in};
 ghost use Rattle.html_tokenizer.specs.Steps.{Errs, IsAt, Keeps};
@@ -37,6 +38,7 @@ impl<Sink: TokenSink> Tokenizer<Sink> {
     }
 
     /// Takes a character, by what stands behind `&` if something does.
+    #[inline(always)]
     fn advance(&mut self, c: char) -> Result<ProcessResult<Sink::Handle>, ParseFault>
         requires sound { Sink.is_sound (Sink.view self.old.sink) }
         requires fits { fits_in (rows_of self.old) self.old.char_ref self.old.state ≡ true }
@@ -52,30 +54,71 @@ impl<Sink: TokenSink> Tokenizer<Sink> {
         }
     }
 
-    /// Takes a character of data where errors of single characters are not told, and counts its line.
-    fn take_in_data(&mut self, c: char) -> Result<ProcessResult<Sink::Handle>, ParseFault>
+    /// The same of a character that ends no tag.
+    fn advance_on(&mut self, c: char) -> Result<(), ParseFault>
+        requires other { c ≢ 62 }
+        requires sound { Sink.is_sound (Sink.view self.old.sink) }
+        requires fits { fits_in (rows_of self.old) self.old.char_ref self.old.state ≡ true }
+        ensures { KeepsOn Sink.TokenSink self.old self.new c result }
+    {
+        let _goes_on = self.advance(c)?;
+        Ok(())
+    }
+
+    /// Takes a character of data that ends no tag where errors of single characters are not told, and counts its line.
+    fn take_in_data(&mut self, c: char) -> Result<(), ParseFault>
+        requires other { c ≢ 62 }
         requires at { IsAt self.old state.Data }
         requires plain { self.old.stream.exact_errors ≡ false }
         requires sound { Sink.is_sound (Sink.view self.old.sink) }
-        ensures { Passes Sink.TokenSink self.old self.new c result }
+        ensures { PassesOn Sink.TokenSink self.old self.new c result }
     {
-        let result = self.data_state(c)?;
+        let _goes_on = self.data_state(c)?;
         self.stream.count_break(c);
-        Ok(result)
+        Ok(())
     }
 
-    /// Takes a character, and counts its line.
-    pub(crate) fn take(&mut self, c: char) -> Result<ProcessResult<Sink::Handle>, ParseFault>
+    /// Takes a character that ends no tag, and counts its line.
+    #[inline(never)]
+    fn take_on(&mut self, c: char) -> Result<(), ParseFault>
+        requires other { c ≢ 62 }
         requires sound { Sink.is_sound (Sink.view self.old.sink) }
         requires fits { fits_in (rows_of self.old) self.old.char_ref self.old.state ≡ true }
-        ensures { Passes Sink.TokenSink self.old self.new c result }
+        ensures { PassesOn Sink.TokenSink self.old self.new c result }
     {
         if self.reads_tags() {
             return self.take_in_data(c);
         }
         self.tell_forbidden(c)?;
+        self.advance_on(c)?;
+        self.stream.count_break(c);
+        Ok(())
+    }
+
+    /// Takes a character that may end a tag, and counts its line.
+    #[inline(never)]
+    fn take_close(&mut self, c: char) -> Result<ProcessResult<Sink::Handle>, ParseFault>
+        requires sound { Sink.is_sound (Sink.view self.old.sink) }
+        requires fits { fits_in (rows_of self.old) self.old.char_ref self.old.state ≡ true }
+        ensures { Passes Sink.TokenSink self.old self.new c result }
+    {
+        self.tell_forbidden(c)?;
         let result = self.advance(c)?;
         self.stream.count_break(c);
         Ok(result)
+    }
+
+    /// Takes a character, and counts its line.
+    #[inline(always)]
+    pub(crate) fn take(&mut self, c: char) -> Result<ProcessResult<Sink::Handle>, ParseFault>
+        requires sound { Sink.is_sound (Sink.view self.old.sink) }
+        requires fits { fits_in (rows_of self.old) self.old.char_ref self.old.state ≡ true }
+        ensures { Passes Sink.TokenSink self.old self.new c result }
+    {
+        if c == '>' {
+            return self.take_close(c);
+        }
+        self.take_on(c)?;
+        Ok(ProcessResult::Continue)
     }
 }

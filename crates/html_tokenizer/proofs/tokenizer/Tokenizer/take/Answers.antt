@@ -1,17 +1,7 @@
-use Rattle.html_tokenizer.proofs.Taking.{passed, not-passed, error-refused}
+use Rattle.html_tokenizer.proofs.Going.{on-failed}
 use Rattle.html_tokenizer.proofs.tokenizer.Tokenizer.take.Goals as goal
 
-pub returns-in_err-tell_forbidden : goal.returns-in_err-tell_forbidden
-returns-in_err-tell_forbidden g c =
+pub returns-in_err-take_on : goal.returns-in_err-take_on
+returns-in_err-take_on g c =
     let m = g.Sink.TokenSink in
-    error-refused m _ c.tell_forbidden.new.self _ _ _ c.in_err-tell_forbidden.ensures c.from_residual.ensures.1
-
-pub returns-in_err-result : goal.returns-in_err-result
-returns-in_err-result g c =
-    let m = g.Sink.TokenSink in
-    not-passed m _ c.tell_forbidden.new.self c.advance.new.self _ _ _ c.in_ok-tell_forbidden.ensures c.in_err-result.ensures c.from_residual-in_err-result.ensures.1
-
-pub returns : goal.returns
-returns g c =
-    let m = g.Sink.TokenSink in
-    passed m c.args.self.now c.tell_forbidden.new.self c.advance.new.self c.count_break.new.self c.args.c c.in_ok-result.result c.in_ok-tell_forbidden.ensures c.in_ok-result.ensures c.count_break.ensures
+    on-failed m c.args.self.now c.take_on.new.self c.args.c _ _ c.in_err-take_on.ensures c.from_residual.ensures.1

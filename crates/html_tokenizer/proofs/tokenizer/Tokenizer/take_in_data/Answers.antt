@@ -1,12 +1,12 @@
-use Rattle.html_tokenizer.proofs.FrontRuns.{data-passes, data-refused}
+use Rattle.html_tokenizer.proofs.Going.{data-passes, data-refused}
 use Rattle.html_tokenizer.proofs.tokenizer.Tokenizer.take_in_data.Goals as goal
 
 pub returns : goal.returns
 returns g c =
     let m = g.Sink.TokenSink in
-    data-passes m c.args.self.now c.data_state.new.self c.count_break.new.self c.args.c c.in_ok-result.result c.requires.plain c.in_ok-result.ensures c.count_break.ensures
+    data-passes m c.args.self.now c.data_state.new.self c.count_break.new.self c.args.c _ c.requires.other c.requires.plain c.in_ok-_goes_on.ensures c.count_break.ensures
 
-pub returns-in_err-result : goal.returns-in_err-result
-returns-in_err-result g c =
+pub returns-in_err-_goes_on : goal.returns-in_err-_goes_on
+returns-in_err-_goes_on g c =
     let m = g.Sink.TokenSink in
-    data-refused m c.args.self.now c.data_state.new.self c.args.c _ _ c.requires.plain c.in_err-result.ensures c.from_residual.ensures.1
+    data-refused m c.args.self.now c.data_state.new.self c.args.c _ _ c.requires.plain c.in_err-_goes_on.ensures c.from_residual.ensures.1
