@@ -1,6 +1,6 @@
 -- Attributes that are taken from the front of a text at once: what is taken is what the states would have taken, character by character.
-use Rattle.std.proofs.Common.{◌≡◌, ◌≢◌, ◌∙◌, ℕ, ◌<◌, true, false, nat_eq, List, [], ◌∷◌, ◌++◌, Option, Some, None, Result, Ok, Err, refl, sym, ap, subst, arith}
-use Rattle.std.specs.Prelude.{All, map}
+use Rattle.std.proofs.Common.{◌≡◌, ◌≢◌, ℕ, ◌<◌, true, false, nat_eq, List, [], ◌∷◌, ◌++◌, Some, None, Result, Ok, Err, refl, sym, ap, subst, arith}
+use Rattle.std.specs.Prelude.{map}
 use Rattle.std.specs.Char.{to_ascii_lowercase}
 use Rattle.std.specs.Str.{IsUtf8, chars}
 use Rattle.std.proofs.lemmas.List.Elements.{All-head, All-tail}
@@ -83,12 +83,6 @@ module _ {K H : Type 0} (Sink : Ghosts K H) where
 
   abbrev before : Tokenizer K → Tokenizer K
   before k = record k { state = state.BeforeAttributeName }
-
-  pub in-tag-fresh : (k : Tokenizer K) → IsInTag k → k.char_ref ≡ None
-  in-tag-fresh k (after_name from) = from.fresh
-  in-tag-fresh k (after_value from) = from.fresh
-  in-tag-fresh k (in_name from) = from.fresh
-  in-tag-fresh k (in_value from) = from.fresh
 
   -- no reference is held where an attribute ended
   pub ended-fresh : (k : Tokenizer K) → IsInTag k → (ended k).char_ref ≡ None
@@ -199,10 +193,6 @@ module _ {K H : Type 0} (Sink : Ghosts K H) where
       run-front old new (32 ∷ name) rest text is.whole (utf8-cons 32 name (omega arith) is.utf8)
       (subst IsUnbroken (sym spelled) (unbroken-more 32 (chars name) refl refl (lacks-breaks attribute_stops.bits refl refl (chars name) is.lacking)))
       (rw (e, spelled) took)
-
-  -- the machine is in the name
-  pub name-at : (old new : Tokenizer K) (name : List ℕ) → IsInTag old → new ≡ naming (ended old) name → IsAt new state.AttributeName
-  name-at old new name from e = rw e (record { state = refl; fresh = ended-fresh old from })
 
   -- VALUES
 

@@ -1,6 +1,6 @@
 -- A run of characters of the input, as it comes.
 use Rattle.std.proofs.Common.{◌≡◌, ◌∙◌, ℕ, ◌<◌, Bool, true, false, nat_eq, List, [], ◌∷◌, ◌++◌, length, refl, sym, ap, arith}
-use Rattle.std.specs.Prelude.{◌&&◌, All}
+use Rattle.std.specs.Prelude.{◌&&◌}
 use Rattle.std.proofs.lemmas.List.Elements.{All-head, All-tail}
 use Rattle.html_tokens.specs.NormalText.{newline_by, newlines_behind, without_mark}
 use Rattle.html_tokenizer.specs.declared.tokenizer.Stream.{Stream}

@@ -5,6 +5,12 @@ ghost use Rattle.html_tokenizer.specs.Forbidden.{is_forbidden, is_control, is_no
 
 use crate::error_code::ErrorCode;
 
+/// How many characters a plane has.
+const PLANE: u32 = 0x10000;
+
+/// The first of the last two characters of a plane.
+const LAST_TWO: u32 = 0xFFFE;
+
 /// What stands in place of a character: U+FFFD for U+0000, else itself.
 pub(crate) fn shown(c: char) -> char
     ensures { result ≡ Characters.shown c }
@@ -69,5 +75,5 @@ fn is_control(c: char) -> bool
 fn is_noncharacter(c: char) -> bool
     ensures { result ≡ is_noncharacter c }
 {
-    ('\u{FDD0}'..='\u{FDEF}').contains(&c) || (c as u32) % 0x10000 >= 0xFFFE
+    ('\u{FDD0}'..='\u{FDEF}').contains(&c) || (c as u32) % PLANE >= LAST_TWO
 }

@@ -103,26 +103,6 @@ impl<Sink: TokenSink> Tokenizer<Sink> {
         Ok(ProcessResult::Continue)
     }
 
-    /// Takes the beginning of a tag from the front of the input at once, or else what comes next.
-    fn move_by_tag(
-        &mut self,
-        input: &mut BufferQueue,
-    ) -> Result<ProcessResult<Sink::Handle>, ParseFault>
-        requires ready { IsReady Sink.TokenSink self.old }
-        requires tags { ReadsTags self.old }
-        ensures { Moves Sink.TokenSink self.old self.new input.old input.new result }
-    {
-        let text = input.as_str();
-        let Some(opening) = opening_of(text) else {
-            return self.move_by_reference(input);
-        };
-        self.stream.ignore_lf = false;
-        let rest = self.take_opening(opening)?;
-        let width = text.len() - rest.len();
-        input.skip(width);
-        Ok(ProcessResult::Continue)
-    }
-
     /// Takes what comes next of the input in a tag where `>` ends it.
     fn move_in_tag(
         &mut self,
@@ -139,6 +119,29 @@ impl<Sink: TokenSink> Tokenizer<Sink> {
             return self.close_tag();
         }
         self.take(c)
+    }
+
+    /// Takes the beginning of a tag from the front of the input at once, and its end if that follows, or else what comes next.
+    fn move_by_tag(
+        &mut self,
+        input: &mut BufferQueue,
+    ) -> Result<ProcessResult<Sink::Handle>, ParseFault>
+        requires ready { IsReady Sink.TokenSink self.old }
+        requires tags { ReadsTags self.old }
+        ensures { Moves Sink.TokenSink self.old self.new input.old input.new result }
+    {
+        let text = input.as_str();
+        let Some(opening) = opening_of(text) else {
+            return self.move_by_reference(input);
+        };
+        self.stream.ignore_lf = false;
+        let rest = self.take_opening(opening)?;
+        let width = text.len() - rest.len();
+        input.skip(width);
+        if self.is_in_tag() && input.peek() == Some('>') {
+            return self.move_in_tag(input);
+        }
+        Ok(ProcessResult::Continue)
     }
 
     /// Takes what comes next of the input.
