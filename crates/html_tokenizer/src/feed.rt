@@ -173,8 +173,9 @@ impl<Sink: TokenSink> Tokenizer<Sink> {
             match self.move_on(input)? {
                 ProcessResult::Continue => {}
                 ProcessResult::Suspend => {
+                    // What is held says of itself what it begins.
                     let _letters = self.raw_end.as_str();
-                    let _is_whole = self.keyword.is_empty();
+                    let _no_keyword = self.keyword.is_empty();
                     return Ok(TokenizerResult::Done);
                 }
                 ProcessResult::Script(handle) => return Ok(TokenizerResult::Script(handle)),

@@ -14,7 +14,7 @@ loop-letters-preserved g c =
 pub returns-in-Suspend : goal.returns-in-Suspend
 returns-in-Suspend g c =
     let m = g.Sink.TokenSink in
-    fed-whole m _ c.loop-letters.self _ _ c.loop-letters.input _ c.loop-letters.invariant (rw c.in-Suspend.is at c.in_ok-move_on.ensures) c.as_str-letters.ensures.begins c.is_empty-is_whole.ensures.part
+    fed-whole m _ c.loop-letters.self _ _ c.loop-letters.input _ c.loop-letters.invariant (rw c.in-Suspend.is at c.in_ok-move_on.ensures) c.as_str-letters.ensures.begins c.is_empty-no_keyword.ensures.part
 
 pub returns-in-Script : goal.returns-in-Script
 returns-in-Script g c =
