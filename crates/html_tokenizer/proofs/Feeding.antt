@@ -1,5 +1,5 @@
 -- The input is taken piece by piece.
-use Rattle.std.proofs.Common.{◌≡◌, ◌∙◌, ℕ, ◌<◌, Bool, true, List, [], ◌∷◌, ◌++◌, length, nat_eq, false, Result, Ok, Err, refl, sym, ap, arith, append_assoc, length-append, subst, Option, Some}
+use Rattle.std.proofs.Common.{◌≡◌, ◌∙◌, ℕ, ◌<◌, Bool, true, List, [], ◌∷◌, ◌++◌, length, nat_eq, false, Result, Ok, Err, refl, sym, ap, arith, append_assoc, subst, Option, Some}
 use Rattle.std.specs.Result.{IsErrAnd}
 use Rattle.std.proofs.lemmas.Result.{err_from_is_err_and}
 use Rattle.markup.specs.declared.fault.ParseFault.{ParseFault}
@@ -27,7 +27,7 @@ use Rattle.html_tokenizer.specs.Steps.{Owed, PausesAt, paused_by, more, noted_by
 use Rattle.html_tokenizer.proofs.Rises.{more-more, text-no-more, none-no-more, rises-same, rises-less, rises-besides}
 use Rattle.std.specs.Prelude.{if◌then◌else◌}
 use Rattle.html_tokenizer.proofs.InputChars.{takes-more}
-use Rattle.html_tokenizer.proofs.Glue.{held-other, fails-along, fails-before, stays-same, stays-then, fell-behind}
+use Rattle.html_tokenizer.proofs.Glue.{held-other, fails-along, fails-before, stays-same, stays-then, fell-behind, fell-same}
 use Rattle.html_tokenizer.specs.Stops.{stops_of}
 use Rattle.html_queue.specs.declared.set.SmallCharSet.{SmallCharSet}
 use Rattle.html_tokens.specs.declared.states.State.{State}
@@ -268,39 +268,3 @@ module _ {K H : Type 0} (Sink : Ghosts K H) where
   not-taken old new run fault result h is =
       let p = err_from_is_err_and result is in
       rw (p.1, p.2) h
-
-  -- TWO STEPS AS ONE
-
-  leaves-more : (result : ProcessResult H) (new : Tokenizer K) (a b : List ℕ) (to : Queue) → 0 < length a → Leaves Sink result new b to → Leaves Sink result new (a ++ b) to
-  leaves-more flow.Continue new a b to filled h = omega (arith, filled, length-append a b)
-  leaves-more flow.Suspend new a b to filled h = h
-  leaves-more (flow.Script handle) new a b to filled h = (last-close a b h.0, h.1, h.2)
-  leaves-more (flow.EncodingIndicator label) new a b to filled h = (last-close a b h.0, h.1, h.2)
-
-  pub moves-then : (old mid new : Tokenizer K) (from via to : Queue) (result : Result (ProcessResult H) ParseFault) → IsReady Sink old → Moved Sink old mid from via flow.Continue → Moves Sink mid new via to result → Moves Sink old new from to result
-  unfolding going-on started
-  moves-then old mid new from via to (Ok result) ready first m =
-      let h : Going old mid from via = going-on old old mid from from via (started old from ready) first in
-      record {
-        taken = h.taken ++ m.taken;
-        takes = takes-more h.taken m.taken from via to h.takes m.takes;
-        came = h.came ++ m.came;
-        comes = both-come old mid new from via to result h m;
-        owed = together m.owed h.owed;
-        rises = both-rise old mid new from via to result h m;
-        same = both-taken old mid new from via to result h m;
-        ready = m.ready;
-        stays = stays-then Sink old.sink mid.sink new.sink h.stays m.stays;
-        ended = m.ended ∙ h.ended;
-        failed = m.failed ∙ h.failed;
-        exact = m.exact ∙ h.exact;
-        left = leaves-more result new h.taken m.taken to first.left m.left;
-      }
-  moves-then old mid new from via to (Err fault) ready first m = record {
-    lost = first.taken ++ m.lost;
-    takes = takes-more first.taken m.lost from via to first.takes m.takes;
-    fell = fell-behind Sink old.sink mid.sink new.sink first.stays m.fell;
-    fails = λ notes t.
-        fails-along Sink old.sink new.sink _ _ fault (ap (λ u. to_come Sink old notes u) (append_assoc first.taken m.lost t) ∙ first.same notes (m.lost ++ t))
-        (fails-before Sink old.sink mid.sink new.sink _ fault first.stays (m.fails (more first.owed notes) t));
-  }

@@ -103,25 +103,7 @@ impl<Sink: TokenSink> Tokenizer<Sink> {
         Ok(ProcessResult::Continue)
     }
 
-    /// Takes what comes next of the input in a tag where `>` ends it.
-    fn move_in_tag(
-        &mut self,
-        input: &mut BufferQueue,
-    ) -> Result<ProcessResult<Sink::Handle>, ParseFault>
-        requires ready { IsReady Sink.TokenSink self.old }
-        requires at { IsInTag self.old }
-        ensures { Moves Sink.TokenSink self.old self.new input.old input.new result }
-    {
-        let Some(c) = self.stream.next_char(input) else {
-            return Ok(ProcessResult::Suspend);
-        };
-        if c == '>' {
-            return self.close_tag();
-        }
-        self.take(c)
-    }
-
-    /// Takes the beginning of a tag from the front of the input at once, and its end if that follows, or else what comes next.
+    /// Takes the beginning of a tag from the front of the input at once, or else what comes next.
     fn move_by_tag(
         &mut self,
         input: &mut BufferQueue,
@@ -138,10 +120,25 @@ impl<Sink: TokenSink> Tokenizer<Sink> {
         let rest = self.take_opening(opening)?;
         let width = text.len() - rest.len();
         input.skip(width);
-        if self.is_in_tag() && input.peek() == Some('>') {
-            return self.move_in_tag(input);
-        }
         Ok(ProcessResult::Continue)
+    }
+
+    /// Takes what comes next of the input in a tag where `>` ends it.
+    fn move_in_tag(
+        &mut self,
+        input: &mut BufferQueue,
+    ) -> Result<ProcessResult<Sink::Handle>, ParseFault>
+        requires ready { IsReady Sink.TokenSink self.old }
+        requires at { IsInTag self.old }
+        ensures { Moves Sink.TokenSink self.old self.new input.old input.new result }
+    {
+        let Some(c) = self.stream.next_char(input) else {
+            return Ok(ProcessResult::Suspend);
+        };
+        if c == '>' {
+            return self.close_tag();
+        }
+        self.take(c)
     }
 
     /// Takes what comes next of the input.

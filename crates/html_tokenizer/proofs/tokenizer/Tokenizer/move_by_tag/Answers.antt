@@ -1,6 +1,5 @@
 use Rattle.std.proofs.Common.{◌<◌, length, refl, subst, sym}
 use Rattle.html_tokenizer.specs.Fronts.{TakesFront}
-use Rattle.html_tokenizer.proofs.Feeding.{moves-then}
 use Rattle.html_tokenizer.proofs.Fronts.{heeding, moved-front, not-fronted, skip-cut}
 use Rattle.html_tokenizer.proofs.tokenizer.Tokenizer.move_by_tag.Goals as goal
 
@@ -22,16 +21,3 @@ pub returns-in_err-rest : goal.returns-in_err-rest
 returns-in_err-rest g c =
     let m = g.Sink.TokenSink in
     not-fronted m c.args.self.now c.take_opening.new.self c.args.input.now _ _ c.take_opening.ensures.sink c.in_err-rest.ensures.fault c.requires.ready c.from_residual.ensures.1
-
-pub move_in_tag-requires-clause-ready : goal.move_in_tag-requires-clause-ready
-move_in_tag-requires-clause-ready g c = record { sound = c.in_ok-rest.ensures.ok.took.sound; fits = c.in_ok-rest.ensures.ok.took.fits }
-
-pub returns-then-eq : goal.returns-then-eq
-returns-then-eq g c =
-    let m = g.Sink.TokenSink in
-    moves-then m c.args.self.now c.take_opening.new.self c.move_in_tag.new.self c.args.input.now c.skip.new.self c.move_in_tag.new.input c.move_in_tag.result c.requires.ready
-    (moved-front m c.args.self.now c.take_opening.new.self c.args.input.now c.skip.new.self c.as_str-text.result.now _ c.in_ok-rest.rest.now _ c.requires.tags c.as_str-text.ensures refl
-    (subst (λ u. length c.in_ok-rest.rest.now < length u) (sym c.in-Some.ensures.0) c.in_ok-rest.ensures.shorter)
-    (subst (λ u. TakesFront m (heeding m c.args.self.now) c.take_opening.new.self u c.in_ok-rest.rest.now) (sym c.in-Some.ensures.0) c.in_ok-rest.ensures.ok)
-    c.skip.ensures)
-    c.move_in_tag.ensures
