@@ -5,8 +5,7 @@ use Rattle.markup.specs.declared.tokenizer_result.TokenizerResult.{TokenizerResu
 use Rattle.markup.specs.declared.tokenizer_result.TokenizerResult.TheVariants.{Done, Script, EncodingIndicator}
 use Rattle.html_queue.specs.Queue.{Queue}
 use Rattle.html_tokens.specs.declared.sink.TokenSink.{Ghosts}
-use Rattle.html_tokenizer.specs.Calls.{Fed, FeedGives}
-use Rattle.html_tokenizer.specs.Input.{last_of}
+use Rattle.html_tokenizer.specs.Calls.{last_of, Fed, FeedGives}
 use Rattle.html_tokenizer.specs.declared.tokenizer.Tokenizer.{Tokenizer}
 
 -- a text that ends in ">" is not empty

@@ -15,8 +15,7 @@ use Rattle.html_tokens.specs.Table.{Row}
 use Rattle.html_tokens.specs.declared.options.TokenizerOpts.{TokenizerOpts}
 use Rattle.html_tokens.specs.declared.sink.TokenSink.{Ghosts}
 use Rattle.html_tokens.specs.declared.token.Token.{Token}
-use Rattle.html_tokenizer.specs.Calls.{EndGives, FailsToEnd, Fed, FeedGives, HasEnded, HasFailed, HasMoved, IsNew, owed_for_text, refusal_of}
-use Rattle.html_tokenizer.specs.Input.{last_of}
+use Rattle.html_tokenizer.specs.Calls.{last_of, EndGives, FailsToEnd, Fed, FeedGives, HasEnded, HasFailed, HasMoved, IsNew, owed_for_text, refusal_of}
 use Rattle.html_tokenizer.specs.Rest.{coming}
 use Rattle.html_tokenizer.specs.Steps.{FailsAmong, more, together}
 use Rattle.html_tokenizer.specs.declared.tokenizer.Tokenizer.{Tokenizer}

@@ -11,8 +11,8 @@ use Rattle.html_tokens.specs.Item.{Slight, grave_if}
 use Rattle.html_tokens.specs.Notes.{Notes}
 use Rattle.html_tokens.specs.Reading.{line_break}
 use Rattle.html_tokenizer.specs.Calls.{at_end, Closes}
-use Rattle.html_tokenizer.specs.CharRefs.{may_hold}
-use Rattle.html_tokenizer.specs.declared.held_reference.Ampersand.TheVariants.{Held, Unknown}
+use Rattle.html_tokenizer_parts.specs.CharRefs.{may_hold}
+use Rattle.html_tokenizer_parts.specs.declared.held_reference.Ampersand.TheVariants.{Held, Unknown}
 use Rattle.html_tokenizer.specs.declared.tokenizer.Tokenizer.{Tokenizer}
 use Rattle.html_tokenizer.specs.Steps.{Owed, and_heard, and_more, together, owed_for, IsAt, more, Erred, Told, Took, Keeps, now}
 use Rattle.html_tokenizer.proofs.Glue.{Absorbs, fails-along, keeps-behind, keeps_erred, now-at, stays-same}

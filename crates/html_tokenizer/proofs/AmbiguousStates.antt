@@ -20,8 +20,8 @@ use Rattle.html_tokens.specs.Characters.{ends_word, shown}
 use Rattle.html_tokens.specs.Item.{grave_if}
 use Rattle.html_tokens.specs.Reading.{line_break, line_number}
 use Rattle.html_tokens.specs.Sink.{SinkLaws}
-use Rattle.html_tokenizer.specs.CharRefs.{is_held, may_hold}
-use Rattle.html_tokenizer.specs.declared.held_reference.Ampersand.TheVariants.{Unknown}
+use Rattle.html_tokenizer_parts.specs.CharRefs.{is_held, may_hold}
+use Rattle.html_tokenizer_parts.specs.declared.held_reference.Ampersand.TheVariants.{Unknown}
 use Rattle.html_tokenizer.specs.declared.tokenizer.Tokenizer.{Tokenizer}
 use Rattle.html_tokenizer.specs.Steps.{Owed, nothing_owed, owed_for, IsAt, Falls, Told, Took, Keeps}
 use Rattle.html_tokenizer.proofs.Ambiguous.{keeps-unknown, took-unknown}

@@ -15,8 +15,8 @@ use Rattle.html_tokens.specs.Item.{Slight, slight_if, InData, InTag}
 use Rattle.html_tokens.specs.Notes.{Notes, noting, noting_error, noting_cdata, noting_end}
 use Rattle.html_tokens.specs.Reading.{erred_by, line_break}
 use Rattle.html_tokens.specs.Tags.{opening, opened_by, Other, quoted_after, unquoted_after, no_value, is_odd_unquoted}
-use Rattle.html_tokenizer.specs.declared.held_reference.Ampersand.{Ampersand}
-use Rattle.html_tokenizer.specs.declared.held_reference.Ampersand.TheVariants.{Held}
+use Rattle.html_tokenizer_parts.specs.declared.held_reference.Ampersand.{Ampersand}
+use Rattle.html_tokenizer_parts.specs.declared.held_reference.Ampersand.TheVariants.{Held}
 use Rattle.html_tokenizer.specs.declared.tokenizer.Tokenizer.{Tokenizer}
 use Rattle.html_tokenizer.specs.Quotes.{quote_of}
 use Rattle.html_tokenizer.specs.Rest.{rows_of, standing, held_at}

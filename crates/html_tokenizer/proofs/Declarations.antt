@@ -14,20 +14,20 @@ use Rattle.html_tokens.specs.Items.{declaration_at, declaration_by}
 use Rattle.html_tokens.specs.Notes.{Notes, noting, noting_error, noting_cdata, noting_end}
 use Rattle.html_tokens.specs.Reading.{line_break}
 use Rattle.html_tokens.specs.Sink.{SinkLaws}
-use Rattle.html_tokenizer.specs.declared.keyword.Word.{Word}
-use Rattle.html_tokenizer.specs.declared.keyword.Word.TheVariants as word
-use Rattle.html_tokenizer.specs.declared.error_code.ErrorCode.{ErrorCode}
+use Rattle.html_tokenizer_parts.specs.declared.keyword.Word.{Word}
+use Rattle.html_tokenizer_parts.specs.declared.keyword.Word.TheVariants as word
+use Rattle.html_tokenizer_parts.specs.declared.error_code.ErrorCode.{ErrorCode}
 use Rattle.html_tokenizer.specs.declared.tokenizer.Tokenizer.{Tokenizer}
-use Rattle.html_tokenizer.specs.Keywords.{becomes, may_become, may_declare, IsPart, MakesNoWord, OpensNothing}
+use Rattle.html_tokenizer_parts.specs.Keywords.{becomes, may_become, may_declare, IsPart, MakesNoWord, OpensNothing}
 use Rattle.html_tokenizer.specs.Rest.{rows_of, standing, held_at}
 use Rattle.html_tokenizer.specs.Steps.{IsAt, Took, Keeps, nothing_owed, reads, plays}
 use Rattle.html_tokenizer.proofs.Rises.{rises-same}
 use Rattle.html_tokenizer.proofs.Ends.{behind-one}
 use Rattle.html_tokenizer.proofs.Glue.{at, fits-at, stays-same, keeps-along, no-break, now-at, took}
-use Rattle.html_tokenizer.proofs.Keywords.{and_both, or_parts, is_plain, part-plain, word-plain, last-plain, plain-break, spelt-begins, spelt-length, word-apart, word-stops, bogus-behind}
+use Rattle.html_tokenizer_parts.proofs.Keywords.{and_both, or_parts, is_plain, part-plain, word-plain, last-plain, plain-break, spelt-begins, spelt-length, word-apart, word-stops, bogus-behind}
 use Rattle.html_tokenizer.proofs.Opens.{opened}
 use Rattle.html_tokenizer.proofs.Readings.{play-nothing}
-use Rattle.html_tokenizer.proofs.Words.{and_parts}
+use Rattle.html_tokenizer_parts.proofs.Words.{and_parts}
 
 -- ITEMS
 

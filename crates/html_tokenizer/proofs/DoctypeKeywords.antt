@@ -16,34 +16,21 @@ use Rattle.html_tokens.specs.Item.{Stand, Item, InData, behind_all}
 use Rattle.html_tokens.specs.Notes.{Notes}
 use Rattle.html_tokens.specs.Reading.{line_break}
 use Rattle.html_tokens.specs.Sink.{SinkLaws}
-use Rattle.html_tokenizer.specs.declared.keyword.Word.{Word}
-use Rattle.html_tokenizer.specs.declared.keyword.Word.TheVariants as word
-use Rattle.html_tokenizer.specs.declared.error_code.ErrorCode.{ErrorCode}
+use Rattle.html_tokenizer_parts.specs.declared.keyword.Word.{Word}
+use Rattle.html_tokenizer_parts.specs.declared.keyword.Word.TheVariants as word
+use Rattle.html_tokenizer_parts.specs.declared.error_code.ErrorCode.{ErrorCode}
 use Rattle.html_tokenizer.specs.declared.tokenizer.Tokenizer.{Tokenizer}
-use Rattle.html_tokenizer.specs.Keywords.{becomes, may_become, may_identify, front_of, IsPart, MakesNoIdentifier}
+use Rattle.html_tokenizer_parts.specs.Keywords.{becomes, may_become, may_identify, front_of, IsPart, MakesNoIdentifier}
 use Rattle.html_tokenizer.specs.Rest.{rows_of, standing, held_at}
 use Rattle.html_tokenizer.specs.Steps.{IsAt, Took, Keeps, plays}
 use Rattle.html_tokenizer.proofs.Declarations.{behind-word, play-plain}
-use Rattle.html_tokenizer.proofs.Doctypes.{DoctypeSays, at-mark, skip-white, stop-white, word-other}
+use Rattle.html_tokenizer.proofs.Doctypes.{DoctypeSays, at-mark, skip-white, stop-white}
 use Rattle.html_tokenizer.proofs.Ends.{behind-any}
 use Rattle.html_tokenizer.proofs.Glue.{took, keeps_silent, no-break}
-use Rattle.html_tokenizer.proofs.Keywords.{never, or_parts, is_plain, part-plain, word-plain, last-plain, plain-break, plain-mark, plain-white, spelt-begins, spelt-length, word-apart, word-stops, junk-behind}
-use Rattle.html_tokenizer.proofs.Words.{and_parts}
+use Rattle.html_tokenizer_parts.proofs.Keywords.{begun-part, never, or_parts, is_plain, part-plain, word-plain, last-plain, plain-break, plain-mark, plain-white, spelt-begins, spelt-length, word-apart, word-stops, junk-behind, word-other}
+use Rattle.html_tokenizer_parts.proofs.Words.{and_parts}
 
 -- WHERE A KEYWORD BEGINS
-
-pub begun-part : (x : ℕ) (cs : List ℕ) → list_all is_plain (x ∷ cs) ≡ true → ends_word x ≡ false
-begun-part x cs h =
-    let p : is_plain x ≡ true = (and_parts (is_plain x) (list_all is_plain cs) h).0 in
-    word-other x (plain-white x p) (plain-mark x p)
-
-pub front-empty : (cs : List ℕ) (c : ℕ) → (length cs == 0) ≡ true → ends_word c ≡ ends_word (front_of cs c)
-front-empty [] c h = refl
-front-empty (x ∷ cs) c h = let e : length (x ∷ cs) ≡ 0 = eqb-true (length (x ∷ cs)) 0 h in absurd (omega arith)
-
-pub front-part : (cs : List ℕ) (c : ℕ) → IsPart cs → (length cs == 0) ≡ false → ends_word (front_of cs c) ≡ false
-front-part [] c part h = absurd cc
-front-part (x ∷ cs) c part h = begun-part x cs (part-plain (x ∷ cs) part)
 
 -- Only where nothing was read, a word ends at its front.
 ended-empty : (cs : List ℕ) (c : ℕ) → IsPart cs → ends_word (front_of cs c) ≡ true → cs ≡ []

@@ -19,7 +19,7 @@ use Rattle.html_tokens.specs.Item.{Stand, Item, InData, behind, behind_all, mark
 use Rattle.html_tokens.specs.Notes.{Notes, noting, noting_error, noting_cdata, noting_end}
 use Rattle.html_tokens.specs.Reading.{line_number, line_break}
 use Rattle.html_tokens.specs.Sink.{◌>>=◌, SinkLaws}
-use Rattle.html_tokenizer.specs.declared.error_code.ErrorCode.{ErrorCode}
+use Rattle.html_tokenizer_parts.specs.declared.error_code.ErrorCode.{ErrorCode}
 use Rattle.html_tokenizer.specs.declared.tokenizer.Tokenizer.{Tokenizer}
 use Rattle.html_tokenizer.specs.Rest.{rows_of, standing, with_identifier, held_at}
 use Rattle.html_tokenizer.specs.Steps.{owed_for, IsAt, more, Falls, Told, Took, Keeps, reads, plays}
@@ -29,6 +29,7 @@ use Rattle.html_tokenizer.proofs.Glue.{Absorbs, at, took, took_odd, keeps_odd, k
 use Rattle.html_tokenizer.proofs.Lawful.{slight-absorbed}
 use Rattle.html_tokenizer.proofs.Readings.{marked-both, play-marked, play-odd}
 use Rattle.html_tokenizer.proofs.Rises.{slighted-no-more}
+use Rattle.html_tokenizer_parts.proofs.Keywords.{word-other}
 
 -- ITEMS
 
@@ -53,9 +54,6 @@ public-goes_on quote st d front c t e = rw e (rw append_assoc refl)
 
 system-goes_on : (quote : ℕ) (st : Stand) (d : Doctype) (front : List ℕ) (c : ℕ) (t : List ℕ) → (nat_eq c quote || nat_eq c 62) ≡ false → system_after quote st d front (c ∷ t) ≡ behind (system_after quote st d (front ++ shown c ∷ []) t)
 system-goes_on quote st d front c t e = rw e (rw append_assoc refl)
-
-pub word-other : (c : ℕ) → is_white_space c ≡ false → nat_eq c 62 ≡ false → ends_word c ≡ false
-word-other c e f = rw (e, f) refl
 
 word-white : (c : ℕ) → is_white_space c ≡ true → ends_word c ≡ true
 word-white c e = rw e refl

@@ -21,9 +21,9 @@ use Rattle.html_tokens.specs.Reading.{line_number, line_breaks}
 use Rattle.html_tokens.specs.Sink.{◌>>=◌, SinkLaws}
 use Rattle.html_tokenizer.specs.Calls.{at_end, Closes}
 use Rattle.html_tokenizer.specs.EndStates.{is_comment_part, is_doctype_part}
-use Rattle.html_tokenizer.specs.declared.keyword.Word.TheVariants as word
+use Rattle.html_tokenizer_parts.specs.declared.keyword.Word.TheVariants as word
 use Rattle.html_tokenizer.specs.declared.tokenizer.Tokenizer.{Tokenizer}
-use Rattle.html_tokenizer.specs.Keywords.{IsPart}
+use Rattle.html_tokenizer_parts.specs.Keywords.{IsPart}
 use Rattle.html_tokenizer.specs.Rest.{rows_of, standing, with_identifier, held_at}
 use Rattle.html_tokenizer.specs.Steps.{owed_for, IsAt, more, IsNoTag, Tells, a_fault, reads, plays}
 use Rattle.html_tokenizer.proofs.Declarations.{play-plain}
@@ -31,10 +31,10 @@ use Rattle.html_tokenizer.proofs.Doctypes.{stop-white}
 use Rattle.html_tokenizer.proofs.Ends.{behind-one}
 use Rattle.html_tokenizer.proofs.Errors.{tells-less}
 use Rattle.html_tokenizer.proofs.EndTokens.{EndTells, closes-told, end-item}
-use Rattle.html_tokenizer.proofs.Keywords.{is_plain, part-open, part-plain, plain-mark, plain-white, bogus-behind, junk-behind}
+use Rattle.html_tokenizer_parts.proofs.Keywords.{is_plain, part-open, part-plain, plain-mark, plain-white, bogus-behind, junk-behind}
 use Rattle.html_tokenizer.proofs.Rises.{slighted-no-more}
 use Rattle.html_tokenizer.proofs.Opens.{opened}
-use Rattle.html_tokenizer.proofs.Words.{and_parts}
+use Rattle.html_tokenizer_parts.proofs.Words.{and_parts}
 
 -- ITEMS
 

@@ -10,7 +10,7 @@ use Rattle.html_tokens.specs.declared.sink.TokenSink.{Ghosts}
 use Rattle.html_tokens.specs.Notes.{Notes, noting, noting_error}
 use Rattle.html_tokens.specs.Reading.{◌>>=◌, line_number, erred_by}
 use Rattle.html_tokenizer.specs.Calls.{at_end, Closes}
-use Rattle.html_tokenizer.specs.declared.held_reference.Ampersand.{Ampersand}
+use Rattle.html_tokenizer_parts.specs.declared.held_reference.Ampersand.{Ampersand}
 use Rattle.html_tokenizer.specs.declared.tokenizer.Tokenizer.{Tokenizer}
 use Rattle.html_tokenizer.specs.Steps.{Owed, IsAt, more, Tells, Errs, now, nothing_owed, Told, owed_for, and_heard, together}
 use Rattle.html_tokenizer.proofs.Glue.{at, now-at, bind-err, token-fails, told-next, stays-then, fell-behind, fails-along, fails-before, sound_erred}

@@ -14,9 +14,9 @@ use Rattle.html_tokens.specs.Reference.{fault_of_reference}
 use Rattle.html_tokens.specs.Sink.{SinkLaws}
 use Rattle.html_tokens.specs.Reading.{reading_from}
 use Rattle.html_tokenizer.specs.Calls.{at_end, Closes}
-use Rattle.html_tokenizer.specs.CharRefs.{is_held, resolved}
-use Rattle.html_tokenizer.specs.declared.held_reference.Ampersand.{Ampersand}
-use Rattle.html_tokenizer.specs.declared.held_reference.Ampersand.TheVariants.{Held}
+use Rattle.html_tokenizer_parts.specs.CharRefs.{is_held, resolved}
+use Rattle.html_tokenizer_parts.specs.declared.held_reference.Ampersand.{Ampersand}
+use Rattle.html_tokenizer_parts.specs.declared.held_reference.Ampersand.TheVariants.{Held}
 use Rattle.html_tokenizer.specs.declared.tokenizer.Tokenizer.{Tokenizer}
 use Rattle.html_tokenizer.specs.Rest.{rows_of, held_at}
 use Rattle.html_tokenizer.specs.Steps.{more, owed_for, IsAt, Tells, Errs, a_fault}

@@ -20,16 +20,17 @@ use Rattle.html_tokens.specs.Sink.{SinkLaws}
 use Rattle.html_tokenizer.specs.Calls.{at_end, Closes}
 use Rattle.html_tokenizer.specs.EndText.{is_told_text, is_escaped}
 use Rattle.html_tokenizer.specs.declared.tokenizer.Tokenizer.{Tokenizer}
-use Rattle.html_tokenizer.specs.Rest.{rows_of, standing, kind_after, held_at}
+use Rattle.html_tokenizer.specs.Rest.{rows_of, standing, held_at}
+use Rattle.html_tokenizer_parts.specs.Words.{kind_after}
 use Rattle.html_tokenizer.specs.Steps.{IsAt, Told, Tells, Errs, owed_for, nothing_owed, a_fault, reads}
 use Rattle.html_tokenizer.proofs.EndTextGlue.{OnlyEnds, TellsLast, TellsThen, closes_told, closes_errs, closes_untold, closes_then}
 use Rattle.html_tokenizer.proofs.Lawful.{noting-lawful}
-use Rattle.html_tokenizer.proofs.RawKinds.{and-none, double_escaped, letter-no_end, kind_after-letters}
+use Rattle.html_tokenizer_parts.proofs.RawKinds.{and-none, double_escaped, letter-no_end, kind_after-letters}
 use Rattle.html_tokenizer.proofs.RawNames.{end_tag-run}
 use Rattle.html_tokenizer.proofs.Runs.{reading-token, reading-text, reading-two, told-more}
 use Rattle.html_tokenizer.proofs.Readings.{sum-zero}
 use Rattle.html_tokenizer.proofs.Rises.{IsNoMore, slight-no-more, slight-less, no-more-same}
-use Rattle.html_tokenizer.proofs.Words.{and_parts}
+use Rattle.html_tokenizer_parts.proofs.Words.{and_parts}
 use Rattle.html_tokens.specs.declared.states.ScriptEscapeKind.{ScriptEscapeKind}
 use Rattle.html_tokens.specs.declared.sink.TokenSink.{Ghosts}
 use Rattle.std.specs.Result.{IsErrAnd}

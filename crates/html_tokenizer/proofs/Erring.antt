@@ -6,7 +6,7 @@ use Rattle.markup.specs.declared.fault.ParseFault.{ParseFault}
 use Rattle.html_tokens.specs.declared.replies.ProcessResult.{ProcessResult}
 use Rattle.html_tokens.specs.declared.sink.TokenSink.{Ghosts}
 use Rattle.html_tokens.specs.Item.{grave_if}
-use Rattle.html_tokenizer.specs.declared.held_reference.Ampersand.{Ampersand}
+use Rattle.html_tokenizer_parts.specs.declared.held_reference.Ampersand.{Ampersand}
 use Rattle.html_tokenizer.specs.declared.tokenizer.Tokenizer.{Tokenizer}
 use Rattle.html_tokenizer.specs.Calls.{KeepsRun}
 use Rattle.html_tokenizer.specs.Steps.{now, Owed, Erred, Errs, Keeps, nothing_owed, owed_for, owed_for_each, together}

@@ -11,22 +11,21 @@ use Rattle.html_tokens.specs.declared.replies.ProcessResult.TheVariants as flow
 use Rattle.html_tokens.specs.Notes.{Notes, noting, noting_error, noting_cdata, noting_end}
 use Rattle.html_tokens.specs.Reading.{erred_by}
 use Rattle.html_tokens.specs.Sink.{Reply}
-use Rattle.html_tokenizer.specs.CharRefs.{fits_in}
+use Rattle.html_tokenizer_parts.specs.CharRefs.{fits_in}
 use Rattle.html_tokenizer.specs.Calls.{ComesAsRunAt, to_come, paused_with, IsReady, Passes, KeepsRun, KeepsText, Leaves, HasMoved, Moved, Moves, Fed, Runs, Rests, owed_for_text}
-use Rattle.html_tokenizer.specs.Input.{coming_in, newline_for, last_of, ComesAs, Vanishes}
-use Rattle.html_tokenizer.specs.Keywords.{IsPart}
-use Rattle.html_tokenizer.specs.declared.tokenizer.Stream.{Stream}
-use Rattle.html_tokenizer.specs.declared.held_reference.Ampersand.{Ampersand}
+use Rattle.html_tokenizer_parts.specs.Input.{coming_in, newline_for, last_of, ComesAs, Vanishes}
+use Rattle.html_tokenizer_parts.specs.Keywords.{IsPart}
+use Rattle.html_tokenizer_parts.specs.declared.stream.Stream.{Stream}
+use Rattle.html_tokenizer_parts.specs.declared.held_reference.Ampersand.{Ampersand}
 use Rattle.html_tokenizer.specs.declared.tokenizer.Tokenizer.{Tokenizer}
 use Rattle.html_tokenizer.specs.Rest.{fault_behind, pending, coming, rows_of}
-use Rattle.html_tokenizer.specs.Words.{BeginsEnd}
-use Rattle.html_tokenizer.proofs.EndFronts.{holds-end}
-use Rattle.html_tokenizer.proofs.HeldParts.{holds-part}
+use Rattle.html_tokenizer_parts.specs.Words.{BeginsEnd}
+use Rattle.html_tokenizer.proofs.HeldParts.{holds-part, holds-end}
 use Rattle.html_tokenizer.proofs.UntoldStates.{untold}
 use Rattle.html_tokenizer.specs.Steps.{Owed, PausesAt, paused_by, more, noted_by, Rises, now, Stays, nothing_owed, together}
 use Rattle.html_tokenizer.proofs.Rises.{more-more, text-no-more, none-no-more, rises-same, rises-less, rises-besides}
 use Rattle.std.specs.Prelude.{if◌then◌else◌}
-use Rattle.html_tokenizer.proofs.InputChars.{takes-more}
+use Rattle.html_tokenizer_parts.proofs.InputChars.{takes-more}
 use Rattle.html_tokenizer.proofs.Glue.{held-other, fails-along, fails-before, stays-same, stays-then, fell-behind, fell-same}
 use Rattle.html_tokenizer.specs.Stops.{stops_of}
 use Rattle.html_queue.specs.declared.set.SmallCharSet.{SmallCharSet}

@@ -16,9 +16,10 @@ use Rattle.html_tokens.specs.declared.states.State.{State}
 use Rattle.html_tokens.specs.declared.states.State.TheVariants as state
 use Rattle.html_tokens.specs.Characters.{ends_word}
 use Rattle.html_tokenizer.specs.Calls.{TookRun}
-use Rattle.html_tokenizer.specs.CharRefs.{fits_in}
+use Rattle.html_tokenizer_parts.specs.CharRefs.{fits_in}
 use Rattle.html_tokenizer.specs.declared.tokenizer.Tokenizer.{Tokenizer}
-use Rattle.html_tokenizer.specs.Fronts.{IsFilled, IsInTag, IsNameAt, IsUnbroken, Lacks, TakesFront, after_name, after_value, attribute_stops, ended, ended_in, in_name, in_value, naming, plain_stops, with_value}
+use Rattle.html_tokenizer.specs.Fronts.{IsFilled, IsInTag, IsNameAt, Lacks, TakesFront, after_name, after_value, attribute_stops, ended, ended_in, in_name, in_value, naming, plain_stops, with_value}
+use Rattle.html_tokenizer_parts.specs.Input.{IsUnbroken}
 use Rattle.html_tokenizer.specs.Quotes.{quote_of}
 use Rattle.html_tokenizer.specs.Rest.{rows_of}
 use Rattle.html_tokenizer.specs.Steps.{EndsTag, IsAt, Keeps, Took}
@@ -28,7 +29,7 @@ use Rattle.html_tokenizer.proofs.AttributeValues.{quoted-close, unquoted-end, un
 use Rattle.html_tokenizer.proofs.FrontTags.{fronts-none, fronts-then, lacks-breaks, lowered-more, lowered-one, plain-space, took-one, unbroken-more, unbroken-none}
 use Rattle.html_tokenizer.proofs.FrontTexts.{ascii-one, chars-cons, utf8-cons}
 use Rattle.html_tokenizer.proofs.Glue.{fits-at}
-use Rattle.html_tokenizer.proofs.Sets.{differs, not-member}
+use Rattle.html_tokenizer_parts.proofs.Sets.{differs, not-member}
 use Rattle.html_tokenizer.proofs.TagStates.{tag_name-close, tag_name-space}
 use Rattle.html_tokenizer.proofs.TextRuns.{name-goes_on, run-held, shown-same, took-then, value-run}
 

@@ -10,11 +10,12 @@ use Rattle.std.proofs.lemmas.Str.{chars-append, IsUtf8-append, IsUtf8-from_ascii
 use Rattle.html_tokens.specs.declared.sink.TokenSink.{Ghosts}
 use Rattle.html_tokens.specs.declared.states.State.TheVariants as state
 use Rattle.html_tokenizer.specs.Calls.{TookRun}
-use Rattle.html_tokenizer.specs.CharRefs.{is_held, is_held_front, may_hold}
-use Rattle.html_tokenizer.specs.Fronts.{HoldsName, IsReferenceAt, IsUnbroken, ReadsTags, TakesFront}
+use Rattle.html_tokenizer_parts.specs.CharRefs.{is_held, is_held_front, may_hold}
+use Rattle.html_tokenizer.specs.Fronts.{HoldsName, IsReferenceAt, ReadsTags, TakesFront}
+use Rattle.html_tokenizer_parts.specs.Input.{IsUnbroken}
 use Rattle.html_tokenizer.specs.Rest.{rows_of}
 use Rattle.html_tokenizer.specs.Steps.{IsAt, nothing_owed}
-use Rattle.html_tokenizer.specs.declared.held_reference.Ampersand.TheVariants.{Held}
+use Rattle.html_tokenizer_parts.specs.declared.held_reference.Ampersand.TheVariants.{Held}
 use Rattle.html_tokenizer.specs.declared.tokenizer.Tokenizer.{Tokenizer}
 use Rattle.html_tokenizer.proofs.FrontTexts.{ascii-one, chars-cons, utf8-cons}
 use Rattle.html_tokenizer.proofs.Fronts.{heeding}

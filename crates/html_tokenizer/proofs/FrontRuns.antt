@@ -13,12 +13,12 @@ use Rattle.html_tokenizer.specs.Calls.{ComesAsRunAt, Passes, owed_for_text}
 use Rattle.html_tokenizer.specs.Fronts.{IsInTag, Lacks, ReadsTags, after_name, after_value, in_name, in_value}
 use Rattle.html_tokenizer.specs.Steps.{Keeps, Rises}
 use Rattle.html_tokenizer.specs.Stops.{IsRunAt, IsStoppedBy, data_stops}
-use Rattle.html_tokenizer.specs.declared.tokenizer.Stream.{Stream}
+use Rattle.html_tokenizer_parts.specs.declared.stream.Stream.{Stream}
 use Rattle.html_tokenizer.specs.declared.tokenizer.Tokenizer.{Tokenizer}
 use Rattle.html_tokenizer.proofs.FrontTags.{lacks-breaks}
 use Rattle.html_tokenizer.proofs.FrontTexts.{some-of}
 use Rattle.html_tokenizer.proofs.Glue.{stays-same}
-use Rattle.html_tokenizer.proofs.InputRuns.{front-comes}
+use Rattle.html_tokenizer_parts.proofs.InputRuns.{front-comes}
 use Rattle.html_tokenizer.proofs.Rises.{rises-same}
 use Rattle.html_tokenizer.proofs.Taking.{passed}
 

@@ -17,16 +17,17 @@ use Rattle.html_tokens.specs.Characters.{is_white_space, lowered}
 use Rattle.html_tokens.specs.Sink.{SinkLaws}
 use Rattle.html_tokens.specs.Tags.{named}
 use Rattle.html_tokenizer.specs.Calls.{TookRun}
-use Rattle.html_tokenizer.specs.CharRefs.{fits_in}
+use Rattle.html_tokenizer_parts.specs.CharRefs.{fits_in}
 use Rattle.html_tokenizer.specs.declared.tokenizer.Tokenizer.{Tokenizer}
-use Rattle.html_tokenizer.specs.Fronts.{IsInTag, IsTagName, IsUnbroken, Lacks, TakesFront, after_name, mark, name_stops, opened_tag}
+use Rattle.html_tokenizer.specs.Fronts.{IsInTag, IsTagName, Lacks, TakesFront, after_name, mark, name_stops, opened_tag}
+use Rattle.html_tokenizer_parts.specs.Input.{IsUnbroken}
 use Rattle.html_tokenizer.specs.Rest.{rows_of}
 use Rattle.html_tokenizer.specs.Steps.{IsAt, Took, more, nothing_owed, now, together}
 use Rattle.html_tokenizer.proofs.FrontTexts.{mark-chars, mark-utf8}
 use Rattle.html_tokenizer.proofs.Glue.{fits-at, stays-same, stays-then}
 use Rattle.html_tokenizer.proofs.Opens.{end-letter, open-letter, open-slash}
 use Rattle.html_tokenizer.proofs.Rises.{more-more, rises-same, rises-then}
-use Rattle.html_tokenizer.proofs.Sets.{differs, not-member}
+use Rattle.html_tokenizer_parts.proofs.Sets.{differs, not-member}
 use Rattle.html_tokenizer.proofs.TagStates.{tag_name-more}
 use Rattle.html_tokenizer.proofs.TextRuns.{lowered-same, run-held, took-then}
 use Rattle.html_tokenizer.proofs.TextStates.{data-opened}

@@ -14,12 +14,12 @@ use Rattle.html_tokens.specs.declared.replies.ProcessResult.TheVariants as flow
 use Rattle.html_tokens.specs.declared.sink.TokenSink.{Ghosts}
 use Rattle.html_tokenizer.specs.Calls.{IsReady, Moves, owed_for_text}
 use Rattle.html_tokenizer.specs.Fronts.{ReadsTags, TakesFront}
-use Rattle.html_tokenizer.specs.Input.{coming_in}
+use Rattle.html_tokenizer_parts.specs.Input.{coming_in}
 use Rattle.html_tokenizer.specs.declared.tokenizer.Tokenizer.{Tokenizer}
 use Rattle.html_tokenizer.specs.Steps.{Rises, more, now, together}
 use Rattle.html_tokenizer.proofs.Feeding.{comes-to}
 use Rattle.html_tokenizer.proofs.Glue.{fell-same}
-use Rattle.html_tokenizer.proofs.InputRuns.{front-comes}
+use Rattle.html_tokenizer_parts.proofs.InputRuns.{front-comes}
 use Rattle.html_tokenizer.proofs.Rises.{rises-less, text-no-more}
 
 module _ {K H : Type 0} (Sink : Ghosts K H) where

@@ -21,8 +21,8 @@ use Rattle.html_tokens.specs.declared.states.DoctypeIdKind.TheVariants as id
 use Rattle.html_tokens.specs.declared.states.AttrValueKind.TheVariants as value
 use Rattle.html_tokens.specs.declared.states.State.TheVariants as state
 use Rattle.html_tokens.specs.declared.sink.TokenSink.{Ghosts}
-use Rattle.html_tokenizer.specs.CharRefs.{fits_in}
-use Rattle.html_tokenizer.specs.declared.tokenizer.Stream.{Stream}
+use Rattle.html_tokenizer_parts.specs.CharRefs.{fits_in}
+use Rattle.html_tokenizer_parts.specs.declared.stream.Stream.{Stream}
 use Rattle.html_tokenizer.specs.declared.tokenizer.Tokenizer.{Tokenizer}
 use Rattle.html_tokenizer.specs.Rest.{rows_of, standing, fault_behind, pending, held_at}
 use Rattle.html_tokenizer.proofs.Lawful.{erred-more}

@@ -6,9 +6,10 @@ use Rattle.markup.specs.declared.fault.ParseFault.{ParseFault}
 use Rattle.html_tokens.specs.declared.replies.ProcessResult.{ProcessResult}
 use Rattle.html_tokens.specs.declared.replies.ProcessResult.TheVariants as flow
 use Rattle.html_tokens.specs.declared.sink.TokenSink.{Ghosts}
-use Rattle.html_tokenizer.specs.Calls.{Passed, Passes, counted, owed_for_text}
+use Rattle.html_tokenizer.specs.Calls.{Passed, Passes, owed_for_text}
+use Rattle.html_tokenizer_parts.specs.Input.{counted}
 use Rattle.html_tokenizer.specs.Going.{KeepsOn, PassesOn}
-use Rattle.html_tokenizer.specs.declared.tokenizer.Stream.{Stream}
+use Rattle.html_tokenizer_parts.specs.declared.stream.Stream.{Stream}
 use Rattle.html_tokenizer.specs.declared.tokenizer.Tokenizer.{Tokenizer}
 use Rattle.html_tokenizer.specs.Steps.{Erred, Errs, Keeps, Owed, Rises, Took, nothing_owed}
 use Rattle.html_tokenizer.proofs.Glue.{stays-same}

@@ -13,9 +13,9 @@ use Rattle.html_tokens.specs.declared.token.Token.{Token}
 use Rattle.html_tokens.specs.declared.sink.TokenSink.{Ghosts}
 use Rattle.html_tokens.specs.Notes.{Notes, noting}
 use Rattle.html_tokens.specs.Reading.{◌>>=◌, line_number}
-use Rattle.html_tokenizer.specs.CharRefs.{is_held, is_held_front, may_go_on, may_hold}
-use Rattle.html_tokenizer.specs.declared.held_reference.Ampersand.{Ampersand}
-use Rattle.html_tokenizer.specs.declared.held_reference.Ampersand.TheVariants.{Held}
+use Rattle.html_tokenizer_parts.specs.CharRefs.{is_held, is_held_front, may_go_on, may_hold}
+use Rattle.html_tokenizer_parts.specs.declared.held_reference.Ampersand.{Ampersand}
+use Rattle.html_tokenizer_parts.specs.declared.held_reference.Ampersand.TheVariants.{Held}
 use Rattle.html_tokenizer.specs.declared.tokenizer.Tokenizer.{Tokenizer}
 use Rattle.std.specs.Prelude.{◌&&◌}
 use Rattle.html_tokenizer.specs.Rest.{held_at, rows_of}

@@ -13,11 +13,12 @@ use Rattle.html_tokens.specs.Characters.{run}
 use Rattle.html_tokens.specs.Reference.{Reference, digits_at, is_text_in_value, named_row, numbered_reference, numeric, reference_by, semicolon}
 use Rattle.html_references.specs.References.{is_front, is_named, longer_of, longest}
 use Rattle.html_references.proofs.Begins.{fitting-is}
-use Rattle.html_tokenizer.specs.Calls.{HeldIn, is_value}
-use Rattle.html_tokenizer.specs.CharRefs.{BeginsReference, are_digits, fits_in, is_front_by, is_held_front, is_no_text, is_number_by, is_number_front, may_hold, stops}
-use Rattle.html_tokenizer.specs.declared.held_reference.Ampersand.{Ampersand}
-use Rattle.html_tokenizer.specs.declared.held_reference.Ampersand.TheVariants.{Held, Unknown}
-use Rattle.html_tokenizer.proofs.HeldFronts.{none-of, or-cases, text-alone}
+use Rattle.html_tokenizer.specs.Calls.{HeldIn, is_value, EndHeldIn}
+use Rattle.html_tokenizer_parts.specs.CharRefs.{BeginsReference, are_digits, fits_in, is_front_by, is_held_front, is_no_text, is_number_by, is_number_front, may_hold, stops}
+use Rattle.html_tokenizer_parts.specs.declared.held_reference.Ampersand.{Ampersand}
+use Rattle.html_tokenizer_parts.specs.declared.held_reference.Ampersand.TheVariants.{Held, Unknown}
+use Rattle.html_tokenizer_parts.proofs.HeldFronts.{none-of, or-cases, text-alone}
+use Rattle.html_tokenizer_parts.specs.Words.{FittingEnd, BeginsEnd}
 
 -- NUMBERS
 
@@ -168,3 +169,7 @@ pub holds-part : (rows : List ReferenceRow) (st : State) (behind : Option Ampers
 holds-part rows st None f = tt
 holds-part rows st (Some Unknown) f = tt
 holds-part rows st (Some (Held cs)) f = held-part (is_value st) rows cs (and_parts (is_held_front rows cs) (may_hold st) f).0
+
+-- so they do wherever the machine is
+pub holds-end : (st : State) (held : FittingEnd) → BeginsEnd held.name held.letters → EndHeldIn st held
+holds-end st held h = λ kind is. h

@@ -12,9 +12,9 @@ use Rattle.html_tokens.specs.Items.{item}
 use Rattle.html_tokens.specs.Reading.{◌>>=◌, erred_by, line_number, line_breaks, reading}
 use Rattle.html_tokens.specs.Reference.{Reference, fault_of_reference, reference_at}
 use Rattle.html_tokens.specs.Table.{Row}
-use Rattle.html_tokenizer.specs.CharRefs.{IsDecided, decided, is_held, resolved, resolved_by}
-use Rattle.html_tokenizer.proofs.CharRefs.{decided-in_text, decided-within, fault-decided, reference-decided, reference-end}
-use Rattle.html_tokenizer.proofs.HeldTexts.{held-drop}
+use Rattle.html_tokenizer_parts.specs.CharRefs.{IsDecided, decided, is_held, resolved, resolved_by}
+use Rattle.html_tokenizer_parts.proofs.CharRefs.{decided-in_text, decided-within, fault-decided, reference-decided, reference-end}
+use Rattle.html_tokenizer_parts.proofs.HeldTexts.{held-drop}
 use Rattle.html_tokenizer.proofs.Lawful.{Lawful}
 use Rattle.html_tokenizer.proofs.Readings.{play-end, reading-is, sum-zero}
 use Rattle.html_tokenizer.proofs.Runs.{reading-text, told-more}

@@ -13,12 +13,12 @@ use Rattle.html_tokens.specs.Notes.{Notes, noting, noting_error, noting_cdata, n
 use Rattle.html_tokens.specs.Reading.{◌>>=◌, line_number}
 use Rattle.html_tokens.specs.Reference.{Reference, fault_of_reference}
 use Rattle.html_tokens.specs.Sink.{SinkLaws}
-use Rattle.html_tokenizer.specs.CharRefs.{IsDecided, decided, is_faulty, is_held, is_unknown, resolved, resolved_by}
-use Rattle.html_tokenizer.specs.declared.held_reference.Ampersand.TheVariants.{Held, Unknown}
+use Rattle.html_tokenizer_parts.specs.CharRefs.{IsDecided, decided, is_faulty, is_held, is_unknown, resolved, resolved_by}
+use Rattle.html_tokenizer_parts.specs.declared.held_reference.Ampersand.TheVariants.{Held, Unknown}
 use Rattle.html_tokenizer.specs.declared.tokenizer.Tokenizer.{Tokenizer}
 use Rattle.html_tokenizer.specs.Rest.{rows_of, standing, held_at}
 use Rattle.html_tokenizer.specs.Steps.{owed_for, IsAt, more, Falls, Told, Tells, Keeps, reads}
-use Rattle.html_tokenizer.proofs.CharRefs.{fault-within, unknown-slight}
+use Rattle.html_tokenizer_parts.proofs.CharRefs.{fault-within, unknown-slight}
 use Rattle.html_tokenizer.proofs.Ambiguous.{keeps-resolved_unknown}
 use Rattle.html_tokenizer.proofs.Errors.{tells-less}
 use Rattle.html_tokenizer.proofs.Glue.{at}

@@ -12,12 +12,12 @@ use Rattle.html_tokens.specs.Item.{Slight, grave_if, slight_if, InData}
 use Rattle.html_tokens.specs.Notes.{Notes, noting, noting_error, noting_cdata, noting_end}
 use Rattle.html_tokens.specs.Reference.{Reference, fault_of_reference, goes_on_at, reference_at}
 use Rattle.html_tokens.specs.Table.{Row}
-use Rattle.html_tokenizer.specs.CharRefs.{IsDecided, decided, is_faulty, is_held, is_unknown, may_hold, resolved, resolved_by}
-use Rattle.html_tokenizer.specs.declared.held_reference.Ampersand.TheVariants.{Held, Unknown}
+use Rattle.html_tokenizer_parts.specs.CharRefs.{IsDecided, decided, is_faulty, is_held, is_unknown, may_hold, resolved, resolved_by}
+use Rattle.html_tokenizer_parts.specs.declared.held_reference.Ampersand.TheVariants.{Held, Unknown}
 use Rattle.html_tokenizer.specs.declared.tokenizer.Tokenizer.{Tokenizer}
 use Rattle.html_tokenizer.specs.Rest.{rows_of, standing, held_at}
 use Rattle.html_tokenizer.specs.Steps.{owed_for, more, now, IsAt, Erred, Keeps}
-use Rattle.html_tokenizer.proofs.CharRefs.{fault-decided, faulty-some, reference-decided, reference-end, unknown-slight}
+use Rattle.html_tokenizer_parts.proofs.CharRefs.{fault-decided, faulty-some, reference-decided, reference-end, unknown-slight}
 use Rattle.html_tokenizer.proofs.Ambiguous.{now-unknown, slight-again}
 use Rattle.html_tokenizer.proofs.Glue.{Absorbs, at, at_erred, keeps-behind, keeps_erred, now-at, stays-same}
 use Rattle.html_tokenizer.proofs.HeldGlue.{now-held}

@@ -12,12 +12,12 @@ use Rattle.html_tokens.specs.Reading.{erred_by, play}
 use Rattle.html_tokens.specs.Reference.{Reference, fault_of_reference, reference_at}
 use Rattle.html_tokens.specs.Table.{Row}
 use Rattle.html_tokens.specs.Tags.{Value, is_odd_unquoted, later, quote_at, quoted_after, reference_chars, reference_len, unquoted_after, value_from, with_attribute}
-use Rattle.html_tokenizer.specs.CharRefs.{decided, is_held, resolved, resolved_by}
+use Rattle.html_tokenizer_parts.specs.CharRefs.{decided, is_held, resolved, resolved_by}
 use Rattle.html_tokenizer.proofs.AttributeReadings.{quote_at-more}
-use Rattle.html_tokenizer.proofs.CharRefs.{decided-within}
+use Rattle.html_tokenizer_parts.proofs.CharRefs.{decided-within}
 use Rattle.html_tokenizer.proofs.Glue.{no-break}
 use Rattle.html_tokenizer.proofs.HeldReadings.{held-no_null, held-no_reference, held-unbroken}
-use Rattle.html_tokenizer.proofs.HeldTexts.{held-drop}
+use Rattle.html_tokenizer_parts.proofs.HeldTexts.{held-drop}
 use Rattle.html_tokenizer.proofs.Readings.{Absorbing, marked-both, play-is, play-odd}
 
 -- so many more

@@ -17,7 +17,7 @@ use Rattle.html_tokens.specs.Notes.{Notes, noting, noting_error, noting_cdata, n
 use Rattle.html_tokens.specs.Reading.{line_number}
 use Rattle.html_tokens.specs.Sink.{◌>>=◌, SinkLaws}
 use Rattle.html_tokens.specs.Tags.{named, name_after}
-use Rattle.html_tokenizer.specs.declared.error_code.ErrorCode.{ErrorCode}
+use Rattle.html_tokenizer_parts.specs.declared.error_code.ErrorCode.{ErrorCode}
 use Rattle.html_tokenizer.specs.declared.tokenizer.Tokenizer.{Tokenizer}
 use Rattle.html_tokenizer.specs.Rest.{rows_of, standing, held_at}
 use Rattle.html_tokenizer.specs.Steps.{IsAt, FallsAll, Falls, Told, Took, Keeps, Erred, owed_for, a_fault, reads, plays}

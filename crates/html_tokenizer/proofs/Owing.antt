@@ -18,8 +18,8 @@ use Rattle.html_tokens.specs.Notes.{Notes, noted, noting, noting_error, noting_c
 use Rattle.html_tokens.specs.Reading.{◌>>=◌, next_stand, said, line_number, line_breaks, reading_from, reading, play, erred_by}
 use Rattle.html_tokens.specs.Sink.{Step, Reply, Refusal}
 use Rattle.html_tokens.specs.Table.{Row}
-use Rattle.html_tokenizer.specs.declared.held_reference.Ampersand.{Ampersand}
-use Rattle.html_tokenizer.specs.declared.held_reference.Ampersand.TheVariants.{Held, Unknown}
+use Rattle.html_tokenizer_parts.specs.declared.held_reference.Ampersand.{Ampersand}
+use Rattle.html_tokenizer_parts.specs.declared.held_reference.Ampersand.TheVariants.{Held, Unknown}
 use Rattle.html_tokenizer.specs.declared.tokenizer.Tokenizer.{Tokenizer}
 use Rattle.html_tokenizer.specs.Calls.{noted_with}
 use Rattle.html_tokenizer.specs.Laws.{IsOwing}

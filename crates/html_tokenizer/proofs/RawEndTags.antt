@@ -19,15 +19,15 @@ use Rattle.html_tokens.specs.RawText.{is_fitting_end, ends_at_tag, kind_behind}
 use Rattle.html_tokens.specs.Reading.{◌>>=◌, line_number, line_break}
 use Rattle.html_tokens.specs.Sink.{SinkLaws}
 use Rattle.html_tokenizer.specs.declared.tokenizer.Tokenizer.{Tokenizer}
-use Rattle.html_tokenizer.specs.Rest.{rows_of, standing, kind_after, held_at}
+use Rattle.html_tokenizer.specs.Rest.{rows_of, standing, held_at}
 use Rattle.html_tokenizer.specs.Steps.{IsAt, Falls, Told, TakesAs, Took, Keeps, nothing_owed}
-use Rattle.html_tokenizer.specs.Words.{FittingEnd, may_escape}
+use Rattle.html_tokenizer_parts.specs.Words.{FittingEnd, may_escape, kind_after}
 use Rattle.html_tokenizer.proofs.Lawful.{noting-lawful}
 use Rattle.html_tokenizer.proofs.Readings.{sum-zero}
 use Rattle.html_tokenizer.proofs.Runs.{reading-text, reading-two}
 use Rattle.html_tokenizer.proofs.Glue.{Says, took, keeps_silent, at, no-break}
 use Rattle.html_tokenizer.proofs.Telling.{keeps_taken, keeps_then, not-told_from}
-use Rattle.html_tokenizer.proofs.RawKinds.{and-none, letter-no_open, letter-no_reference, letter-no_null, letter-no_break, letter-no_slash, kind-same, kind-open, kind-slash, fitting-slash}
+use Rattle.html_tokenizer_parts.proofs.RawKinds.{and-none, letter-no_open, letter-no_reference, letter-no_null, letter-no_break, letter-no_slash, kind-same, kind-open, kind-slash, fitting-slash}
 use Rattle.html_tokenizer.proofs.RawStates.{raw_text, plain-item, open-item, held-open}
 use Rattle.html_tokenizer.proofs.ScriptStates.{char-says, kind-says}
 

@@ -21,10 +21,10 @@ use Rattle.html_tokens.specs.Tags.{named, name_after}
 use Rattle.html_tokenizer.specs.declared.tokenizer.Tokenizer.{Tokenizer}
 use Rattle.html_tokenizer.specs.Rest.{rows_of, standing, held_at}
 use Rattle.html_tokenizer.specs.Steps.{IsAt, Keeps}
-use Rattle.html_tokenizer.specs.Words.{is_fitting, ends_raw_text}
+use Rattle.html_tokenizer_parts.specs.Words.{is_fitting, ends_raw_text}
 use Rattle.html_tokenizer.proofs.Glue.{keeps_silent, at, no-break}
-use Rattle.html_tokenizer.proofs.Words.{and_parts}
-use Rattle.html_tokenizer.proofs.RawKinds.{letter-no_break, letter-no_null, letter-no_end, end-no_letter, fitting-word}
+use Rattle.html_tokenizer_parts.proofs.Words.{and_parts}
+use Rattle.html_tokenizer_parts.proofs.RawKinds.{letter-no_break, letter-no_null, letter-no_end, end-no_letter, fitting-word}
 use Rattle.html_tokenizer.proofs.Readings.{Absorbing, sum-zero, reading-is, play-is}
 use Rattle.html_tokenizer.proofs.Lawful.{slight-absorbed}
 use Rattle.html_tokenizer.proofs.TagReadings.{name-more}

@@ -20,15 +20,15 @@ use Rattle.html_tokens.specs.RawText.{is_fitting_end, ends_at_tag, kind_behind}
 use Rattle.html_tokens.specs.Reading.{◌>>=◌, line_number, line_break}
 use Rattle.html_tokens.specs.Sink.{SinkLaws}
 use Rattle.html_tokenizer.specs.declared.tokenizer.Tokenizer.{Tokenizer}
-use Rattle.html_tokenizer.specs.Rest.{rows_of, standing, kind_after, held_at}
+use Rattle.html_tokenizer.specs.Rest.{rows_of, standing, held_at}
 use Rattle.html_tokenizer.specs.Steps.{IsAt, Falls, Told, Took, Keeps, nothing_owed}
-use Rattle.html_tokenizer.specs.Words.{FittingEnd, ends_raw_text}
+use Rattle.html_tokenizer_parts.specs.Words.{FittingEnd, ends_raw_text, kind_after}
 use Rattle.html_tokenizer.proofs.Lawful.{noting-lawful}
 use Rattle.html_tokenizer.proofs.Runs.{reading-text, told-more}
 use Rattle.html_tokenizer.proofs.Glue.{Says, took, at, no-break}
 use Rattle.html_tokenizer.proofs.Telling.{keeps_then, not-told_from}
-use Rattle.html_tokenizer.proofs.Words.{and_parts}
-use Rattle.html_tokenizer.proofs.RawKinds.{letter-no_open, letter-no_reference, letter-no_dash, letter-no_null, letter-no_break, kind-same, kind_after-letters, kind-open_slash, double_escaped}
+use Rattle.html_tokenizer_parts.proofs.Words.{and_parts}
+use Rattle.html_tokenizer_parts.proofs.RawKinds.{letter-no_open, letter-no_reference, letter-no_dash, letter-no_null, letter-no_break, kind-same, kind_after-letters, kind-open_slash, double_escaped}
 use Rattle.html_tokenizer.proofs.RawStates.{raw_text, plain-item}
 use Rattle.html_tokenizer.proofs.RawEndTags.{two-says, fits-none}
 

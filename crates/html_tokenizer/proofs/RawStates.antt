@@ -19,8 +19,8 @@ use Rattle.html_tokens.specs.Items.{item}
 use Rattle.html_tokens.specs.RawText.{is_fitting_end, ends_at_tag, has_references, kind_behind}
 use Rattle.html_tokens.specs.Reading.{◌>>=◌, line_number, line_break}
 use Rattle.html_tokens.specs.Sink.{Refusal, SinkLaws}
-use Rattle.html_tokenizer.specs.CharRefs.{may_hold}
-use Rattle.html_tokenizer.specs.declared.held_reference.Ampersand.TheVariants.{Held}
+use Rattle.html_tokenizer_parts.specs.CharRefs.{may_hold}
+use Rattle.html_tokenizer_parts.specs.declared.held_reference.Ampersand.TheVariants.{Held}
 use Rattle.html_tokenizer.specs.declared.tokenizer.Tokenizer.{Tokenizer}
 use Rattle.html_tokenizer.specs.Rest.{rows_of, standing, held_at}
 use Rattle.html_tokenizer.specs.Steps.{IsAt, TakesAs, Took, Keeps, nothing_owed, owed_for, reads}
@@ -29,7 +29,7 @@ use Rattle.html_tokenizer.proofs.Readings.{reading-char, sum-zero}
 use Rattle.html_tokenizer.proofs.Glue.{Says, took, at}
 use Rattle.html_tokenizer.proofs.Telling.{keeps_taken, took_reference}
 use Rattle.html_tokenizer.proofs.ShownTexts.{reading-shown}
-use Rattle.html_tokenizer.proofs.RawKinds.{kind-same, kind-dash, double_escaped}
+use Rattle.html_tokenizer_parts.proofs.RawKinds.{kind-same, kind-dash, double_escaped}
 
 -- a character of raw text that begins no end tag and no reference
 pub raw-item : {K : Type 0} (k : Tokenizer K) (kind : RawKind) (x : Bool) (c : ℕ) (t : List ℕ) → (nat_eq c 60 && ends_at_tag kind && is_fitting_end k.raw_end.name t) ≡ false → (nat_eq c 38 && has_references kind) ≡ false

@@ -3,7 +3,7 @@ use Rattle.std.proofs.Common.{◌≡◌, ℕ, Bool, true, false, List, Option, S
 use Rattle.html_queue.specs.declared.set.SmallCharSet.{SmallCharSet}
 use Rattle.html_tokens.specs.declared.states.State.{State}
 use Rattle.html_tokenizer.specs.Stops.{state_stops, stops_of, IsRunAt}
-use Rattle.html_tokenizer.specs.declared.held_reference.Ampersand.{Ampersand}
+use Rattle.html_tokenizer_parts.specs.declared.held_reference.Ampersand.{Ampersand}
 use Rattle.html_tokenizer.specs.declared.tokenizer.Tokenizer.{Tokenizer}
 use Rattle.html_tokenizer.specs.Steps.{IsAt}
 

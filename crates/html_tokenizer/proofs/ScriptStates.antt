@@ -18,12 +18,12 @@ use Rattle.html_tokens.specs.RawText.{kind_behind}
 use Rattle.html_tokens.specs.Reading.{◌>>=◌, line_number, line_break}
 use Rattle.html_tokens.specs.Sink.{SinkLaws}
 use Rattle.html_tokenizer.specs.declared.tokenizer.Tokenizer.{Tokenizer}
-use Rattle.html_tokenizer.specs.Rest.{kind_after, held_at}
+use Rattle.html_tokenizer.specs.Rest.{held_at}
 use Rattle.html_tokenizer.specs.Steps.{IsAt, TakesAs, Keeps, nothing_owed}
-use Rattle.html_tokenizer.specs.Words.{ends_script}
+use Rattle.html_tokenizer_parts.specs.Words.{ends_script, kind_after}
 use Rattle.html_tokenizer.proofs.Glue.{Says, keeps_silent, at}
 use Rattle.html_tokenizer.proofs.Telling.{keeps_taken}
-use Rattle.html_tokenizer.proofs.RawKinds.{letter-no_open, letter-no_reference, letter-no_null, kind_after-more, kind-script, kind-end_script}
+use Rattle.html_tokenizer_parts.proofs.RawKinds.{letter-no_open, letter-no_reference, letter-no_null, kind_after-more, kind-script, kind-end_script}
 use Rattle.html_tokenizer.proofs.RawStates.{raw_text, raw-char}
 
 module _ {K H : Type 0} (Sink : Ghosts K H) (laws : SinkLaws Sink.is_sound Sink.step Sink.ended Sink.is_quiet) where

@@ -16,7 +16,7 @@ use Rattle.html_tokens.specs.Sink.{numbered}
 use Rattle.html_tokens.specs.Tags.{last_name, behind_tag, is_faulty_tag}
 use Rattle.html_tokenizer.specs.declared.tokenizer.Tokenizer.{Tokenizer}
 use Rattle.html_tokenizer.specs.Rest.{rows_of, standing, held_at}
-use Rattle.html_tokenizer.specs.Words.{FittingEnd}
+use Rattle.html_tokenizer_parts.specs.Words.{FittingEnd}
 use Rattle.html_tokenizer.specs.Steps.{owed_for, IsAt, PausesAt, more, noted_by, Rises, state_behind, answer_to, FailsAmong, FallsAll, Fell, Stays, IsOfText, Erred, EndedTag, EndsTag, nothing_owed, owed_by, and_heard, reads}
 use Rattle.html_tokenizer.proofs.Glue.{at, fits-at, now-at, stays-then, fell-behind, fails-before}
 use Rattle.html_tokenizer.proofs.Rises.{heard-more, rises-heard}

@@ -9,9 +9,10 @@ use Rattle.html_tokens.specs.declared.replies.ProcessResult.TheVariants as flow
 use Rattle.html_tokens.specs.declared.sink.TokenSink.{Ghosts}
 use Rattle.html_tokens.specs.Notes.{Notes, noting, noting_error, noting_cdata, noting_end}
 use Rattle.html_tokens.specs.Reading.{erred_by, line_break}
-use Rattle.html_tokenizer.specs.Calls.{counted, Passed, Passes, owed_for_text}
-use Rattle.html_tokenizer.specs.declared.held_reference.Ampersand.{Ampersand}
-use Rattle.html_tokenizer.specs.declared.tokenizer.Stream.{Stream}
+use Rattle.html_tokenizer_parts.specs.Input.{counted}
+use Rattle.html_tokenizer.specs.Calls.{Passed, Passes, owed_for_text}
+use Rattle.html_tokenizer_parts.specs.declared.held_reference.Ampersand.{Ampersand}
+use Rattle.html_tokenizer_parts.specs.declared.stream.Stream.{Stream}
 use Rattle.html_tokenizer.specs.declared.tokenizer.Tokenizer.{Tokenizer}
 use Rattle.html_tokenizer.specs.Rest.{fault_behind, pending}
 use Rattle.html_tokenizer.specs.Steps.{Owed, now, noted_by, PausesAt, Erred, Errs, Took, Keeps, nothing_owed}

@@ -11,8 +11,8 @@ use Rattle.html_tokens.specs.declared.sink.TokenSink.{Ghosts}
 use Rattle.html_tokens.specs.Notes.{Notes, noting, noting_error, noting_cdata, noting_end}
 use Rattle.html_tokens.specs.Reading.{erred_by, line_break, line_number}
 use Rattle.html_tokens.specs.Sink.{Refusal}
-use Rattle.html_tokenizer.specs.CharRefs.{fits_in, may_hold}
-use Rattle.html_tokenizer.specs.declared.held_reference.Ampersand.TheVariants.{Held}
+use Rattle.html_tokenizer_parts.specs.CharRefs.{fits_in, may_hold}
+use Rattle.html_tokenizer_parts.specs.declared.held_reference.Ampersand.TheVariants.{Held}
 use Rattle.html_tokenizer.specs.declared.tokenizer.Tokenizer.{Tokenizer}
 use Rattle.html_tokenizer.specs.Rest.{fault_behind, pending, held_at, rows_of}
 use Rattle.html_tokenizer.specs.Steps.{Owed, IsAt, more, Falls, Told, TakesAs, Took, Keeps, now, nothing_owed}

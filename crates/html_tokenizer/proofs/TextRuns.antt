@@ -30,7 +30,7 @@ use Rattle.html_tokens.specs.Sink.{SinkLaws}
 use Rattle.html_tokens.specs.Table.{Row}
 use Rattle.html_tokens.specs.Tags.{is_odd_unquoted}
 use Rattle.html_tokenizer.specs.Calls.{TookRun, KeepsRun}
-use Rattle.html_tokenizer.specs.CharRefs.{fits_in}
+use Rattle.html_tokenizer_parts.specs.CharRefs.{fits_in}
 use Rattle.html_tokenizer.specs.declared.tokenizer.Tokenizer.{Tokenizer}
 use Rattle.html_tokenizer.specs.Quotes.{quote_of}
 use Rattle.html_tokenizer.specs.Rest.{rows_of, standing, held_at}
@@ -46,7 +46,7 @@ use Rattle.html_tokenizer.proofs.RawStates.{raw-item}
 use Rattle.html_tokenizer.proofs.Runs.{reading-text, told-more}
 use Rattle.html_tokenizer.proofs.RunStops.{run-at}
 use Rattle.html_tokenizer.proofs.ShownTexts.{shown-itself}
-use Rattle.html_tokenizer.proofs.Sets.{differs, not-member}
+use Rattle.html_tokenizer_parts.proofs.Sets.{differs, not-member}
 
 -- a character of an attribute's name that is no U+0000
 pub lowered-same : (c : ℕ) → nat_eq c 0 ≡ false → lowered c ≡ to_ascii_lowercase c

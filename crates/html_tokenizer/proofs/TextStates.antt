@@ -12,7 +12,7 @@ use Rattle.html_tokens.specs.Notes.{noting, noting_error, noting_cdata, noting_e
 use Rattle.html_tokens.specs.Item.{Grave, grave_if, InData, InPlaintext}
 use Rattle.html_tokens.specs.Reading.{line_number, line_break}
 use Rattle.html_tokens.specs.Sink.{SinkLaws}
-use Rattle.html_tokenizer.specs.declared.held_reference.Ampersand.TheVariants.{Held}
+use Rattle.html_tokenizer_parts.specs.declared.held_reference.Ampersand.TheVariants.{Held}
 use Rattle.html_tokenizer.specs.declared.tokenizer.Tokenizer.{Tokenizer}
 use Rattle.html_tokenizer.specs.Rest.{rows_of, standing, held_at}
 use Rattle.html_tokenizer.specs.Steps.{IsAt, TakesAs, Took, Keeps, nothing_owed, a_fault, owed_for, reads}

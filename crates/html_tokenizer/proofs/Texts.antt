@@ -9,7 +9,7 @@ use Rattle.html_tokens.specs.Notes.{NotedStep, noting, noting_error, noting_cdat
 use Rattle.html_tokens.specs.Reading.{first_place, reading}
 use Rattle.html_tokens.specs.TextState.{is_text_state}
 use Rattle.html_tokenizer.specs.Calls.{IsNew, ReadsAt}
-use Rattle.html_tokenizer.specs.declared.held_reference.Ampersand.{Ampersand}
+use Rattle.html_tokenizer_parts.specs.declared.held_reference.Ampersand.{Ampersand}
 use Rattle.html_tokenizer.specs.declared.tokenizer.Tokenizer.{Tokenizer}
 use Rattle.html_tokenizer.specs.Rest.{rows_of, standing, coming, held_at}
 use Rattle.html_tokens.specs.Item.{Fault}

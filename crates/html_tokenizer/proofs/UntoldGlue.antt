@@ -11,9 +11,9 @@ use Rattle.html_tokenizer.specs.declared.tokenizer.Tokenizer.{Tokenizer}
 use Rattle.html_tokenizer.specs.Rest.{held_at, played}
 use Rattle.html_tokenizer.specs.Untold.{Untold, Front, is_markup}
 use Rattle.html_tokenizer.proofs.Glue.{no-break}
-use Rattle.html_tokenizer.proofs.Keywords.{and_both}
+use Rattle.html_tokenizer_parts.proofs.Keywords.{and_both}
 use Rattle.html_tokenizer.proofs.Readings.{play-is}
-use Rattle.html_tokenizer.proofs.Words.{and_parts}
+use Rattle.html_tokenizer_parts.proofs.Words.{and_parts}
 
 -- a character that ends no line
 abbrev pub is_inline : ℕ → Bool

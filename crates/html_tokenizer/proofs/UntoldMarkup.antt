@@ -16,15 +16,15 @@ use Rattle.html_tokens.specs.Items.{declaration_at}
 use Rattle.html_tokens.specs.Reading.{play}
 use Rattle.html_tokens.specs.Table.{Row}
 use Rattle.html_tokens.proofs.Readings.{reading-item}
-use Rattle.html_tokenizer.specs.declared.keyword.Word.{Word}
-use Rattle.html_tokenizer.specs.declared.keyword.Word.TheVariants as word
+use Rattle.html_tokenizer_parts.specs.declared.keyword.Word.{Word}
+use Rattle.html_tokenizer_parts.specs.declared.keyword.Word.TheVariants as word
 use Rattle.html_tokenizer.specs.declared.tokenizer.Tokenizer.{Tokenizer}
-use Rattle.html_tokenizer.specs.Keywords.{becomes, may_become, may_declare, may_identify, IsPart}
+use Rattle.html_tokenizer_parts.specs.Keywords.{becomes, may_become, may_declare, may_identify, IsPart}
 use Rattle.html_tokenizer.specs.Rest.{rows_of, standing, with_identifier, held_at, played}
 use Rattle.html_tokenizer.specs.Untold.{Untold, Front}
 use Rattle.html_tokenizer.proofs.Declarations.{bogus-declared, nothing-begun}
 use Rattle.html_tokenizer.proofs.DoctypeKeywords.{begun-part, name-word, junk-read}
-use Rattle.html_tokenizer.proofs.Keywords.{is_plain, last-plain, part-plain, plain-break, word-plain}
+use Rattle.html_tokenizer_parts.proofs.Keywords.{is_plain, last-plain, part-plain, plain-break, word-plain}
 use Rattle.html_tokenizer.proofs.Readings.{play-is, sum-zero}
 use Rattle.html_tokenizer.proofs.UntoldGlue.{all-pass, by-mark, is_inline, play-inline}
 

@@ -20,15 +20,15 @@ use Rattle.html_tokens.specs.Tags.{named, name_after, tag_end}
 use Rattle.html_tokenizer.specs.declared.tokenizer.Tokenizer.{Tokenizer}
 use Rattle.html_tokenizer.specs.Rest.{rows_of, standing, held_at, read_at, played}
 use Rattle.html_tokenizer.specs.Untold.{BeginsEndTag, Untold, Front, Unended, has_end}
-use Rattle.html_tokenizer.specs.Words.{BeginsEnd, BeginsName, ends_raw_text, same_any_case}
-use Rattle.html_tokenizer.proofs.EndFronts.{same-itself}
-use Rattle.html_tokenizer.proofs.Keywords.{and_both}
-use Rattle.html_tokenizer.proofs.RawKinds.{letter-no_break, letter-no_end, letter-no_null, fitting-word, letters-of}
+use Rattle.html_tokenizer_parts.specs.Words.{BeginsEnd, BeginsName, ends_raw_text, same_any_case}
+use Rattle.html_tokenizer_parts.proofs.EndFronts.{same-itself}
+use Rattle.html_tokenizer_parts.proofs.Keywords.{and_both}
+use Rattle.html_tokenizer_parts.proofs.RawKinds.{letter-no_break, letter-no_end, letter-no_null, fitting-word, letters-of}
 use Rattle.html_tokenizer.proofs.Readings.{play-is, reading-is, sum-zero}
 use Rattle.html_tokenizer.proofs.UntoldGlue.{all-pass, is_inline, play-inline}
 use Rattle.html_tokenizer.proofs.UntoldTags.{part-closed}
 use Rattle.html_tokenizer.proofs.UntoldText.{less_than-told}
-use Rattle.html_tokenizer.proofs.Words.{and_parts, letter-of}
+use Rattle.html_tokenizer_parts.proofs.Words.{and_parts, letter-of}
 
 -- LETTERS
 

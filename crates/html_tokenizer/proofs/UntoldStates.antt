@@ -2,9 +2,9 @@
 use Rattle.html_tokens.specs.declared.states.State.{State}
 use Rattle.html_tokens.specs.declared.states.State.TheVariants as state
 use Rattle.html_tokenizer.specs.declared.tokenizer.Tokenizer.{Tokenizer}
-use Rattle.html_tokenizer.specs.Keywords.{IsPart}
+use Rattle.html_tokenizer_parts.specs.Keywords.{IsPart}
 use Rattle.html_tokenizer.specs.Untold.{Untold}
-use Rattle.html_tokenizer.specs.Words.{BeginsEnd}
+use Rattle.html_tokenizer_parts.specs.Words.{BeginsEnd}
 use Rattle.html_tokenizer.proofs.UntoldMarkup.{open-front, end_open-front, declaration-front, bogus-front, comment_start-front, comment_start_dash-front, comment-front, comment_less_than-front, comment_bang-front, comment_bang_dash-front, comment_bang_dashes-front, comment_end_dash-front, comment_end-front, comment_end_bang-front, doctype-front, before_doctype-front, doctype_name-front, after_doctype_name-front, keyword-front, before_identifier-front, double_quoted-front, single_quoted-front, after_identifier-front, between-front, bogus_doctype-front}
 use Rattle.html_tokenizer.proofs.UntoldRaw.{less_than-untold, end_open-untold, end_name-untold}
 use Rattle.html_tokenizer.proofs.UntoldTags.{tag_name-front, before_name-front, name-front, after_name-front, before_value-front, value-front, after_value-front, self_closing-front}

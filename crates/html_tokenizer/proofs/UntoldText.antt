@@ -9,7 +9,8 @@ use Rattle.html_tokens.specs.declared.states.State.TheVariants as state
 use Rattle.html_tokens.specs.Item.{InData, InRaw, InPlaintext, InCdata, silent}
 use Rattle.html_tokens.proofs.Readings.{reading-item}
 use Rattle.html_tokenizer.specs.declared.tokenizer.Tokenizer.{Tokenizer}
-use Rattle.html_tokenizer.specs.Rest.{rows_of, standing, kind_after, held_at}
+use Rattle.html_tokenizer.specs.Rest.{rows_of, standing, held_at}
+use Rattle.html_tokenizer_parts.specs.Words.{kind_after}
 use Rattle.html_tokenizer.specs.Untold.{Untold, Nothing, Front}
 use Rattle.html_tokenizer.proofs.UntoldGlue.{by-mark}
 

@@ -21,19 +21,21 @@ use Rattle.html_tokens.specs.TextState.{is_text_state}
 use Rattle.html_tokens.specs.Notes.{Notes, noting, noting_error, noting_cdata, noting_end}
 use Rattle.html_tokens.specs.Reading.{◌>>=◌, line_number, first_place, first_stand}
 use Rattle.html_tokens.specs.Sink.{Reply, Refusal}
-use Rattle.html_tokenizer.specs.CharRefs.{BeginsReference, fits_in}
-use Rattle.html_tokenizer.specs.Forbidden.{is_forbidden}
-use Rattle.html_tokenizer.specs.declared.held_reference.Ampersand.{Ampersand}
-use Rattle.html_tokenizer.specs.declared.held_reference.Ampersand.TheVariants.{Held, Unknown}
-use Rattle.html_tokenizer.specs.declared.tokenizer.Stream.{Stream}
+use Rattle.html_tokenizer_parts.specs.CharRefs.{BeginsReference, fits_in}
+use Rattle.html_tokenizer_parts.specs.Forbidden.{is_forbidden}
+use Rattle.html_tokenizer_parts.specs.declared.held_reference.Ampersand.{Ampersand}
+use Rattle.html_tokenizer_parts.specs.declared.held_reference.Ampersand.TheVariants.{Held, Unknown}
+use Rattle.html_tokenizer_parts.specs.declared.stream.Stream.{Stream}
 use Rattle.html_tokenizer.specs.declared.tokenizer.Tokenizer.{Tokenizer}
-use Rattle.html_tokenizer.specs.Input.{last_of, ComesAsRun}
+pub use Rattle.html_tokenizer_parts.specs.Input.{last_of}
+use Rattle.html_tokenizer_parts.specs.Input.{ComesAsRun}
 use Rattle.html_tokenizer.specs.Stops.{stops_of}
 use Rattle.html_queue.specs.declared.set.SmallCharSet.{SmallCharSet}
 use Rattle.html_tokenizer.specs.Rest.{rest, rows_of, standing, coming}
 use Rattle.html_tokenizer.specs.Untold.{Untold}
-use Rattle.html_tokenizer.specs.Words.{BeginsEnd, FittingEnd}
+use Rattle.html_tokenizer_parts.specs.Words.{BeginsEnd, FittingEnd}
 use Rattle.html_tokenizer.specs.Steps.{IsAt, PausesAt, Owed, nothing_owed, owed_for_each, together, more, paused_by, noted_by, Rises, now, Stays, Fell, Fails, FailsAmong, Replied, reads}
+pub use Rattle.html_tokenizer_parts.specs.Refusals.{refused_by, refusal, Refuses}
 
 -- the pauses so far, and the one with which a call of `feed` hands back control
 abbrev pub paused_with : {H : Type 0} → (H → ℕ) → List Reply → TokenizerResult H → List Reply
@@ -49,19 +51,6 @@ noted_with number owed notes result = record (more owed notes) { pauses = paused
 abbrev pub owed_for_text : Bool → List ℕ → Owed
 owed_for_text false t = nothing_owed
 owed_for_text true t = owed_for_each is_forbidden t
-
--- a number of line breaks behind one character more: at u64::MAX it stays
-abbrev pub counted : ℕ → ℕ → ℕ
-counted breaks c = if nat_eq c 10 then min (breaks + 1) 0xffff_ffff_ffff_ffff else breaks
-
-abbrev pub refused_by : Bool → Bool → Option ParseFault
-refused_by true has_ended = Some fault.Failed
-refused_by false true = Some fault.Ended
-refused_by false false = None
-
--- what every call that answers a fault is refused by: a fault that stands before, or else the end
-abbrev pub refusal : Stream → Option ParseFault
-refusal stream = refused_by stream.has_failed stream.has_ended
 
 -- The next of the characters that come are this run, of which none is a stop where the machine stands.
 pub record ComesAsRunAt {K : Type 0} (k : Tokenizer K) (new : Stream) (from to : Queue) (run : List ℕ) : Type 0 where
@@ -80,11 +69,6 @@ has_ended k = k.stream.has_ended
 -- the text state in which a tokenizer with nothing pending stands
 abbrev pub text_place : {K : Type 0} → Tokenizer K → Place
 text_place k = first_place (Some k.state)
-
--- the answer of a call that is refused so, or is not
-abbrev pub Refuses : Option ParseFault → Result (Unit {0}) ParseFault → Type 0
-Refuses None result = IsOk result
-Refuses (Some fault) result = result ≡ Err fault
 
 -- whether a tokenizer stands in text, holds no part of an item, and neither ended nor failed
 abbrev pub is_nothing_pending : {K : Type 0} → Tokenizer K → Bool

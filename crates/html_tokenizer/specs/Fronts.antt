@@ -13,13 +13,14 @@ use Rattle.html_tokens.specs.declared.tags.TagKind.{TagKind}
 use Rattle.html_tokens.specs.declared.tags.TagKind.TheVariants.{StartTag, EndTag}
 use Rattle.html_tokens.specs.Tags.{named, with_attribute}
 use Rattle.html_tokenizer.specs.Calls.{TookRun}
-use Rattle.html_tokenizer.specs.CharRefs.{is_held, is_held_front}
-use Rattle.html_tokenizer.specs.declared.held_reference.Ampersand.TheVariants.{Held}
+use Rattle.html_tokenizer_parts.specs.CharRefs.{is_held, is_held_front}
+use Rattle.html_tokenizer_parts.specs.declared.held_reference.Ampersand.TheVariants.{Held}
 use Rattle.html_tokenizer.specs.declared.tokenizer.Tokenizer.{Tokenizer}
 use Rattle.html_tokenizer.specs.Rest.{rows_of}
 use Rattle.html_tokenizer.specs.Steps.{IsAt}
 use Rattle.html_tokenizer.specs.Stops.{with_breaks}
 pub use Rattle.html_tokenizer.specs.Stops.{attribute_stops}
+use Rattle.html_tokenizer_parts.specs.Input.{IsUnbroken}
 
 -- the characters at which a tag's name is taken no further at once
 abbrev pub name_stops : SmallCharSet
@@ -36,10 +37,6 @@ reference_stops = with_breaks (9 ∷ 12 ∷ 32 ∷ 38 ∷ 59 ∷ 60 ∷ [])
 -- no character of a text is in a set
 abbrev pub Lacks : SmallCharSet → List ℕ → Type 0
 Lacks set cs = All (λ c. has set.bits c ≡ false) cs
-
--- no character of a text is a line end
-abbrev pub IsUnbroken : List ℕ → Type 0
-IsUnbroken cs = All (λ c. (nat_eq c 10 ≡ false) × (nat_eq c 13 ≡ false)) cs
 
 -- a letter stands at the front of a text
 pub record BeginsWithLetter (cs : List ℕ) : Type 0 where

@@ -1,13 +1,8 @@
 pub mod Calls
-pub mod CharRefs
 pub mod EndStates
 pub mod EndText
-pub mod Forbidden
 pub mod Fronts
 pub mod Going
-pub mod HeldChars
-pub mod Input
-pub mod Keywords
 pub mod Laws
 pub mod Quotes
 pub mod Ready
@@ -15,4 +10,3 @@ pub mod Rest
 pub mod Steps
 pub mod Stops
 pub mod Untold
-pub mod Words

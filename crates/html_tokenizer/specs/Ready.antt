@@ -5,7 +5,7 @@ use mathlib.Core.Bool.{Bool-set}
 use Rattle.markup.specs.declared.fault.ParseFault.{ParseFault}
 use Rattle.html_tokens.specs.declared.sink.TokenSink.{Ghosts}
 use Rattle.html_tokenizer.specs.Calls.{IsReady, IsReadyIf}
-use Rattle.html_tokenizer.specs.CharRefs.{fits_in}
+use Rattle.html_tokenizer_parts.specs.CharRefs.{fits_in}
 use Rattle.html_tokenizer.specs.declared.tokenizer.Tokenizer.{Tokenizer}
 use Rattle.html_tokenizer.specs.Rest.{rows_of}
 

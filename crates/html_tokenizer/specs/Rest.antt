@@ -19,9 +19,10 @@ use Rattle.html_tokens.specs.Reading.{erred_by, reading, play}
 use Rattle.html_tokens.specs.Sink.{Refusal}
 use Rattle.html_tokens.specs.Table.{Row}
 use Rattle.html_tokens.specs.Tags.{name_after, attribute_after, equals_at, value_at, unquoted_after, quoted_after, lacks_space}
-use Rattle.html_tokenizer.specs.declared.held_reference.Ampersand.{Ampersand}
-use Rattle.html_tokenizer.specs.declared.held_reference.Ampersand.TheVariants.{Held, Unknown}
+use Rattle.html_tokenizer_parts.specs.declared.held_reference.Ampersand.{Ampersand}
+use Rattle.html_tokenizer_parts.specs.declared.held_reference.Ampersand.TheVariants.{Held, Unknown}
 use Rattle.html_tokenizer.specs.declared.tokenizer.Tokenizer.{Tokenizer}
+use Rattle.html_tokenizer_parts.specs.Words.{kind_after}
 
 -- the rows of the table of references
 abbrev pub rows_of : {K : Type 0} → Tokenizer K → List Row
@@ -47,11 +48,6 @@ standing k place = record { place = place; last_start_tag = k.raw_end.name }
 abbrev pub with_identifier : DoctypeIdKind → Doctype → List ℕ → Doctype
 with_identifier id.Public d cs = record d { public_id = Some cs }
 with_identifier id.System d cs = record d { system_id = Some cs }
-
--- how a script's text goes on behind a front that was told, before t
-abbrev pub kind_after : RawKind → List ℕ → List ℕ → RawKind
-kind_after kind [] t = kind
-kind_after kind (c ∷ cs) t = kind_after (kind_behind kind c (cs ++ t)) cs t
 
 -- the text that comes, of these characters of the input
 abbrev pub coming : {K : Type 0} → Tokenizer K → List ℕ → List ℕ

@@ -18,7 +18,7 @@ use Rattle.html_tokens.specs.Reading.{◌>>=◌, line_break, line_number, next_s
 use Rattle.html_tokens.specs.Sink.{Reply, Refusal, InText, AfterEnd, Unfit}
 use Rattle.html_tokens.specs.Table.{Row}
 use Rattle.html_tokens.specs.Tags.{behind_tag, is_faulty_tag}
-use Rattle.html_tokenizer.specs.CharRefs.{fits_in}
+use Rattle.html_tokenizer_parts.specs.CharRefs.{fits_in}
 use Rattle.html_tokenizer.specs.declared.tokenizer.Tokenizer.{Tokenizer}
 use Rattle.html_tokenizer.specs.Rest.{rows_of, standing, held}
 

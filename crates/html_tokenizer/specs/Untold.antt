@@ -9,7 +9,7 @@ use Rattle.html_tokens.specs.Notes.{NotedStep}
 use Rattle.html_tokens.specs.RawText.{is_letters, ends_at_tag}
 use Rattle.html_tokenizer.specs.declared.tokenizer.Tokenizer.{Tokenizer}
 use Rattle.html_tokenizer.specs.Rest.{read_at, played, held_at}
-use Rattle.html_tokenizer.specs.Words.{BeginsEnd}
+use Rattle.html_tokenizer_parts.specs.Words.{BeginsEnd}
 
 -- text of any kind
 abbrev pub is_text_place : Place → Bool

@@ -11,10 +11,10 @@ ghost use Rattle.html_tokenizer.specs.Calls.{KeepsRun};
 ghost use Rattle.html_tokenizer.specs.Steps.{IsAt, Keeps, Errs, owed_for_each};
 ghost use Rattle.html_tokenizer.specs.Stops.{IsRunAt};
 
-use crate::characters::{ends_tag_name, ends_word, is_white_space, lowered, shown};
-use crate::error_code::ErrorCode;
-use crate::held_reference::{Ampersand, HeldReference};
 use crate::tokenizer::Tokenizer;
+use html_tokenizer_parts::characters::{ends_tag_name, ends_word, is_white_space, lowered, shown};
+use html_tokenizer_parts::error_code::ErrorCode;
+use html_tokenizer_parts::held_reference::{Ampersand, HeldReference};
 use html_tokens::ProcessResult;
 use html_tokens::sink::TokenSink;
 use html_tokens::states::{AttrValueKind, State};

@@ -7,15 +7,16 @@ ghost use Rattle.html_tokens.specs.declared.states.State.TheVariants as state;
 ghost use Rattle.html_tokenizer.specs.Calls.{refusal, refusal_of, has_ended, text_place, is_nothing_pending, IsReadyIf, IsNew, ReadsAt, FeedGives, EndGives, KeepsSound, TellsEnd, Refuses};
 
 use crate::doctype_states::no_doctype;
-use crate::error_code::ErrorCode;
-use crate::keyword::Keyword;
-use crate::letters::Letters;
-use crate::raw_end::RawEnd;
-use crate::repeats::Repeats;
 use crate::tag_states::nameless;
-use crate::tokenizer::{Stream, Tokenizer};
+use crate::tokenizer::Tokenizer;
 use html_queue::BufferQueue;
 use html_references::References;
+use html_tokenizer_parts::error_code::ErrorCode;
+use html_tokenizer_parts::keyword::Keyword;
+use html_tokenizer_parts::letters::Letters;
+use html_tokenizer_parts::raw_end::RawEnd;
+use html_tokenizer_parts::repeats::Repeats;
+use html_tokenizer_parts::stream::Stream;
 use html_tokens::TokenizerOpts;
 use html_tokens::sink::TokenSink;
 use html_tokens::states::State;
@@ -31,21 +32,6 @@ fn first_state(initial_state: Option<State>) -> State
     match initial_state {
         Some(state) => state,
         None => State::Data,
-    }
-}
-
-impl Stream {
-    /// Refuses where a fault or the end of the input stands before.
-    fn refuses(&self) -> Result<(), ParseFault>
-        ensures { Refuses (refusal self.now) result }
-    {
-        if self.has_failed {
-            return Err(ParseFault::Failed);
-        }
-        if self.has_ended {
-            return Err(ParseFault::Ended);
-        }
-        Ok(())
     }
 }
 

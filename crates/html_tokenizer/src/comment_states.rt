@@ -4,9 +4,9 @@ ghost use Rattle.html_tokens.specs.declared.states.State.TheVariants as state;
 ghost use Rattle.html_tokens.specs.declared.token.Token.TheVariants.{CommentToken};
 ghost use Rattle.html_tokenizer.specs.Steps.{IsAt, Tells, Keeps, nothing_owed, a_fault};
 
-use crate::characters::shown;
-use crate::error_code::ErrorCode;
 use crate::tokenizer::Tokenizer;
+use html_tokenizer_parts::characters::shown;
+use html_tokenizer_parts::error_code::ErrorCode;
 use html_tokens::sink::TokenSink;
 use html_tokens::states::State;
 use html_tokens::{ProcessResult, Token};

@@ -1,13 +1,13 @@
 //! What stands behind `<!` (HTML Standard, section 13.2.5.42).
 ghost use Rattle.std.specs.Prelude.{◌≡◌, ◌∷◌, [], ◌++◌, true};
 ghost use Rattle.html_tokens.specs.declared.states.State.TheVariants as state;
-ghost use Rattle.html_tokenizer.specs.declared.keyword.Word.TheVariants as word;
-ghost use Rattle.html_tokenizer.specs.Keywords.{becomes, IsPart, MakesNoWord, OpensNothing};
+ghost use Rattle.html_tokenizer_parts.specs.declared.keyword.Word.TheVariants as word;
+ghost use Rattle.html_tokenizer_parts.specs.Keywords.{becomes, IsPart, MakesNoWord, OpensNothing};
 ghost use Rattle.html_tokenizer.specs.Steps.{IsAt, Keeps};
 
-use crate::error_code::ErrorCode;
-use crate::keyword::Word;
 use crate::tokenizer::Tokenizer;
+use html_tokenizer_parts::error_code::ErrorCode;
+use html_tokenizer_parts::keyword::Word;
 use html_tokens::ProcessResult;
 use html_tokens::sink::TokenSink;
 use html_tokens::states::State;

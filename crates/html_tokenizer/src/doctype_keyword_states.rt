@@ -2,12 +2,12 @@
 ghost use Rattle.std.specs.Prelude.{◌≡◌, true, false};
 ghost use Rattle.html_tokens.specs.declared.states.State.TheVariants as state;
 ghost use Rattle.html_tokens.specs.Characters.{ends_word};
-ghost use Rattle.html_tokenizer.specs.Keywords.{front_of, IsPart, MakesNoIdentifier};
+ghost use Rattle.html_tokenizer_parts.specs.Keywords.{front_of, IsPart, MakesNoIdentifier};
 ghost use Rattle.html_tokenizer.specs.Steps.{IsAt, Keeps};
 
-use crate::error_code::ErrorCode;
-use crate::keyword::Word;
 use crate::tokenizer::Tokenizer;
+use html_tokenizer_parts::error_code::ErrorCode;
+use html_tokenizer_parts::keyword::Word;
 use html_tokens::ProcessResult;
 use html_tokens::sink::TokenSink;
 use html_tokens::states::{DoctypeIdKind, State};

@@ -8,10 +8,10 @@ ghost use Rattle.html_tokenizer.specs.Rest.{with_identifier};
 ghost use Rattle.html_tokenizer.specs.Steps.{IsAt, Tells, Keeps, owed_for};
 ghost use Rattle.html_tokens.specs.Item.{grave_if};
 
-use crate::characters::{ends_word, is_white_space, lowered, shown};
-use crate::error_code::ErrorCode;
-use crate::keyword::Keyword;
 use crate::tokenizer::Tokenizer;
+use html_tokenizer_parts::characters::{ends_word, is_white_space, lowered, shown};
+use html_tokenizer_parts::error_code::ErrorCode;
+use html_tokenizer_parts::keyword::Keyword;
 use html_tokens::sink::TokenSink;
 use html_tokens::states::{DoctypeIdKind, State};
 use html_tokens::{Doctype, ProcessResult, Token};

@@ -8,8 +8,8 @@ ghost use Rattle.html_tokenizer.specs.EndStates.{is_comment_part, is_doctype_par
 ghost use Rattle.html_tokenizer.specs.Rest.{with_identifier};
 ghost use Rattle.html_tokenizer.specs.Steps.{IsAt, Tells, a_fault};
 
-use crate::error_code::ErrorCode;
 use crate::tokenizer::Tokenizer;
+use html_tokenizer_parts::error_code::ErrorCode;
 use html_tokens::sink::TokenSink;
 use html_tokens::states::{DoctypeIdKind, State};
 use markup::{ParseFault, Text};

@@ -7,9 +7,9 @@ ghost use Rattle.html_tokenizer.specs.Fronts.{HoldsName, IsReferenceAt};
 
 use crate::char_bits::{AMPERSAND, BREAKS, FORM_FEED, LESS_THAN, SEMICOLON, SPACE, TAB};
 use crate::front_tags::behind;
-use crate::held_reference::{Ampersand, HeldReference};
 use crate::tokenizer::Tokenizer;
 use html_queue::SmallCharSet;
+use html_tokenizer_parts::held_reference::{Ampersand, HeldReference};
 use html_tokens::sink::TokenSink;
 use markup::{ParseFault, Text};
 

@@ -6,10 +6,10 @@ ghost use Rattle.html_tokens.specs.declared.token.Token.TheVariants.{CharacterTo
 ghost use Rattle.html_tokenizer.specs.Steps.{IsAt, Tells, Keeps, owed_for};
 ghost use Rattle.html_tokens.specs.Item.{Slight};
 
-use crate::error_code::ErrorCode;
-use crate::keyword::Keyword;
 use crate::tag_states::nameless;
 use crate::tokenizer::Tokenizer;
+use html_tokenizer_parts::error_code::ErrorCode;
+use html_tokenizer_parts::keyword::Keyword;
 use html_tokens::sink::TokenSink;
 use html_tokens::states::State;
 use html_tokens::{ProcessResult, TagKind};

@@ -8,11 +8,11 @@ ghost use Rattle.html_tokens.specs.declared.states.ScriptEscapeKind.TheVariants 
 ghost use Rattle.html_tokens.specs.declared.token.Token.TheVariants.{CharacterTokens};
 ghost use Rattle.html_tokens.specs.RawText.{ends_at_tag, has_references};
 ghost use Rattle.html_tokenizer.specs.Steps.{IsAt, Tells, Keeps, nothing_owed};
-ghost use Rattle.html_tokenizer.specs.Words.{ends_raw_text, may_escape};
+ghost use Rattle.html_tokenizer_parts.specs.Words.{ends_raw_text, may_escape};
 
-use crate::held_reference::{Ampersand, HeldReference};
-use crate::letters::Letters;
 use crate::tokenizer::Tokenizer;
+use html_tokenizer_parts::held_reference::{Ampersand, HeldReference};
+use html_tokenizer_parts::letters::Letters;
 use html_tokens::sink::TokenSink;
 use html_tokens::states::{RawKind, ScriptEscapeKind, State};
 use html_tokens::{ProcessResult, Tag, TagKind, Token};

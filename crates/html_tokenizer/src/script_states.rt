@@ -6,10 +6,10 @@ ghost use Rattle.html_tokens.specs.declared.states.RawKind.TheVariants.{ScriptDa
 ghost use Rattle.html_tokens.specs.declared.states.State.TheVariants as state;
 ghost use Rattle.html_tokens.specs.declared.states.ScriptEscapeKind.TheVariants as script;
 ghost use Rattle.html_tokenizer.specs.Steps.{IsAt, Keeps};
-ghost use Rattle.html_tokenizer.specs.Words.{ends_script};
+ghost use Rattle.html_tokenizer_parts.specs.Words.{ends_script};
 
-use crate::characters::ends_tag_name;
 use crate::tokenizer::Tokenizer;
+use html_tokenizer_parts::characters::ends_tag_name;
 use html_tokens::ProcessResult;
 use html_tokens::sink::TokenSink;
 use html_tokens::states::{RawKind, ScriptEscapeKind, State};

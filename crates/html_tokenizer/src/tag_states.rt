@@ -8,10 +8,10 @@ ghost use Rattle.markup.specs.declared.fault.ParseFault.TheVariants.{Memory};
 ghost use Rattle.html_tokenizer.specs.Steps.{IsAt, Keeps, Errs, EndsTag, state_behind, answer_to, owed_for};
 ghost use Rattle.html_tokens.specs.Item.{grave_if};
 
-use crate::characters::{is_white_space, lowered};
-use crate::error_code::ErrorCode;
-use crate::repeats::Repeats;
 use crate::tokenizer::Tokenizer;
+use html_tokenizer_parts::characters::{is_white_space, lowered};
+use html_tokenizer_parts::error_code::ErrorCode;
+use html_tokenizer_parts::repeats::Repeats;
 use html_tokens::sink::TokenSink;
 use html_tokens::states::State;
 use html_tokens::{ProcessResult, Tag, TagKind, Token, TokenSinkResult};

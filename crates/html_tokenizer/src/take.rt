@@ -1,29 +1,18 @@
 //! One character of the input, with its line and its own errors.
 ghost use Rattle.std.specs.Prelude.{◌≡◌, ◌≢◌, ◌∷◌, [], true, false};
 ghost use Rattle.html_tokens.specs.declared.states.State.TheVariants as state;
-ghost use Rattle.html_tokenizer.specs.Calls.{Passes, counted, owed_for_text};
+ghost use Rattle.html_tokenizer.specs.Calls.{Passes, owed_for_text};
 ghost use Rattle.html_tokenizer.specs.Going.{KeepsOn, PassesOn};
 ghost use Rattle.html_tokenizer.specs.Rest.{rows_of};
-ghost use Rattle.html_tokenizer.specs.CharRefs.{fits_in};
+ghost use Rattle.html_tokenizer_parts.specs.CharRefs.{fits_in};
 ghost use Rattle.html_tokenizer.specs.Steps.{Errs, IsAt, Keeps};
 
-use crate::characters::{forbidden_code, is_forbidden};
-use crate::held_reference::Ampersand;
-use crate::tokenizer::{Stream, Tokenizer};
+use crate::tokenizer::Tokenizer;
+use html_tokenizer_parts::characters::{forbidden_code, is_forbidden};
+use html_tokenizer_parts::held_reference::Ampersand;
 use html_tokens::ProcessResult;
 use html_tokens::sink::TokenSink;
 use markup::ParseFault;
-
-impl Stream {
-    /// Counts a line break, if the character is one.
-    fn count_break(&mut self, c: char)
-        ensures { self.new ≡ record self.old { breaks = counted self.old.breaks c } }
-    {
-        if c == '\n' {
-            self.breaks = self.breaks.saturating_add(1);
-        }
-    }
-}
 
 impl<Sink: TokenSink> Tokenizer<Sink> {
     /// Tells of a control character or a noncharacter, where such are told.

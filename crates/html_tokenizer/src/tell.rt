@@ -6,8 +6,8 @@ ghost use Rattle.html_tokens.specs.Reading.{line_number};
 ghost use Rattle.html_tokenizer.specs.Steps.{IsNoTag, IsOfText, Tells, TellsAmong, Errs, nothing_owed, a_fault, owed_for};
 ghost use Rattle.html_tokens.specs.Item.{grave_if};
 
-use crate::error_code::ErrorCode;
 use crate::tokenizer::Tokenizer;
+use html_tokenizer_parts::error_code::ErrorCode;
 use html_tokens::Token;
 use html_tokens::sink::TokenSink;
 use markup::{ParseFault, Text};

@@ -6,9 +6,9 @@ ghost use Rattle.html_tokens.specs.Characters.{shown};
 ghost use Rattle.html_tokenizer.specs.Steps.{IsAt, Tells, TakesAs, Keeps, nothing_owed, a_fault, owed_for};
 ghost use Rattle.html_tokens.specs.Item.{grave_if};
 
-use crate::error_code::ErrorCode;
-use crate::held_reference::{Ampersand, HeldReference};
 use crate::tokenizer::Tokenizer;
+use html_tokenizer_parts::error_code::ErrorCode;
+use html_tokenizer_parts::held_reference::{Ampersand, HeldReference};
 use html_tokens::sink::TokenSink;
 use html_tokens::states::State;
 use html_tokens::{ProcessResult, Token};

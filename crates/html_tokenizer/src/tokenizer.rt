@@ -1,36 +1,15 @@
 //! What a tokenizer holds between two characters.
 
-use crate::error_code::ErrorCode;
-use crate::held_reference::Ampersand;
-use crate::keyword::Keyword;
-use crate::letters::Letters;
-use crate::raw_end::RawEnd;
-use crate::repeats::Repeats;
-use html_references::References;
+use html_tokenizer_parts::error_code::ErrorCode;
+use html_tokenizer_parts::held_reference::Ampersand;
+use html_tokenizer_parts::keyword::Keyword;
+use html_tokenizer_parts::letters::Letters;
+use html_tokenizer_parts::raw_end::RawEnd;
+use html_tokenizer_parts::repeats::Repeats;
+use html_tokenizer_parts::stream::Stream;
 use html_tokens::states::State;
 use html_tokens::{Doctype, Tag};
 use markup::Text;
-use std::alloc::Global;
-
-/// What a tokenizer knows of its input wherever it stands.
-#[derive(Drop)]
-pub struct Stream {
-    pub(crate) alloc: Global,
-    /// The named references.
-    pub(crate) table: References,
-    /// Whether control characters and noncharacters are told as errors.
-    pub(crate) exact_errors: bool,
-    /// Whether a byte order mark may still come, which is dropped.
-    pub(crate) discard_bom: bool,
-    /// Whether a line feed is dropped, since it stands behind a carriage return.
-    pub(crate) ignore_lf: bool,
-    /// How many line breaks were read. At u64::MAX the number stays.
-    pub(crate) breaks: u64,
-    /// Whether the end of the input was told.
-    pub(crate) has_ended: bool,
-    /// Whether a fault ended the tokenizing.
-    pub(crate) has_failed: bool,
-}
 
 /// A tokenizer, with what takes its tokens.
 #[derive(Drop)]

@@ -1,5 +1,5 @@
 use Rattle.std.specs.Prelude.{Some}
-use Rattle.html_tokenizer.specs.declared.held_reference.Ampersand.TheVariants.{Unknown}
+use Rattle.html_tokenizer_parts.specs.declared.held_reference.Ampersand.TheVariants.{Unknown}
 use Rattle.html_tokenizer.proofs.Ambiguous.{unknown-ended}
 use Rattle.html_tokenizer.proofs.Erring.{keeps_refused}
 use Rattle.html_tokenizer.proofs.tokenizer.Tokenizer.ambiguous_ampersand_state.Goals as goal

@@ -1,6 +1,6 @@
 use Rattle.std.specs.Prelude.{Some}
 use Rattle.std.proofs.Common.{◌∙◌, sym}
-use Rattle.html_tokenizer.specs.declared.held_reference.Ampersand.TheVariants.{Held}
+use Rattle.html_tokenizer_parts.specs.declared.held_reference.Ampersand.TheVariants.{Held}
 use Rattle.html_tokenizer.specs.Rest.{rows_of}
 use Rattle.html_tokenizer.proofs.Erring.{keeps_refused}
 use Rattle.html_tokenizer.proofs.HeldValueStates.{value-erred, value-erred_unknown, value-pushed}

@@ -1,5 +1,5 @@
 use Rattle.std.proofs.Common.{ap, refl}
-use Rattle.html_tokenizer.specs.Words.{FittingEnd}
+use Rattle.html_tokenizer_parts.specs.Words.{FittingEnd}
 use Rattle.html_tokenizer.proofs.Texts.{is-new}
 use Rattle.html_tokenizer.proofs.tokenizer.Tokenizer.new.Goals as goal
 

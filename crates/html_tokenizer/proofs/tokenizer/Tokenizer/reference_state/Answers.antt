@@ -1,7 +1,7 @@
 use Rattle.std.proofs.Common.{◌∙◌, sym}
 use Rattle.html_tokenizer.specs.Rest.{rows_of}
 use Rattle.html_tokenizer.proofs.HeldGlue.{took-held}
-use Rattle.html_tokenizer.proofs.HeldFronts.{goes_on-held}
+use Rattle.html_tokenizer_parts.proofs.HeldFronts.{goes_on-held}
 use Rattle.html_tokenizer.proofs.tokenizer.Tokenizer.reference_state.Goals as goal
 
 pub returns-then-goes_on : goal.returns-then-goes_on

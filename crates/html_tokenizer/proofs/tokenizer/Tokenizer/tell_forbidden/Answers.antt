@@ -1,6 +1,6 @@
 use Rattle.std.proofs.Common.{◌≡◌, ◌∙◌}
 use Rattle.std.specs.Prelude.{◌&&◌}
-use Rattle.html_tokenizer.specs.Forbidden.{is_forbidden}
+use Rattle.html_tokenizer_parts.specs.Forbidden.{is_forbidden}
 use Rattle.html_tokenizer.proofs.Erring.{errs-less}
 use Rattle.html_tokenizer.proofs.Rises.{char-no-more}
 use Rattle.html_tokenizer.proofs.tokenizer.Tokenizer.tell_forbidden.Goals.{then-self, else-self}

@@ -1,7 +1,7 @@
 use Rattle.std.proofs.Common.{refl}
 use Rattle.html_tokens.specs.Item.{grave_if}
 use Rattle.html_tokens.specs.declared.token.Token.TheVariants.{CharacterTokens}
-use Rattle.html_tokenizer.specs.CharRefs.{has_fault}
+use Rattle.html_tokenizer_parts.specs.CharRefs.{has_fault}
 use Rattle.html_tokenizer.specs.Steps.{owed_for}
 use Rattle.html_tokenizer.proofs.Errors.{tells-erred, tells-failed}
 use Rattle.html_tokenizer.proofs.HeldTextStates.{reference-told}

@@ -5,9 +5,9 @@ use Rattle.html_tokens.specs.declared.states.State.{State}
 use Rattle.html_tokens.specs.declared.states.State.TheVariants as state
 use Rattle.html_tokenizer.specs.Calls.{refused_by, refusal, is_nothing_pending, IsReadyIf}
 use Rattle.html_tokens.specs.Table.{Row}
-use Rattle.html_tokenizer.specs.CharRefs.{fits_in}
+use Rattle.html_tokenizer_parts.specs.CharRefs.{fits_in}
 use Rattle.html_tokenizer.specs.Rest.{rows_of}
-use Rattle.html_tokenizer.specs.declared.held_reference.Ampersand.{Ampersand}
+use Rattle.html_tokenizer_parts.specs.declared.held_reference.Ampersand.{Ampersand}
 use Rattle.html_tokenizer.specs.declared.tokenizer.Tokenizer.{Tokenizer}
 use Rattle.html_tokenizer_tests.proofs.tests.calls.turn_plain.Goals as goal
 use Rattle.html_tokens.specs.declared.sink.TokenSink.{Ghosts}

@@ -1,0 +1,11 @@
+pub mod CharRefs
+pub mod Digits
+pub mod EndFronts
+pub mod HeldFronts
+pub mod HeldTexts
+pub mod InputChars
+pub mod InputRuns
+pub mod Keywords
+pub mod RawKinds
+pub mod Sets
+pub mod Words

@@ -1,0 +1,7 @@
+pub mod CharRefs
+pub mod Forbidden
+pub mod HeldChars
+pub mod Input
+pub mod Keywords
+pub mod Refusals
+pub mod Words
