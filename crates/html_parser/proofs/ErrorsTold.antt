@@ -16,6 +16,7 @@ use Rattle.html_tree_builder.specs.declared.builder.TreeBuilder.{TreeBuilder}
 use Rattle.html_parser.specs.Documents.{TellsError, builder}
 use Rattle.html_parser.specs.Read.{KeepsRead}
 use Rattle.html_parser.proofs.Rising.{rises-behind}
+use Rattle.html_tokenizer.specs.Listeners.{listening}
 
 module _ {K H O : Type 0} (Sink : TreeGhosts K H O) where
   -- the state that a builder stands for doesn't see errors
@@ -29,12 +30,12 @@ module _ {K H O : Type 0} (Sink : TreeGhosts K H O) where
   read-counted k sink e begin before r = let b = builder Sink in record {
     notes = r.notes;
     same = λ t.
-        ap (λ v. without_notes (rest (noting b.step b.is_quiet) noting_error (noting_cdata b.asks_cdata) (noting_end b.ended) (with_sink k sink) (v, r.notes) t)) (view-counted k.sink sink e)
-        ∙ ap without_notes (held-other (noting b.step b.is_quiet) noting_error (noting_cdata b.asks_cdata) (noting_end b.ended) k.state k (record k.sink { sink = sink }) k.stream k.stream.breaks (erred_by noting_error (fault_behind k.char_ref) (b.view k.sink, r.notes)) (pending k.char_ref ++ coming k t) refl)
+        ap (λ v. without_notes (rest (listening b) (with_sink k sink) (v, r.notes) t)) (view-counted k.sink sink e)
+        ∙ ap without_notes (held-other (listening b) k.state k (record k.sink { sink = sink }) k.stream k.stream.breaks (erred_by noting_error (fault_behind k.char_ref) (b.view k.sink, r.notes)) (pending k.char_ref ++ coming k t) refl)
         ∙ r.same t;
     noted = λ t.
-        ap (λ v. rest (noting b.step b.is_quiet) noting_error (noting_cdata b.asks_cdata) (noting_end b.ended) (with_sink k sink) (v, r.notes) t) (view-counted k.sink sink e)
-        ∙ held-other (noting b.step b.is_quiet) noting_error (noting_cdata b.asks_cdata) (noting_end b.ended) k.state k (record k.sink { sink = sink }) k.stream k.stream.breaks (erred_by noting_error (fault_behind k.char_ref) (b.view k.sink, r.notes)) (pending k.char_ref ++ coming k t) refl
+        ap (λ v. rest (listening b) (with_sink k sink) (v, r.notes) t) (view-counted k.sink sink e)
+        ∙ held-other (listening b) k.state k (record k.sink { sink = sink }) k.stream k.stream.breaks (erred_by noting_error (fault_behind k.char_ref) (b.view k.sink, r.notes)) (pending k.char_ref ++ coming k t) refl
         ∙ r.noted t;
     came = r.came;
     comes = r.comes;

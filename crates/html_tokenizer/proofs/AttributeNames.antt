@@ -23,6 +23,7 @@ use Rattle.html_tokenizer.proofs.Readings.{play-nothing}
 use Rattle.html_tokenizer.proofs.TagGlue.{took_here, absorbs_odd}
 use Rattle.html_tokenizer.proofs.AttributeReadings.{name-goes_on, name-ends, equals-space, equals-sign, equals-none}
 use Rattle.html_tokenizer.proofs.TagReadings.{tag-space, tag-end, tag-attribute}
+use Rattle.html_tokenizer.specs.Listeners.{listening}
 
 -- an odd character of a name ends no name
 odd-goes_on : (c : ℕ) → is_odd_in_name c ≡ true → ends_attribute_name c ≡ false
@@ -43,7 +44,7 @@ module _ {K H : Type 0} (Sink : Ghosts K H) where
   unfolding held_at
   before-space old c from ok e =
       took Sink old old c state.BeforeAttributeName state.BeforeAttributeName from from refl refl ok
-      (λ b s t. tag-space (noting Sink.step Sink.is_quiet) noting_error (noting_cdata Sink.asks_cdata) (noting_end Sink.ended) (rows_of old) (standing old InData) old.tag b s c t e)
+      (λ b s t. tag-space (listening Sink) (rows_of old) (standing old InData) old.tag b s c t e)
 
   pub before-slash : (old : Tokenizer K) (c : ℕ) → IsAt old state.BeforeAttributeName → Sink.is_sound (Sink.view old.sink) → c ≡ 47 → Took Sink old (record old { state = state.SelfClosingStartTag }) c flow.Continue
   unfolding held_at
@@ -56,7 +57,7 @@ module _ {K H : Type 0} (Sink : Ghosts K H) where
   unfolding held_at
   before-close old new c result from ok e h = rw e (
       took_tag Sink old new 62 state.BeforeAttributeName result from refl h
-      (λ b s x t. tag-end (noting Sink.step Sink.is_quiet) noting_error (noting_cdata Sink.asks_cdata) (noting_end Sink.ended) (rows_of old) (standing old InData) old.tag b s t
+      (λ b s x t. tag-end (listening Sink) (rows_of old) (standing old InData) old.tag b s t
       ∙ noted-tag Sink old old.tag (behind_tag (standing old InData) old.tag) b s t) ok)
 
   pub before-name : (old : Tokenizer K) (c : ℕ) (name : List ℕ) → IsAt old state.BeforeAttributeName → Sink.is_sound (Sink.view old.sink) → is_white_space c ≡ false → c ≢ 47 → c ≢ 62 → name ≡ lowered c ∷ []
@@ -64,14 +65,14 @@ module _ {K H : Type 0} (Sink : Ghosts K H) where
   unfolding held_at
   before-name old c name from ok e f g is = rw is (
       took_odd Sink (is_odd_first c) old (record old { attribute_name = lowered c ∷ []; state = state.AttributeName }) c state.BeforeAttributeName state.AttributeName from (record { state = refl; fresh = from.fresh }) refl refl ok
-      (λ b s t. tag-attribute (noting Sink.step Sink.is_quiet) noting_error (noting_cdata Sink.asks_cdata) (noting_end Sink.ended) (rows_of old) slight-absorbed (standing old InData) old.tag b s c t e (ne_eqb c 47 f) (ne_eqb c 62 g)))
+      (λ b s t. tag-attribute (listening Sink) (rows_of old) slight-absorbed (standing old InData) old.tag b s c t e (ne_eqb c 47 f) (ne_eqb c 62 g)))
 
   pub name-more : (old : Tokenizer K) (c : ℕ) (name : List ℕ) → IsAt old state.AttributeName → Sink.is_sound (Sink.view old.sink) → ends_attribute_name c ≡ false → name ≡ old.attribute_name ++ lowered c ∷ []
       → Took Sink old (record old { attribute_name = name }) c flow.Continue
   unfolding held_at
   name-more old c name from ok e is = rw is (
       took_odd Sink (is_odd_in_name c) old (record old { attribute_name = old.attribute_name ++ lowered c ∷ [] }) c state.AttributeName state.AttributeName from (record { state = from.state; fresh = from.fresh }) refl refl ok
-      (λ b s t. name-goes_on (noting Sink.step Sink.is_quiet) noting_error (noting_cdata Sink.asks_cdata) (noting_end Sink.ended) (rows_of old) slight-absorbed (standing old InData) old.tag old.attribute_name b s c t e))
+      (λ b s t. name-goes_on (listening Sink) (rows_of old) slight-absorbed (standing old InData) old.tag old.attribute_name b s c t e))
 
   pub name-end : (old new : Tokenizer K) (c : ℕ) (result : Result (ProcessResult H) ParseFault) → IsAt old state.AttributeName → ends_attribute_name c ≡ true
       → Keeps Sink (record old { state = state.AfterAttributeName }) new c result → Keeps Sink old new c result
@@ -84,14 +85,14 @@ module _ {K H : Type 0} (Sink : Ghosts K H) where
   unfolding held_at
   after-space old c from ok e =
       took Sink old old c state.AfterAttributeName state.AfterAttributeName from from refl refl ok
-      (λ b s t. equals-space (noting Sink.step Sink.is_quiet) noting_error (noting_cdata Sink.asks_cdata) (noting_end Sink.ended) (rows_of old) (standing old InData) old.tag old.attribute_name b s c t e)
+      (λ b s t. equals-space (listening Sink) (rows_of old) (standing old InData) old.tag old.attribute_name b s c t e)
 
   pub after-equals : (old : Tokenizer K) (c : ℕ) → IsAt old state.AfterAttributeName → Sink.is_sound (Sink.view old.sink) → c ≡ 61
       → Took Sink old (record old { state = state.BeforeAttributeValue }) c flow.Continue
   unfolding held_at
   after-equals old c from ok e = rw e (
       took Sink old (record old { state = state.BeforeAttributeValue }) 61 state.AfterAttributeName state.BeforeAttributeValue from (record { state = refl; fresh = from.fresh }) refl refl ok
-      (λ b s t. equals-sign (noting Sink.step Sink.is_quiet) noting_error (noting_cdata Sink.asks_cdata) (noting_end Sink.ended) (rows_of old) (standing old InData) old.tag old.attribute_name b s t))
+      (λ b s t. equals-sign (listening Sink) (rows_of old) (standing old InData) old.tag old.attribute_name b s t))
 
   -- the machine with the attribute that it read in its tag
   abbrev pub finished : Tokenizer K → List ℕ → Tokenizer K
@@ -105,7 +106,7 @@ module _ {K H : Type 0} (Sink : Ghosts K H) where
   unfolding held_at
   finish-odd odd old fin new value c st result from is law h =
       keeps_odd Sink odd old (record (finished old value) { state = state.BeforeAttributeName }) new c st state.BeforeAttributeName result from (record { state = refl; fresh = from.fresh }) refl refl
-      (λ b s t. law b s t ∙ play-nothing (noting Sink.step Sink.is_quiet) noting_error (noting_cdata Sink.asks_cdata) (noting_end Sink.ended) (rows_of old) (standing old (InTag (with_attribute old.tag old.attribute_name value))) b (erred_by noting_error (slight_if odd) s) (c ∷ t)) (rw is at h)
+      (λ b s t. law b s t ∙ play-nothing (listening Sink) (rows_of old) (standing old (InTag (with_attribute old.tag old.attribute_name value))) b (erred_by noting_error (slight_if odd) s) (c ∷ t)) (rw is at h)
 
   -- The attribute ended before the character.
   pub finish-before : (old fin new : Tokenizer K) (value : List ℕ) (c : ℕ) (st : State) (result : Result (ProcessResult H) ParseFault) → IsAt old st → fin ≡ finished old value
@@ -127,7 +128,7 @@ module _ {K H : Type 0} (Sink : Ghosts K H) where
   before-absorbs old c from e =
       absorbs_odd Sink old c state.BeforeAttributeName (is_odd_first c)
       (λ b s t. plays Sink (rows_of old) (attribute_after (rows_of old) (standing old InData) old.tag (lowered c ∷ []) t) (b + line_break (nat_eq c 10)) s t) from e
-      (λ b s t. tag-attribute (noting Sink.step Sink.is_quiet) noting_error (noting_cdata Sink.asks_cdata) (noting_end Sink.ended) (rows_of old) slight-absorbed (standing old InData) old.tag b s c t (odd-no_space c e) (odd-no_slash c e) (odd-no_close c e))
+      (λ b s t. tag-attribute (listening Sink) (rows_of old) slight-absorbed (standing old InData) old.tag b s c t (odd-no_space c e) (odd-no_slash c e) (odd-no_close c e))
 
   -- a further one
   pub name-absorbs : (old : Tokenizer K) (c : ℕ) → IsAt old state.AttributeName → is_odd_in_name c ≡ true → Absorbs Sink old c
@@ -135,4 +136,4 @@ module _ {K H : Type 0} (Sink : Ghosts K H) where
   name-absorbs old c from e =
       absorbs_odd Sink old c state.AttributeName (is_odd_in_name c)
       (λ b s t. plays Sink (rows_of old) (attribute_after (rows_of old) (standing old InData) old.tag (old.attribute_name ++ lowered c ∷ []) t) (b + line_break (nat_eq c 10)) s t) from e
-      (λ b s t. name-goes_on (noting Sink.step Sink.is_quiet) noting_error (noting_cdata Sink.asks_cdata) (noting_end Sink.ended) (rows_of old) slight-absorbed (standing old InData) old.tag old.attribute_name b s c t (odd-goes_on c e))
+      (λ b s t. name-goes_on (listening Sink) (rows_of old) slight-absorbed (standing old InData) old.tag old.attribute_name b s c t (odd-goes_on c e))

@@ -27,6 +27,7 @@ use Rattle.html_tokenizer.proofs.Readings.{play-marked}
 use Rattle.html_tokenizer.proofs.TagGlue.{took_reference, absorbs_odd}
 use Rattle.html_tokenizer.proofs.AttributeNames.{finished, finish-odd, finish-before}
 use Rattle.html_tokenizer.proofs.AttributeReadings.{value-opens, value-space, value-quote, value-apostrophe, quoted-goes_on, quoted-closes, unquoted-ends, unquoted-goes_on}
+use Rattle.html_tokenizer.specs.Listeners.{listening}
 
 opening-other : (c : ℕ) → c ≢ 34 → c ≢ 39 → c ≢ 62 → opening c ≡ Other
 opening-other c e f g = rw (ne_eqb c 34 e, ne_eqb c 39 f, ne_eqb c 62 g) refl
@@ -52,13 +53,13 @@ module _ {K H : Type 0} (Sink : Ghosts K H) where
   unfolding held_at
   value_before-space old c from ok e =
       took Sink old old c state.BeforeAttributeValue state.BeforeAttributeValue from from refl refl ok
-      (λ b s t. value-space (noting Sink.step Sink.is_quiet) noting_error (noting_cdata Sink.asks_cdata) (noting_end Sink.ended) (rows_of old) (standing old InData) old.tag old.attribute_name b s c t e)
+      (λ b s t. value-space (listening Sink) (rows_of old) (standing old InData) old.tag old.attribute_name b s c t e)
 
   -- ">" in place of a value is odd
   value-close : (old : Tokenizer K) (b : ℕ) (s : Sink.State × Notes ℕ) (t : List ℕ) → at Sink state.BeforeAttributeValue old b s (62 ∷ t)
       ≡ plays Sink (rows_of old) (no_value (standing old InData) old.tag old.attribute_name) b (noting_error Slight s) (62 ∷ t)
   unfolding held_at
-  value-close old b s t = play-marked (noting Sink.step Sink.is_quiet) noting_error (noting_cdata Sink.asks_cdata) (noting_end Sink.ended) (rows_of old) slight-absorbed true (no_value (standing old InData) old.tag old.attribute_name) b s (62 ∷ t)
+  value-close old b s t = play-marked (listening Sink) (rows_of old) slight-absorbed true (no_value (standing old InData) old.tag old.attribute_name) b s (62 ∷ t)
 
   pub value_before-close : (old fin new : Tokenizer K) (c : ℕ) (result : Result (ProcessResult H) ParseFault) → IsAt old state.BeforeAttributeValue → c ≡ 62 → fin ≡ finished Sink old []
       → Keeps Sink (record fin { state = state.BeforeAttributeName }) new c result → Keeps Sink old new c result
@@ -71,14 +72,14 @@ module _ {K H : Type 0} (Sink : Ghosts K H) where
   unfolding held_at
   value_before-quote old c text from ok e is = rw (e, is) (
       took Sink old (record old { attribute_value = []; state = state.AttributeValue value.DoubleQuoted }) 34 state.BeforeAttributeValue (state.AttributeValue value.DoubleQuoted) from (record { state = refl; fresh = from.fresh }) refl refl ok
-      (λ b s t. value-quote (noting Sink.step Sink.is_quiet) noting_error (noting_cdata Sink.asks_cdata) (noting_end Sink.ended) (rows_of old) (standing old InData) old.tag old.attribute_name b s t))
+      (λ b s t. value-quote (listening Sink) (rows_of old) (standing old InData) old.tag old.attribute_name b s t))
 
   pub value_before-apostrophe : (old : Tokenizer K) (c : ℕ) (text : List ℕ) → IsAt old state.BeforeAttributeValue → Sink.is_sound (Sink.view old.sink) → c ≡ 39 → text ≡ []
       → Took Sink old (record old { attribute_value = text; state = state.AttributeValue value.SingleQuoted }) c flow.Continue
   unfolding held_at
   value_before-apostrophe old c text from ok e is = rw (e, is) (
       took Sink old (record old { attribute_value = []; state = state.AttributeValue value.SingleQuoted }) 39 state.BeforeAttributeValue (state.AttributeValue value.SingleQuoted) from (record { state = refl; fresh = from.fresh }) refl refl ok
-      (λ b s t. value-apostrophe (noting Sink.step Sink.is_quiet) noting_error (noting_cdata Sink.asks_cdata) (noting_end Sink.ended) (rows_of old) (standing old InData) old.tag old.attribute_name b s t))
+      (λ b s t. value-apostrophe (listening Sink) (rows_of old) (standing old InData) old.tag old.attribute_name b s t))
 
   pub value_before-other : (old new : Tokenizer K) (c : ℕ) (text : List ℕ) (result : Result (ProcessResult H) ParseFault) → IsAt old state.BeforeAttributeValue → is_white_space c ≡ false → c ≢ 62 → c ≢ 34 → c ≢ 39 → text ≡ []
       → Keeps Sink (record old { attribute_value = text; state = state.AttributeValue value.Unquoted }) new c result → Keeps Sink old new c result
@@ -100,7 +101,7 @@ module _ {K H : Type 0} (Sink : Ghosts K H) where
   quoted-more old kind quote c text from ok quoted e f is = rw is (
       took_odd Sink (is_null c) old (record old { attribute_value = old.attribute_value ++ shown c ∷ [] }) c (state.AttributeValue kind) (state.AttributeValue kind) from (record { state = from.state; fresh = from.fresh }) refl refl ok
       (λ b s t. held-quoted kind quote old b s (c ∷ t) quoted
-      ∙ quoted-goes_on (noting Sink.step Sink.is_quiet) noting_error (noting_cdata Sink.asks_cdata) (noting_end Sink.ended) (rows_of old) slight-absorbed quote (standing old InData) old.tag old.attribute_name old.attribute_value b s c t (ne_eqb quote c (λ x. e (sym x))) (ne_eqb c 38 f)
+      ∙ quoted-goes_on (listening Sink) (rows_of old) slight-absorbed quote (standing old InData) old.tag old.attribute_name old.attribute_value b s c t (ne_eqb quote c (λ x. e (sym x))) (ne_eqb c 38 f)
       ∙ sym (held-quoted kind quote (record old { attribute_value = old.attribute_value ++ shown c ∷ [] }) (b + line_break (nat_eq c 10)) (erred_by noting_error (slight_if (is_null c)) s) t quoted)))
 
   pub quoted-close : (old fin : Tokenizer K) (kind : AttrValueKind) (quote c : ℕ) → IsAt old (state.AttributeValue kind) → Sink.is_sound (Sink.view old.sink) → quote_of kind ≡ Some quote → c ≡ quote → fin ≡ finished Sink old old.attribute_value
@@ -109,7 +110,7 @@ module _ {K H : Type 0} (Sink : Ghosts K H) where
   quoted-close old fin kind quote c from ok quoted e is = rw is (
       took Sink old (record (finished Sink old old.attribute_value) { state = state.AfterAttributeValueQuoted }) c (state.AttributeValue kind) state.AfterAttributeValueQuoted from (record { state = refl; fresh = from.fresh }) refl refl ok
       (λ b s t. held-quoted kind quote old b s (c ∷ t) quoted
-      ∙ quoted-closes (noting Sink.step Sink.is_quiet) noting_error (noting_cdata Sink.asks_cdata) (noting_end Sink.ended) (rows_of old) slight-absorbed quote (standing old InData) old.tag old.attribute_name old.attribute_value b s c t (eq-eqb quote c (sym e))))
+      ∙ quoted-closes (listening Sink) (rows_of old) slight-absorbed quote (standing old InData) old.tag old.attribute_name old.attribute_value b s c t (eq-eqb quote c (sym e))))
 
   -- The reference that is held does not matter to what a value's state holds.
   held-fresh : (kind : AttrValueKind) (k : Tokenizer K) (r : Option Ampersand) (b : ℕ) (s : Sink.State × Notes ℕ) (t : List ℕ)
@@ -130,7 +131,7 @@ module _ {K H : Type 0} (Sink : Ghosts K H) where
   unfolding held_at
   unquoted-held old c from ok e f =
       noted_odd Sink (is_odd_unquoted c) old (record old { attribute_value = old.attribute_value ++ shown c ∷ [] }) c (state.AttributeValue value.Unquoted) (state.AttributeValue value.Unquoted) from (record { state = from.state; fresh = from.fresh }) refl refl ok
-      (λ b s t. unquoted-goes_on (noting Sink.step Sink.is_quiet) noting_error (noting_cdata Sink.asks_cdata) (noting_end Sink.ended) (rows_of old) slight-absorbed (standing old InData) old.tag old.attribute_name old.attribute_value b s c t e f)
+      (λ b s t. unquoted-goes_on (listening Sink) (rows_of old) slight-absorbed (standing old InData) old.tag old.attribute_name old.attribute_value b s c t e f)
 
   pub unquoted-more : (old : Tokenizer K) (c : ℕ) (text : List ℕ) → IsAt old (state.AttributeValue value.Unquoted) → Sink.is_sound (Sink.view old.sink) → ends_word c ≡ false → c ≢ 38 → text ≡ old.attribute_value ++ shown c ∷ []
       → Took Sink old (record old { attribute_value = text }) c flow.Continue
@@ -162,7 +163,7 @@ module _ {K H : Type 0} (Sink : Ghosts K H) where
       absorbs_odd Sink old c (state.AttributeValue kind) (is_null c)
       (λ b s t. plays Sink (rows_of old) (quoted_after (rows_of old) quote (standing old InData) old.tag old.attribute_name (old.attribute_value ++ shown c ∷ []) t) (b + line_break (nat_eq c 10)) s t) from e
       (λ b s t. held-quoted kind quote old b s (c ∷ t) quoted
-      ∙ quoted-goes_on (noting Sink.step Sink.is_quiet) noting_error (noting_cdata Sink.asks_cdata) (noting_end Sink.ended) (rows_of old) slight-absorbed quote (standing old InData) old.tag old.attribute_name old.attribute_value b s c t (null-no_quote kind quote c quoted e) (null-no_reference c e))
+      ∙ quoted-goes_on (listening Sink) (rows_of old) slight-absorbed quote (standing old InData) old.tag old.attribute_name old.attribute_value b s c t (null-no_quote kind quote c quoted e) (null-no_reference c e))
 
   -- an odd character of a value without quotes
   pub unquoted-absorbs : (old : Tokenizer K) (c : ℕ) → IsAt old (state.AttributeValue value.Unquoted) → is_odd_unquoted c ≡ true → Absorbs Sink old c
@@ -170,7 +171,7 @@ module _ {K H : Type 0} (Sink : Ghosts K H) where
   unquoted-absorbs old c from e =
       absorbs_odd Sink old c (state.AttributeValue value.Unquoted) (is_odd_unquoted c)
       (λ b s t. plays Sink (rows_of old) (unquoted_after (rows_of old) (standing old InData) old.tag old.attribute_name (old.attribute_value ++ shown c ∷ []) t) (b + line_break (nat_eq c 10)) s t) from e
-      (λ b s t. unquoted-goes_on (noting Sink.step Sink.is_quiet) noting_error (noting_cdata Sink.asks_cdata) (noting_end Sink.ended) (rows_of old) slight-absorbed (standing old InData) old.tag old.attribute_name old.attribute_value b s c t (odd-no_end c e) (odd-no_reference c e))
+      (λ b s t. unquoted-goes_on (listening Sink) (rows_of old) slight-absorbed (standing old InData) old.tag old.attribute_name old.attribute_value b s c t (odd-no_end c e) (odd-no_reference c e))
 
   -- what stands behind a value in quotes with no space between
   pub behind-absorbs : (old : Tokenizer K) (c : ℕ) → IsAt old state.AfterAttributeValueQuoted → not (ends_tag_name c) ≡ true → Absorbs Sink old c

@@ -21,19 +21,20 @@ use Rattle.html_tokenizer.proofs.Readings.{reading-char, sum-zero}
 use Rattle.html_tokenizer.proofs.Runs.{reading-token, reading-text, reading-two}
 use Rattle.html_tokenizer.proofs.Glue.{Says, took, at}
 use Rattle.html_tokenizer.proofs.Telling.{keeps_taken, keeps_then, not-told_from}
+use Rattle.html_tokenizer.specs.Listeners.{listening}
 
 module _ {K H : Type 0} (Sink : Ghosts K H) (laws : SinkLaws Sink.is_sound Sink.step Sink.ended Sink.is_quiet) where
   cdata-char : (old : Tokenizer K) (c : ℕ) → nat_eq 93 c ≡ false → nat_eq c 0 ≡ false → Says Sink state.CdataSection old c nothing_owed (CharacterTokens (c ∷ [])) (λ b s t. at Sink state.CdataSection old (b + line_break (nat_eq c 10)) s t)
   unfolding held_at
   cdata-char old c f z b s h t =
       let here = standing old InCdata in
-      reading-char (λ p. Sink.is_sound p.0) (noting Sink.step Sink.is_quiet) noting_error (noting_cdata Sink.asks_cdata) (noting_end Sink.ended) (rows_of old) (noting-lawful Sink.is_sound Sink.step Sink.ended Sink.is_quiet laws) here here b s h c c t (line_number b) (rw (f, z) refl)
+      reading-char (λ p. Sink.is_sound p.0) (listening Sink) (rows_of old) (noting-lawful Sink.is_sound Sink.step Sink.ended Sink.is_quiet laws) here here b s h c c t (line_number b) (rw (f, z) refl)
 
   cdata-null : (old : Tokenizer K) → Says Sink state.CdataSection old 0 a_fault NullCharacterToken (λ b s t. at Sink state.CdataSection old (b + line_break (nat_eq 0 10)) s t)
   unfolding held_at
   cdata-null old b s h t =
       let here = standing old InCdata in
-      reading-token (λ p. Sink.is_sound p.0) (noting Sink.step Sink.is_quiet) noting_error (noting_cdata Sink.asks_cdata) (noting_end Sink.ended) (rows_of old) (noting-lawful Sink.is_sound Sink.step Sink.ended Sink.is_quiet laws) (Some Grave) here here b s h 0 t NullCharacterToken tt refl refl
+      reading-token (λ p. Sink.is_sound p.0) (listening Sink) (rows_of old) (noting-lawful Sink.is_sound Sink.step Sink.ended Sink.is_quiet laws) (Some Grave) here here b s h 0 t NullCharacterToken tt refl refl
 
   -- a character of text was taken
   pub cdata-kept : (old new : Tokenizer K) (c : ℕ) (result : Result (ProcessResult H) ParseFault) → IsAt old state.CdataSection → Sink.is_sound (Sink.view old.sink) → (c ≡ 93 → ⊥) → (c ≡ 0 → ⊥) → TakesAs Sink nothing_owed (CharacterTokens (c ∷ [])) old new result → Keeps Sink old new c result
@@ -59,7 +60,7 @@ module _ {K H : Type 0} (Sink : Ghosts K H) (laws : SinkLaws Sink.is_sound Sink.
   unfolding held_at
   bracket-says old c f b s h t =
       let here = standing old InCdata in
-      reading-text (λ p. Sink.is_sound p.0) (noting Sink.step Sink.is_quiet) noting_error (noting_cdata Sink.asks_cdata) (noting_end Sink.ended) (rows_of old) (noting-lawful Sink.is_sound Sink.step Sink.ended Sink.is_quiet laws) here here b s h 93 (c ∷ t) (line_number b) refl (rw f refl)
+      reading-text (λ p. Sink.is_sound p.0) (listening Sink) (rows_of old) (noting-lawful Sink.is_sound Sink.step Sink.ended Sink.is_quiet laws) here here b s h 93 (c ∷ t) (line_number b) refl (rw f refl)
 
   pub bracket-kept : (old mid new : Tokenizer K) (c : ℕ) (result : Result (ProcessResult H) ParseFault) → IsAt old state.CdataSectionBracket → Sink.is_sound (Sink.view old.sink) → (c ≡ 93 → ⊥) → Told Sink nothing_owed (CharacterTokens (93 ∷ [])) (record old { state = state.CdataSection }) mid
       → Keeps Sink mid new c result → Keeps Sink old new c result
@@ -74,7 +75,7 @@ module _ {K H : Type 0} (Sink : Ghosts K H) (laws : SinkLaws Sink.is_sound Sink.
   unfolding held_at
   brackets-says old c f g b s h t =
       let here = standing old InCdata in
-      reading-two (λ p. Sink.is_sound p.0) (noting Sink.step Sink.is_quiet) noting_error (noting_cdata Sink.asks_cdata) (noting_end Sink.ended) (rows_of old) (noting-lawful Sink.is_sound Sink.step Sink.ended Sink.is_quiet laws) here here here b s h 93 93 (c ∷ t) (line_number b) refl refl (λ x. rw g refl) (λ x. rw f refl)
+      reading-two (λ p. Sink.is_sound p.0) (listening Sink) (rows_of old) (noting-lawful Sink.is_sound Sink.step Sink.ended Sink.is_quiet laws) here here here b s h 93 93 (c ∷ t) (line_number b) refl refl (λ x. rw g refl) (λ x. rw f refl)
 
   pub brackets-kept : (old mid new : Tokenizer K) (c : ℕ) (result : Result (ProcessResult H) ParseFault) → IsAt old state.CdataSectionEnd → Sink.is_sound (Sink.view old.sink) → (c ≡ 93 → ⊥) → (c ≡ 62 → ⊥) → Told Sink nothing_owed (CharacterTokens (93 ∷ 93 ∷ [])) (record old { state = state.CdataSection }) mid
       → Keeps Sink mid new c result → Keeps Sink old new c result
@@ -89,7 +90,7 @@ module _ {K H : Type 0} (Sink : Ghosts K H) (laws : SinkLaws Sink.is_sound Sink.
   unfolding held_at
   more-says old b s h t =
       let here = standing old InCdata in
-      reading-char (λ p. Sink.is_sound p.0) (noting Sink.step Sink.is_quiet) noting_error (noting_cdata Sink.asks_cdata) (noting_end Sink.ended) (rows_of old) (noting-lawful Sink.is_sound Sink.step Sink.ended Sink.is_quiet laws) here here b s h 93 93 (93 ∷ 93 ∷ t) (line_number b) refl
+      reading-char (λ p. Sink.is_sound p.0) (listening Sink) (rows_of old) (noting-lawful Sink.is_sound Sink.step Sink.ended Sink.is_quiet laws) here here b s h 93 93 (93 ∷ 93 ∷ t) (line_number b) refl
 
   pub more-kept : (old new : Tokenizer K) (c : ℕ) (result : Result (ProcessResult H) ParseFault) → IsAt old state.CdataSectionEnd → Sink.is_sound (Sink.view old.sink) → c ≡ 93 → TakesAs Sink nothing_owed (CharacterTokens (93 ∷ [])) old new result → Keeps Sink old new c result
   more-kept old new c result from ok e told = rw e (keeps_taken Sink nothing_owed old old new 93 state.CdataSectionEnd state.CdataSectionEnd (CharacterTokens (93 ∷ [])) result from from refl refl ok told (more-says old))

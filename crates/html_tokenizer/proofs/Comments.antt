@@ -23,6 +23,7 @@ use Rattle.html_tokenizer.proofs.Ends.{EndSays, end-says, emitted-took, emitted-
 use Rattle.html_tokenizer.proofs.Errors.{tells-less}
 use Rattle.html_tokenizer.proofs.Glue.{Absorbs, at, took, keeps_silent, state-absorbs}
 use Rattle.html_tokenizer.proofs.Rises.{slighted-no-more}
+use Rattle.html_tokenizer.specs.Listeners.{listening}
 
 -- ITEMS
 
@@ -184,11 +185,11 @@ module _ {K H : Type 0} (Sink : Ghosts K H) (laws : SinkLaws Sink.is_sound Sink.
 
     pub bogus-push : (front : List ℕ) → IsAt old state.BogusComment → nat_eq c 62 ≡ false → front ≡ old.comment ++ shown c ∷ [] → Took Sink old (record old { comment = front }) c flow.Continue
     unfolding held_at
-    bogus-push front from e is = rw is (grows state.BogusComment (old.comment ++ shown c ∷ []) from (λ b s t. play-is (noting Sink.step Sink.is_quiet) noting_error (noting_cdata Sink.asks_cdata) (noting_end Sink.ended) (rows_of old) _ _ b s c t (rw e refl)))
+    bogus-push front from e is = rw is (grows state.BogusComment (old.comment ++ shown c ∷ []) from (λ b s t. play-is (listening Sink) (rows_of old) _ _ b s c t (rw e refl)))
 
     pub comment-push : (front : List ℕ) → IsAt old state.Comment → nat_eq c 45 ≡ false → front ≡ old.comment ++ shown c ∷ [] → Took Sink old (record old { comment = front }) c flow.Continue
     unfolding held_at
-    comment-push front from e is = rw is (grows state.Comment (old.comment ++ shown c ∷ []) from (λ b s t. play-is (noting Sink.step Sink.is_quiet) noting_error (noting_cdata Sink.asks_cdata) (noting_end Sink.ended) (rows_of old) _ _ b s c t (comment-goes_on (standing old InData) old.comment c t (end-letter c t e))))
+    comment-push front from e is = rw is (grows state.Comment (old.comment ++ shown c ∷ []) from (λ b s t. play-is (listening Sink) (rows_of old) _ _ b s c t (comment-goes_on (standing old InData) old.comment c t (end-letter c t e))))
 
   -- A dash or "!" is held beside the comment.
   module _ (old : Tokenizer K) (ok : Sink.is_sound (Sink.view old.sink)) where
@@ -215,7 +216,7 @@ module _ {K H : Type 0} (Sink : Ghosts K H) (laws : SinkLaws Sink.is_sound Sink.
     pub end-dash_more : (front : List ℕ) → front ≡ old.comment ++ 45 ∷ [] → IsAt old state.CommentEnd → Took Sink old (record old { comment = front }) 45 flow.Continue
     unfolding held_at
     end-dash_more front is from = rw is (grows old 45 ok state.CommentEnd (old.comment ++ 45 ∷ []) from (λ b s t.
-        play-is (noting Sink.step Sink.is_quiet) noting_error (noting_cdata Sink.asks_cdata) (noting_end Sink.ended) (rows_of old) _ _ b s 45 (45 ∷ 45 ∷ t) (comment-goes_on (standing old InData) old.comment 45 (45 ∷ 45 ∷ t) (end-dashes 45 t refl refl))))
+        play-is (listening Sink) (rows_of old) _ _ b s 45 (45 ∷ 45 ∷ t) (comment-goes_on (standing old InData) old.comment 45 (45 ∷ 45 ∷ t) (end-dashes 45 t refl refl))))
 
   -- What was held ends nothing, and the character is of the comment.
   module _ (old new : Tokenizer K) (c : ℕ) (result : Result (ProcessResult H) ParseFault) (front : List ℕ) (keeps : Keeps Sink (holding old front state.Comment) new c result) where

@@ -28,6 +28,7 @@ use Rattle.html_tokenizer_parts.proofs.Keywords.{and_both, or_parts, is_plain, p
 use Rattle.html_tokenizer.proofs.Opens.{opened}
 use Rattle.html_tokenizer.proofs.Readings.{play-nothing}
 use Rattle.html_tokenizer_parts.proofs.Words.{and_parts}
+use Rattle.html_tokenizer.specs.Listeners.{listening}
 
 -- ITEMS
 
@@ -141,7 +142,7 @@ module _ {K H : Type 0} (Sink : Ghosts K H) (laws : SinkLaws Sink.is_sound Sink.
     unfolding held_at
     cdata-read b s t asks h =
         read-word old old.keyword c t word.Cdata (silent 0 (standing old InCdata)) b s h (cdata-declared (Sink.asks_cdata s.0) (standing old InData) (old.keyword ++ c ∷ []) t asks h)
-        ∙ play-nothing (noting Sink.step Sink.is_quiet) noting_error (noting_cdata Sink.asks_cdata) (noting_end Sink.ended) (rows_of old) (standing old InCdata) (b + line_break (nat_eq c 10)) s t
+        ∙ play-nothing (listening Sink) (rows_of old) (standing old InCdata) (b + line_break (nat_eq c 10)) s t
 
     pub cdata-opened : Sink.asks_cdata (Sink.view old.sink) ≡ true → becomes word.Cdata (old.keyword ++ c ∷ []) ≡ true → Took Sink old (record old { state = state.CdataSection }) c flow.Continue
     cdata-opened asks h = record {

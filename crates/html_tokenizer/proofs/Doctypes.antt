@@ -30,6 +30,7 @@ use Rattle.html_tokenizer.proofs.Lawful.{slight-absorbed}
 use Rattle.html_tokenizer.proofs.Readings.{marked-both, play-marked, play-odd}
 use Rattle.html_tokenizer.proofs.Rises.{slighted-no-more}
 use Rattle.html_tokenizer_parts.proofs.Keywords.{word-other}
+use Rattle.html_tokenizer.specs.Listeners.{listening}
 
 -- ITEMS
 
@@ -307,7 +308,7 @@ module _ {K H : Type 0} (Sink : Ghosts K H) (laws : SinkLaws Sink.is_sound Sink.
     pub name-push : (front : List ℕ) → IsAt old state.DoctypeName → is_white_space c ≡ false → nat_eq c 62 ≡ false → front ≡ old.temporary ++ lowered c ∷ [] → Took Sink old (record old { temporary = front }) c flow.Continue
     unfolding held_at
     name-push front from e f is = rw is (took_odd Sink (nat_eq c 0) old (record old { temporary = old.temporary ++ lowered c ∷ [] }) c state.DoctypeName state.DoctypeName from (record { state = from.state; fresh = from.fresh }) refl refl ok
-        (λ b s t. play-odd (noting Sink.step Sink.is_quiet) noting_error (noting_cdata Sink.asks_cdata) (noting_end Sink.ended) (rows_of old) slight-absorbed (nat_eq c 0) _ _ b s c t (name-goes_on (standing old InData) old.temporary c t (word-other c e f))))
+        (λ b s t. play-odd (listening Sink) (rows_of old) slight-absorbed (nat_eq c 0) _ _ b s c t (name-goes_on (standing old InData) old.temporary c t (word-other c e f))))
 
     pub double-push : (kind : DoctypeIdKind) (front : List ℕ) → IsAt old (state.DoctypeIdentifierDoubleQuoted kind) → nat_eq c 34 ≡ false → nat_eq c 62 ≡ false → front ≡ old.temporary ++ shown c ∷ [] → Took Sink old (record old { temporary = front }) c flow.Continue
     unfolding held_at
@@ -407,4 +408,4 @@ module _ {K H : Type 0} (Sink : Ghosts K H) (laws : SinkLaws Sink.is_sound Sink.
         → Keeps Sink (record old { state = state.BeforeDoctypeName }) new c result → Keeps Sink old new c result
     unfolding held_at
     doctype-other from keeps = keeps_odd Sink (not (ends_word c)) old (record old { state = state.BeforeDoctypeName }) new c state.Doctype state.BeforeDoctypeName result from (record { state = refl; fresh = from.fresh }) refl refl
-        (λ b s t. play-marked (noting Sink.step Sink.is_quiet) noting_error (noting_cdata Sink.asks_cdata) (noting_end Sink.ended) (rows_of old) slight-absorbed (not (ends_word c)) (doctype_behind (standing old InData) (c ∷ t)) b s (c ∷ t)) keeps
+        (λ b s t. play-marked (listening Sink) (rows_of old) slight-absorbed (not (ends_word c)) (doctype_behind (standing old InData) (c ∷ t)) b s (c ∷ t)) keeps

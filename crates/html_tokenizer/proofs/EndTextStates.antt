@@ -34,6 +34,7 @@ use Rattle.html_tokenizer_parts.proofs.Words.{and_parts}
 use Rattle.html_tokens.specs.declared.states.ScriptEscapeKind.{ScriptEscapeKind}
 use Rattle.html_tokens.specs.declared.sink.TokenSink.{Ghosts}
 use Rattle.std.specs.Result.{IsErrAnd}
+use Rattle.html_tokenizer.specs.Listeners.{listening}
 
 -- what does not begin so behind a character does not before it
 begins_by-none : (same : Bool) (go : Unit {0} → Bool) → go tt ≡ false → begins_by same go ≡ false
@@ -141,7 +142,7 @@ module _ {K H : Type 0} (Sink : Ghosts K H) (laws : SinkLaws Sink.is_sound Sink.
   unfolding held_at reading_from
   open-last k b s h =
       let here = standing k InData in
-      reading-token (λ p. Sink.is_sound p.0) (noting Sink.step Sink.is_quiet) noting_error (noting_cdata Sink.asks_cdata) (noting_end Sink.ended) (rows_of k) (noting-lawful Sink.is_sound Sink.step Sink.ended Sink.is_quiet laws) (Some Slight) here here b s h 60 [] (CharacterTokens (60 ∷ [])) tt refl refl
+      reading-token (λ p. Sink.is_sound p.0) (listening Sink) (rows_of k) (noting-lawful Sink.is_sound Sink.step Sink.ended Sink.is_quiet laws) (Some Slight) here here b s h 60 [] (CharacterTokens (60 ∷ [])) tt refl refl
       ∙ ap (λ n. noting Sink.step Sink.is_quiet (noting_error Slight s) (CharacterTokens (60 ∷ [])) (line_number b) >>= λ p. at_end Sink n p.0) (sum-zero b)
 
   -- "<" was text
@@ -154,10 +155,10 @@ module _ {K H : Type 0} (Sink : Ghosts K H) (laws : SinkLaws Sink.is_sound Sink.
   end_open-last k b s h =
       let here = standing k InData in
       let lawful = noting-lawful Sink.is_sound Sink.step Sink.ended Sink.is_quiet laws in
-      reading-token (λ p. Sink.is_sound p.0) (noting Sink.step Sink.is_quiet) noting_error (noting_cdata Sink.asks_cdata) (noting_end Sink.ended) (rows_of k) lawful (Some Slight) here here b s h 60 (47 ∷ []) (CharacterTokens (60 ∷ [])) tt refl refl
+      reading-token (λ p. Sink.is_sound p.0) (listening Sink) (rows_of k) lawful (Some Slight) here here b s h 60 (47 ∷ []) (CharacterTokens (60 ∷ [])) tt refl refl
       ∙ ap (λ n. noting Sink.step Sink.is_quiet (noting_error Slight s) (CharacterTokens (60 ∷ [])) (line_number b) >>= λ p. reads Sink (rows_of k) here n p.0 (47 ∷ [])) (sum-zero b)
-      ∙ told-more (λ p. Sink.is_sound p.0) (noting Sink.step Sink.is_quiet) noting_error (noting_cdata Sink.asks_cdata) (noting_end Sink.ended) (rows_of k) lawful here here b (noting_error Slight s) h (60 ∷ []) 47 [] (line_number b)
-      (λ q g. reading-text (λ p. Sink.is_sound p.0) (noting Sink.step Sink.is_quiet) noting_error (noting_cdata Sink.asks_cdata) (noting_end Sink.ended) (rows_of k) lawful here here b q g 47 [] (line_number b) refl refl)
+      ∙ told-more (λ p. Sink.is_sound p.0) (listening Sink) (rows_of k) lawful here here b (noting_error Slight s) h (60 ∷ []) 47 [] (line_number b)
+      (λ q g. reading-text (λ p. Sink.is_sound p.0) (listening Sink) (rows_of k) lawful here here b q g 47 [] (line_number b) refl refl)
 
   -- "</" was text
   pub end_open-closes : (old new : Tokenizer K) (result : Result (Unit {0}) ParseFault) → IsAt old state.EndTagOpen → Sink.is_sound (Sink.view old.sink) → Tells Sink (owed_for (Some Slight)) (CharacterTokens (60 ∷ 47 ∷ [])) old new result → Closes Sink old new result
@@ -181,7 +182,7 @@ module _ {K H : Type 0} (Sink : Ghosts K H) (laws : SinkLaws Sink.is_sound Sink.
   unfolding reading_from
   raw_open-read k kind b s h e =
       let here = standing k (InRaw kind) in
-      reading-text (λ p. Sink.is_sound p.0) (noting Sink.step Sink.is_quiet) noting_error (noting_cdata Sink.asks_cdata) (noting_end Sink.ended) (rows_of k) (noting-lawful Sink.is_sound Sink.step Sink.ended Sink.is_quiet laws) here here b s h 60 [] (line_number b) refl (raw_open-item k kind (Sink.asks_cdata s.0) e)
+      reading-text (λ p. Sink.is_sound p.0) (listening Sink) (rows_of k) (noting-lawful Sink.is_sound Sink.step Sink.ended Sink.is_quiet laws) here here b s h 60 [] (line_number b) refl (raw_open-item k kind (Sink.asks_cdata s.0) e)
 
   -- the same by the state behind it
   raw_open-last : (k : Tokenizer K) (kind : RawKind) → ends_at_tag kind ≡ true → TellsThen Sink (slight_if (is_escaped_kind kind)) (state.RawLessThanSign kind) k (CharacterTokens (60 ∷ []))
@@ -235,13 +236,13 @@ module _ {K H : Type 0} (Sink : Ghosts K H) (laws : SinkLaws Sink.is_sound Sink.
   unfolding held_at reading_from
   bracket-last k b s h =
       let here = standing k InCdata in
-      reading-text (λ p. Sink.is_sound p.0) (noting Sink.step Sink.is_quiet) noting_error (noting_cdata Sink.asks_cdata) (noting_end Sink.ended) (rows_of k) (noting-lawful Sink.is_sound Sink.step Sink.ended Sink.is_quiet laws) here here b s h 93 [] (line_number b) refl refl
+      reading-text (λ p. Sink.is_sound p.0) (listening Sink) (rows_of k) (noting-lawful Sink.is_sound Sink.step Sink.ended Sink.is_quiet laws) here here b s h 93 [] (line_number b) refl refl
 
   brackets-last : (k : Tokenizer K) → TellsThen Sink (Some Grave) state.CdataSectionEnd k (CharacterTokens (93 ∷ 93 ∷ []))
   unfolding held_at reading_from
   brackets-last k b s h =
       let here = standing k InCdata in
-      reading-two (λ p. Sink.is_sound p.0) (noting Sink.step Sink.is_quiet) noting_error (noting_cdata Sink.asks_cdata) (noting_end Sink.ended) (rows_of k) (noting-lawful Sink.is_sound Sink.step Sink.ended Sink.is_quiet laws) here here here b s h 93 93 [] (line_number b) refl refl (λ x. refl) (λ x. refl)
+      reading-two (λ p. Sink.is_sound p.0) (listening Sink) (rows_of k) (noting-lawful Sink.is_sound Sink.step Sink.ended Sink.is_quiet laws) here here here b s h 93 93 [] (line_number b) refl refl (λ x. refl) (λ x. refl)
 
   -- the "]" behind which a section does not end was text, and that it does not is an error
   pub bracket-closes : (old mid new : Tokenizer K) (result : Result (Unit {0}) ParseFault) → IsAt old state.CdataSectionBracket → Sink.is_sound (Sink.view old.sink) → Told Sink nothing_owed (CharacterTokens (93 ∷ [])) old mid → Errs Sink a_fault mid new result → Closes Sink old new result

@@ -17,6 +17,7 @@ use Rattle.html_tokenizer.proofs.Glue.{at, now-at, token-fails}
 use Rattle.html_tokenizer.proofs.Lawful.{noting-lawful, erred-sound, erred-more}
 use Rattle.html_tokenizer.proofs.Readings.{play-end}
 use Rattle.html_tokenizer.proofs.Rises.{heard-more}
+use Rattle.html_tokenizer.specs.Listeners.{listening}
 
 module _ {K H : Type 0} (Sink : Ghosts K H) where
   -- where the input ends, a token is told, and then the end
@@ -53,6 +54,6 @@ module _ {K H : Type 0} (Sink : Ghosts K H) (laws : SinkLaws Sink.is_sound Sink.
       → plays Sink (rows_of old) i b s u ≡ (noting Sink.step Sink.is_quiet (s.0, more (owed_for fault) s.1) token (line_number b) >>= λ p. at_end Sink b p.0)
   unfolding reading_from
   end-item fault old b s h token u n i none is unbroken left =
-      play-end (λ p. Sink.is_sound p.0) (noting Sink.step Sink.is_quiet) noting_error (noting_cdata Sink.asks_cdata) (noting_end Sink.ended) (rows_of old) (noting-lawful Sink.is_sound Sink.step Sink.ended Sink.is_quiet laws) fault i token n (standing old InData) b s (erred-sound Sink.is_sound fault s h) u none is unbroken
+      play-end (λ p. Sink.is_sound p.0) (listening Sink) (rows_of old) (noting-lawful Sink.is_sound Sink.step Sink.ended Sink.is_quiet laws) fault i token n (standing old InData) b s (erred-sound Sink.is_sound fault s h) u none is unbroken
       ∙ ap (λ x. noting Sink.step Sink.is_quiet (erred_by noting_error fault s) token (line_number b) >>= λ p. reads Sink (rows_of old) (standing old InData) b p.0 x) left
       ∙ ap (λ q. noting Sink.step Sink.is_quiet q token (line_number b) >>= λ p. at_end Sink b p.0) (erred-more fault s)

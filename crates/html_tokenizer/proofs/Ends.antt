@@ -19,6 +19,7 @@ use Rattle.html_tokenizer.specs.Steps.{owed_for, Owed, IsAt, more, IsNoTag, Fall
 use Rattle.html_tokenizer.proofs.Lawful.{noting-lawful, erred-sound, erred-more, slight-absorbed}
 use Rattle.html_tokenizer.proofs.Readings.{play-is, play-end, sum-zero, play-absorbs}
 use Rattle.html_tokenizer.proofs.Glue.{Says, at, took_emitted, failed, no-break}
+use Rattle.html_tokenizer.specs.Listeners.{listening}
 
 module _ {K H : Type 0} (Sink : Ghosts K H) (laws : SinkLaws Sink.is_sound Sink.step Sink.ended Sink.is_quiet) where
   -- A token is told next, which ">" ends, and then the machine is this one, in data.
@@ -29,7 +30,7 @@ module _ {K H : Type 0} (Sink : Ghosts K H) (laws : SinkLaws Sink.is_sound Sink.
   pub end-says : (fault : Option Fault) (old : Tokenizer K) (b : ℕ) (s : Sink.State × Notes ℕ) → Sink.is_sound s.0 → (token : Token) (t u : List ℕ) (n : ℕ) (i : Item) → IsNoTag token → i ≡ told_as fault token n (standing old InData) → line_breaks (take n u) ≡ 0 → drop n u ≡ t
       → plays Sink (rows_of old) i b s u ≡ (noting Sink.step Sink.is_quiet (s.0, more (owed_for fault) s.1) token (line_number b) >>= λ p. reads Sink (rows_of old) (standing old InData) (b + 0) p.0 t)
   end-says fault old b s h token t u n i none is unbroken left =
-      play-end (λ p. Sink.is_sound p.0) (noting Sink.step Sink.is_quiet) noting_error (noting_cdata Sink.asks_cdata) (noting_end Sink.ended) (rows_of old) (noting-lawful Sink.is_sound Sink.step Sink.ended Sink.is_quiet laws) fault i token n (standing old InData) b s (erred-sound Sink.is_sound fault s h) u none is unbroken
+      play-end (λ p. Sink.is_sound p.0) (listening Sink) (rows_of old) (noting-lawful Sink.is_sound Sink.step Sink.ended Sink.is_quiet laws) fault i token n (standing old InData) b s (erred-sound Sink.is_sound fault s h) u none is unbroken
       ∙ ap (λ q. noting Sink.step Sink.is_quiet q token (line_number b) >>= λ p. reads Sink (rows_of old) (standing old InData) b p.0 (drop n u)) (erred-more fault s)
       ∙ ap (λ x. noting Sink.step Sink.is_quiet (s.0, more (owed_for fault) s.1) token (line_number b) >>= λ p. reads Sink (rows_of old) (standing old InData) b p.0 x) left
       ∙ ap (λ x. noting Sink.step Sink.is_quiet (s.0, more (owed_for fault) s.1) token (line_number b) >>= λ p. reads Sink (rows_of old) (standing old InData) x p.0 t) (sym (sum-zero b))
@@ -49,12 +50,12 @@ module _ {K H : Type 0} (Sink : Ghosts K H) (laws : SinkLaws Sink.is_sound Sink.
 
   -- an item behind a character that breaks no line
   pub behind-one : (old : Tokenizer K) (d : ℕ) → nat_eq d 10 ≡ false → (i j : Item) (b : ℕ) (s : Sink.State × Notes ℕ) (u : List ℕ) → i ≡ behind j → plays Sink (rows_of old) i b s (d ∷ u) ≡ plays Sink (rows_of old) j b s u
-  behind-one old d e i j b s u is = play-is (noting Sink.step Sink.is_quiet) noting_error (noting_cdata Sink.asks_cdata) (noting_end Sink.ended) (rows_of old) i j b s d u is ∙ ap (λ x. plays Sink (rows_of old) j x s u) (no-break b d e)
+  behind-one old d e i j b s u is = play-is (listening Sink) (rows_of old) i j b s d u is ∙ ap (λ x. plays Sink (rows_of old) j x s u) (no-break b d e)
 
   -- an item behind one character more
   pub behind-any : (old : Tokenizer K) (i j : Item) (b : ℕ) (s : Sink.State × Notes ℕ) (c : ℕ) (t : List ℕ) → i ≡ behind j → plays Sink (rows_of old) i b s (c ∷ t) ≡ plays Sink (rows_of old) j (b + line_break (nat_eq c 10)) s t
-  behind-any old i j b s c t is = play-is (noting Sink.step Sink.is_quiet) noting_error (noting_cdata Sink.asks_cdata) (noting_end Sink.ended) (rows_of old) i j b s c t is
+  behind-any old i j b s c t is = play-is (listening Sink) (rows_of old) i j b s c t is
 
   -- what is slight before an item with a fault changes nothing
   pub item-absorbs : (old : Tokenizer K) (i : Item) (b : ℕ) (s : Sink.State × Notes ℕ) (u : List ℕ) → is_some i.fault ≡ true → plays Sink (rows_of old) i b s u ≡ plays Sink (rows_of old) i b (s.0, more (owed_for (Some Slight)) s.1) u
-  item-absorbs old i b s u h = play-absorbs (noting Sink.step Sink.is_quiet) noting_error (noting_cdata Sink.asks_cdata) (noting_end Sink.ended) (rows_of old) slight-absorbed i b s u h ∙ ap (λ q. plays Sink (rows_of old) i b q u) (erred-more (Some Slight) s)
+  item-absorbs old i b s u h = play-absorbs (listening Sink) (rows_of old) slight-absorbed i b s u h ∙ ap (λ q. plays Sink (rows_of old) i b q u) (erred-more (Some Slight) s)

@@ -31,6 +31,7 @@ use Rattle.html_tokenizer.specs.Stops.{stops_of}
 use Rattle.html_queue.specs.declared.set.SmallCharSet.{SmallCharSet}
 use Rattle.html_tokens.specs.declared.states.State.{State}
 use Rattle.html_tokens.specs.declared.sink.TokenSink.{Ghosts}
+use Rattle.html_tokenizer.specs.Listeners.{listening}
 
 -- a character that stands for ">" is ">"
 newline-close : (c : ℕ) (b : Bool) → nat_eq c 13 ≡ b → (if b then 10 else c) ≡ 62 → c ≡ 62
@@ -54,7 +55,7 @@ module _ {K H : Type 0} (Sink : Ghosts K H) where
       → to_come Sink old notes u ≡ now Sink mid mid.stream.breaks (Sink.view mid.sink, notes) v
   comes-to old mid u v notes other is comes =
       ap (λ x. now Sink old old.stream.breaks (Sink.view old.sink, notes) x) comes
-      ∙ sym (held-other (noting Sink.step Sink.is_quiet) noting_error (noting_cdata Sink.asks_cdata) (noting_end Sink.ended) old.state old old.sink mid.stream old.stream.breaks (erred_by noting_error (fault_behind old.char_ref) (Sink.view old.sink, notes)) (pending old.char_ref ++ v) (ap (λ s. s.table) other))
+      ∙ sym (held-other (listening Sink) old.state old old.sink mid.stream old.stream.breaks (erred_by noting_error (fault_behind old.char_ref) (Sink.view old.sink, notes)) (pending old.char_ref ++ v) (ap (λ s. s.table) other))
       ∙ ap (λ n. now Sink (record old { stream = mid.stream }) n (Sink.view old.sink, notes) v) (sym (ap (λ s. s.breaks) other))
       ∙ sym (ap (λ (k : Tokenizer K). now Sink k mid.stream.breaks (Sink.view k.sink, notes) v) is)
 

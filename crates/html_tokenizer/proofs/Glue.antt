@@ -29,6 +29,7 @@ use Rattle.html_tokenizer.proofs.Lawful.{erred-more}
 use Rattle.html_tokenizer.proofs.Readings.{sum-zero}
 use Rattle.html_tokenizer.specs.Steps.{Owed, nothing_owed, owed_for, and_heard, together, owed_by, IsAt, paused_by, more, noted_by, Rises, now, Stays, Fell, FailsAmong, Fails, Falls, IsOfText, Told, Erred, Took, Keeps, EndsTag, reads}
 use Rattle.html_tokenizer.proofs.Rises.{more-more, heard-more, rises-slight, rises-then, rises-less}
+use Rattle.html_tokenizer.specs.Listeners.{Listener, listening}
 
 -- a character that is no line break ends no line
 pub no-break : (b c : ℕ) → nat_eq c 10 ≡ false → b + line_break (nat_eq c 10) ≡ b
@@ -71,10 +72,10 @@ module _ {K H : Type 0} (Sink : Ghosts K H) where
   fell-same old new e ok = record { sound = λ h. rw e ok; loans = ap Sink.references e }
 
   abbrev pub at : State → Tokenizer K → ℕ → Sink.State × Notes ℕ → List ℕ → Result (Sink.State × Notes ℕ) (Refusal × ℕ)
-  at st k b s t = held_at (noting Sink.step Sink.is_quiet) noting_error (noting_cdata Sink.asks_cdata) (noting_end Sink.ended) st k b s t
+  at st k b s t = held_at (listening Sink) st k b s t
 
   pub now-at : (k : Tokenizer K) (st : State) (b : ℕ) (s : Sink.State × Notes ℕ) (t : List ℕ) → IsAt k st → now Sink k b s t ≡ at st k b s t
-  now-at k st b s t h = ap (λ r. held_at (noting Sink.step Sink.is_quiet) noting_error (noting_cdata Sink.asks_cdata) (noting_end Sink.ended) k.state k b (erred_by noting_error (fault_behind r) s) (pending r ++ t)) h.fresh ∙ ap (λ x. held_at (noting Sink.step Sink.is_quiet) noting_error (noting_cdata Sink.asks_cdata) (noting_end Sink.ended) x k b s t) h.state
+  now-at k st b s t h = ap (λ r. held_at (listening Sink) k.state k b (erred_by noting_error (fault_behind r) s) (pending r ++ t)) h.fresh ∙ ap (λ x. held_at (listening Sink) x k b s t) h.state
 
   -- The character is taken, which may be odd, and the machine stands in st'; it is quiet only where it is not odd.
   pub noted_odd : (odd : Bool) (old new : Tokenizer K) (c : ℕ) (st st' : State) → IsAt old st → IsAt new st' → new.stream ≡ old.stream → new.sink ≡ old.sink → Sink.is_sound (Sink.view old.sink)
@@ -120,8 +121,8 @@ module _ {K H : Type 0} (Sink : Ghosts K H) where
   fails-first among old new r given Failed h f = f
 
 -- The sink and what is known of the input but the table do not matter to what is held.
-module _ {K T : Type 0} (step : NotedStep T) (erred : Fault → T → T) (cdata : T → Bool) (ends : T → T) where
-  pub held-other : (st : State) (k : Tokenizer K) (sink : K) (stream : Stream) (b : ℕ) (s : T) (t : List ℕ) → stream.table ≡ k.stream.table → held_at step erred cdata ends st (record k { sink = sink; stream = stream }) b s t ≡ held_at step erred cdata ends st k b s t
+module _ {K T : Type 0} (to : Listener T) where
+  pub held-other : (st : State) (k : Tokenizer K) (sink : K) (stream : Stream) (b : ℕ) (s : T) (t : List ℕ) → stream.table ≡ k.stream.table → held_at to st (record k { sink = sink; stream = stream }) b s t ≡ held_at to st k b s t
   unfolding held_at
   held-other state.Data k sink stream b s t e = rw e refl
   held-other state.Plaintext k sink stream b s t e = rw e refl
@@ -225,7 +226,7 @@ module _ {K H : Type 0} (Sink : Ghosts K H) where
 
   -- The machine with another sink is where it was.
   pub now-target : (k : Tokenizer K) (sink : K) (st : State) (b : ℕ) (s : Sink.State × Notes ℕ) (t : List ℕ) → IsAt k st → now Sink (record k { sink = sink }) b s t ≡ at Sink st k b s t
-  now-target k sink st b s t h = held-other (noting Sink.step Sink.is_quiet) noting_error (noting_cdata Sink.asks_cdata) (noting_end Sink.ended) k.state k sink k.stream b (erred_by noting_error (fault_behind k.char_ref) s) (pending k.char_ref ++ t) refl ∙ now-at Sink k st b s t h
+  now-target k sink st b s t h = held-other (listening Sink) k.state k sink k.stream b (erred_by noting_error (fault_behind k.char_ref) s) (pending k.char_ref ++ t) refl ∙ now-at Sink k st b s t h
 
   -- A token was told, and the machine stands in st'. The target is the machine as it was, with the fields that changed.
   pub took_told : {owed : Owed} (old mid new target : Tokenizer K) (c : ℕ) (st st' : State) (token : Token) → IsAt old st → Sink.is_sound (Sink.view old.sink) → Told Sink owed token old mid
@@ -371,7 +372,7 @@ module _ {K H : Type 0} (Sink : Ghosts K H) where
   pub erred-now : {owed : Owed} (old mid : Tokenizer K) (b : ℕ) (notes : Notes ℕ) (t : List ℕ) → Erred Sink owed old mid → now Sink old b (Sink.view old.sink, notes) t ≡ now Sink mid b (Sink.view mid.sink, notes) t
   erred-now old mid b notes t h =
       ap (λ s. now Sink old b (s, notes) t) (sym h.sink)
-      ∙ sym (held-other (noting Sink.step Sink.is_quiet) noting_error (noting_cdata Sink.asks_cdata) (noting_end Sink.ended) old.state old mid.sink old.stream b (erred_by noting_error (fault_behind old.char_ref) (Sink.view mid.sink, notes)) (pending old.char_ref ++ t) refl)
+      ∙ sym (held-other (listening Sink) old.state old mid.sink old.stream b (erred_by noting_error (fault_behind old.char_ref) (Sink.view mid.sink, notes)) (pending old.char_ref ++ t) refl)
       ∙ sym (ap (λ k. now Sink k b (Sink.view mid.sink, notes) t) h.changed)
 
   pub at_erred : {owed : Owed} (old mid : Tokenizer K) (st : State) → Erred Sink owed old mid → IsAt old st → IsAt mid st

@@ -25,6 +25,7 @@ use Rattle.html_tokenizer.proofs.Glue.{at}
 use Rattle.html_tokenizer.proofs.HeldGlue.{Resolves, keeps-resolved, not-resolved}
 use Rattle.html_tokenizer.proofs.HeldReadings.{ReadsHeld, held-no_null, held-no_open, held-no_reference, reading-at_end, reading-held}
 use Rattle.html_tokenizer.proofs.Lawful.{noting-lawful, erred-sound, erred-more}
+use Rattle.html_tokenizer.specs.Listeners.{listening}
 
 module _ {K : Type 0} (k : Tokenizer K) where
   data-reads : ReadsHeld (rows_of k) (standing k InData)
@@ -50,25 +51,25 @@ module _ {K H : Type 0} (Sink : Ghosts K H) (laws : SinkLaws Sink.is_sound Sink.
 
   data-resolves : (old : Tokenizer K) (cs : List ℕ) (c : ℕ) → IsDecided (rows_of old) cs c → Resolves Sink state.Data old cs c (owed_for (fault_of_reference (rows_of old) cs)) (CharacterTokens (resolved false (rows_of old) cs false))
   unfolding held_at
-  data-resolves old cs c d b s h t = reading-held (λ p. Sink.is_sound p.0) (noting Sink.step Sink.is_quiet) noting_error (noting_cdata Sink.asks_cdata) (noting_end Sink.ended) (rows_of old) (noting-lawful Sink.is_sound Sink.step Sink.ended Sink.is_quiet laws) (standing old InData) b s cs (erred-sound Sink.is_sound (fault_of_reference (rows_of old) cs) s h) c t (data-reads old) d
+  data-resolves old cs c d b s h t = reading-held (λ p. Sink.is_sound p.0) (listening Sink) (rows_of old) (noting-lawful Sink.is_sound Sink.step Sink.ended Sink.is_quiet laws) (standing old InData) b s cs (erred-sound Sink.is_sound (fault_of_reference (rows_of old) cs) s h) c t (data-reads old) d
       ∙ ap (λ q. noting Sink.step Sink.is_quiet q (CharacterTokens (resolved false (rows_of old) cs false)) (line_number b) >>= λ p. reads Sink (rows_of old) (standing old InData) b p.0 (c ∷ t)) (erred-more (fault_of_reference (rows_of old) cs) s)
 
   rcdata-resolves : (old : Tokenizer K) (cs : List ℕ) (c : ℕ) → IsDecided (rows_of old) cs c → Resolves Sink (state.RawData raw.Rcdata) old cs c (owed_for (fault_of_reference (rows_of old) cs)) (CharacterTokens (resolved false (rows_of old) cs false))
   unfolding held_at
-  rcdata-resolves old cs c d b s h t = reading-held (λ p. Sink.is_sound p.0) (noting Sink.step Sink.is_quiet) noting_error (noting_cdata Sink.asks_cdata) (noting_end Sink.ended) (rows_of old) (noting-lawful Sink.is_sound Sink.step Sink.ended Sink.is_quiet laws) (standing old (InRaw raw.Rcdata)) b s cs (erred-sound Sink.is_sound (fault_of_reference (rows_of old) cs) s h) c t (rcdata-reads old) d
+  rcdata-resolves old cs c d b s h t = reading-held (λ p. Sink.is_sound p.0) (listening Sink) (rows_of old) (noting-lawful Sink.is_sound Sink.step Sink.ended Sink.is_quiet laws) (standing old (InRaw raw.Rcdata)) b s cs (erred-sound Sink.is_sound (fault_of_reference (rows_of old) cs) s h) c t (rcdata-reads old) d
       ∙ ap (λ q. noting Sink.step Sink.is_quiet q (CharacterTokens (resolved false (rows_of old) cs false)) (line_number b) >>= λ p. reads Sink (rows_of old) (standing old (InRaw raw.Rcdata)) b p.0 (c ∷ t)) (erred-more (fault_of_reference (rows_of old) cs) s)
 
   -- the same where the input ends
   pub data-at_end : (old : Tokenizer K) (cs : List ℕ) → list_all is_held cs ≡ true → (b : ℕ) (s : Sink.State × Notes ℕ) → Sink.is_sound s.0
       → at Sink state.Data old b s (38 ∷ cs ++ []) ≡ (noting Sink.step Sink.is_quiet (s.0, more (owed_for (fault_of_reference (rows_of old) cs)) s.1) (CharacterTokens (resolved false (rows_of old) cs false)) (line_number b) >>= λ p. at Sink state.Data old b p.0 [])
   unfolding held_at
-  data-at_end old cs held b s h = reading-at_end (λ p. Sink.is_sound p.0) (noting Sink.step Sink.is_quiet) noting_error (noting_cdata Sink.asks_cdata) (noting_end Sink.ended) (rows_of old) (noting-lawful Sink.is_sound Sink.step Sink.ended Sink.is_quiet laws) (standing old InData) b s cs (erred-sound Sink.is_sound (fault_of_reference (rows_of old) cs) s h) (data-reads old) held
+  data-at_end old cs held b s h = reading-at_end (λ p. Sink.is_sound p.0) (listening Sink) (rows_of old) (noting-lawful Sink.is_sound Sink.step Sink.ended Sink.is_quiet laws) (standing old InData) b s cs (erred-sound Sink.is_sound (fault_of_reference (rows_of old) cs) s h) (data-reads old) held
       ∙ ap (λ q. noting Sink.step Sink.is_quiet q (CharacterTokens (resolved false (rows_of old) cs false)) (line_number b) >>= λ p. reads Sink (rows_of old) (standing old InData) b p.0 []) (erred-more (fault_of_reference (rows_of old) cs) s)
 
   pub rcdata-at_end : (old : Tokenizer K) (cs : List ℕ) → list_all is_held cs ≡ true → (b : ℕ) (s : Sink.State × Notes ℕ) → Sink.is_sound s.0
       → at Sink (state.RawData raw.Rcdata) old b s (38 ∷ cs ++ []) ≡ (noting Sink.step Sink.is_quiet (s.0, more (owed_for (fault_of_reference (rows_of old) cs)) s.1) (CharacterTokens (resolved false (rows_of old) cs false)) (line_number b) >>= λ p. at Sink (state.RawData raw.Rcdata) old b p.0 [])
   unfolding held_at
-  rcdata-at_end old cs held b s h = reading-at_end (λ p. Sink.is_sound p.0) (noting Sink.step Sink.is_quiet) noting_error (noting_cdata Sink.asks_cdata) (noting_end Sink.ended) (rows_of old) (noting-lawful Sink.is_sound Sink.step Sink.ended Sink.is_quiet laws) (standing old (InRaw raw.Rcdata)) b s cs (erred-sound Sink.is_sound (fault_of_reference (rows_of old) cs) s h) (rcdata-reads old) held
+  rcdata-at_end old cs held b s h = reading-at_end (λ p. Sink.is_sound p.0) (listening Sink) (rows_of old) (noting-lawful Sink.is_sound Sink.step Sink.ended Sink.is_quiet laws) (standing old (InRaw raw.Rcdata)) b s cs (erred-sound Sink.is_sound (fault_of_reference (rows_of old) cs) s h) (rcdata-reads old) held
       ∙ ap (λ q. noting Sink.step Sink.is_quiet q (CharacterTokens (resolved false (rows_of old) cs false)) (line_number b) >>= λ p. reads Sink (rows_of old) (standing old (InRaw raw.Rcdata)) b p.0 []) (erred-more (fault_of_reference (rows_of old) cs) s)
 
   pub data-ended : (old mid new : Tokenizer K) (cs : List ℕ) (c : ℕ) (result : Result (ProcessResult H) ParseFault) → IsAt old state.Data → Sink.is_sound (Sink.view old.sink) → IsDecided (rows_of old) cs c

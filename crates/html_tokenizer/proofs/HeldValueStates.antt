@@ -24,6 +24,7 @@ use Rattle.html_tokenizer.proofs.HeldGlue.{now-held}
 use Rattle.html_tokenizer.proofs.HeldValues.{play-unquoted, play-double, play-single}
 use Rattle.html_tokenizer.proofs.Lawful.{erred-more, slight-absorbed}
 use Rattle.html_tokenizer.proofs.Rises.{rises-slight}
+use Rattle.html_tokenizer.specs.Listeners.{listening}
 
 -- what was pushed behind the value
 pub value-pushed : (rows : List Row) (text front cs : List ℕ) (o : Option Reference) (follows : Bool) (c : ℕ) → text ≡ front ++ resolved_by o cs → o ≡ decided true rows cs follows → follows ≡ goes_on_at (c ∷ [])
@@ -46,13 +47,13 @@ module _ {K H : Type 0} (Sink : Ghosts K H) where
       ≡ at Sink (state.AttributeValue kind) (record old { attribute_value = old.attribute_value ++ resolved true (rows_of old) cs follows }) b (wronged_by old cs s) u
   unfolding held_at
   value-resolves value.Unquoted old cs u follows h e f b s =
-      play-unquoted (noting Sink.step Sink.is_quiet) noting_error (noting_cdata Sink.asks_cdata) (noting_end Sink.ended) (rows_of old) (λ fault s. slight-absorbed fault s) (standing old InData) old.tag old.attribute_name old.attribute_value cs u follows b s h e f
+      play-unquoted (listening Sink) (rows_of old) (λ fault s. slight-absorbed fault s) (standing old InData) old.tag old.attribute_name old.attribute_value cs u follows b s h e f
       ∙ ap (λ q. at Sink (state.AttributeValue value.Unquoted) (record old { attribute_value = old.attribute_value ++ resolved true (rows_of old) cs follows }) b q u) (erred-more (slight_if (is_some (fault_of_reference (rows_of old) cs))) s)
   value-resolves value.SingleQuoted old cs u follows h e f b s =
-      play-single (noting Sink.step Sink.is_quiet) noting_error (noting_cdata Sink.asks_cdata) (noting_end Sink.ended) (rows_of old) (λ fault s. slight-absorbed fault s) (standing old InData) old.tag old.attribute_name old.attribute_value cs u follows b s h e f
+      play-single (listening Sink) (rows_of old) (λ fault s. slight-absorbed fault s) (standing old InData) old.tag old.attribute_name old.attribute_value cs u follows b s h e f
       ∙ ap (λ q. at Sink (state.AttributeValue value.SingleQuoted) (record old { attribute_value = old.attribute_value ++ resolved true (rows_of old) cs follows }) b q u) (erred-more (slight_if (is_some (fault_of_reference (rows_of old) cs))) s)
   value-resolves value.DoubleQuoted old cs u follows h e f b s =
-      play-double (noting Sink.step Sink.is_quiet) noting_error (noting_cdata Sink.asks_cdata) (noting_end Sink.ended) (rows_of old) (λ fault s. slight-absorbed fault s) (standing old InData) old.tag old.attribute_name old.attribute_value cs u follows b s h e f
+      play-double (listening Sink) (rows_of old) (λ fault s. slight-absorbed fault s) (standing old InData) old.tag old.attribute_name old.attribute_value cs u follows b s h e f
       ∙ ap (λ q. at Sink (state.AttributeValue value.DoubleQuoted) (record old { attribute_value = old.attribute_value ++ resolved true (rows_of old) cs follows }) b q u) (erred-more (slight_if (is_some (fault_of_reference (rows_of old) cs))) s)
 
   -- the same where the input ends

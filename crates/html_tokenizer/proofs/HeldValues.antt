@@ -19,6 +19,7 @@ use Rattle.html_tokenizer.proofs.Glue.{no-break}
 use Rattle.html_tokenizer.proofs.HeldReadings.{held-no_null, held-no_reference, held-unbroken}
 use Rattle.html_tokenizer_parts.proofs.HeldTexts.{held-drop}
 use Rattle.html_tokenizer.proofs.Readings.{Absorbing, marked-both, play-is, play-odd}
+use Rattle.html_tokenizer.specs.Listeners.{Listener, told_item}
 
 -- so many more
 abbrev more : ℕ → ℕ → ℕ
@@ -146,35 +147,35 @@ module _ (rows : List Row) (st : Stand) (tag : Tag) (name front cs u : List ℕ)
       ∙ ap (λ i. marked is_wrong (marked v.is_odd i)) (quote-more (suc (length cs)) v.len next (drop v.len u))
       ∙ ap (marked is_wrong) (marked-behind_all (suc (length cs)) v.is_odd (quote_at v.len next (drop v.len u)))
 
-module _ {T : Type 0} (step : NotedStep T) (erred : Fault → T → T) (cdata : T → Bool) (ends : T → T) (rows : List Row) where
+module _ {T : Type 0} (to : Listener T) (rows : List Row) where
   -- an item behind characters that were held
-  play-behind_all : (j : Item) (b : ℕ) (s : T) (xs t : List ℕ) → list_all is_held xs ≡ true → play step erred cdata ends rows (behind_all (length xs) j) b s (xs ++ t) ≡ play step erred cdata ends rows j b s t
+  play-behind_all : (j : Item) (b : ℕ) (s : T) (xs t : List ℕ) → list_all is_held xs ≡ true → told_item to rows (behind_all (length xs) j) b s (xs ++ t) ≡ told_item to rows j b s t
   play-behind_all j b s [] t h = refl
   play-behind_all j b s (x ∷ xs) t h =
       let p = and_parts (is_held x) (list_all is_held xs) h in
-      play-is step erred cdata ends rows (behind_all (length (x ∷ xs)) j) (behind_all (length xs) j) b s x (xs ++ t) refl
-      ∙ ap (λ n. play step erred cdata ends rows (behind_all (length xs) j) n s (xs ++ t)) (no-break b x (held-unbroken x p.0))
+      play-is to rows (behind_all (length (x ∷ xs)) j) (behind_all (length xs) j) b s x (xs ++ t) refl
+      ∙ ap (λ n. told_item to rows (behind_all (length xs) j) n s (xs ++ t)) (no-break b x (held-unbroken x p.0))
       ∙ play-behind_all j b s xs t p.1
 
-  module _ (absorbs : Absorbing erred) where
+  module _ (absorbs : Absorbing to.erred) where
     -- an item behind what was held, with which something may be wrong
-    play-held : (wrong : Bool) (i j : Item) (b : ℕ) (s : T) (cs t : List ℕ) → list_all is_held cs ≡ true → i ≡ marked wrong (behind_all (suc (length cs)) j) → play step erred cdata ends rows i b s (38 ∷ cs ++ t) ≡ play step erred cdata ends rows j b (erred_by erred (slight_if wrong) s) t
+    play-held : (wrong : Bool) (i j : Item) (b : ℕ) (s : T) (cs t : List ℕ) → list_all is_held cs ≡ true → i ≡ marked wrong (behind_all (suc (length cs)) j) → told_item to rows i b s (38 ∷ cs ++ t) ≡ told_item to rows j b (erred_by to.erred (slight_if wrong) s) t
     play-held wrong i j b s cs t h e =
-        let q = erred_by erred (slight_if wrong) s in
-        play-odd step erred cdata ends rows absorbs wrong i (behind_all (length cs) j) b s 38 (cs ++ t) e
-        ∙ ap (λ n. play step erred cdata ends rows (behind_all (length cs) j) n q (cs ++ t)) (no-break b 38 refl)
+        let q = erred_by to.erred (slight_if wrong) s in
+        play-odd to rows absorbs wrong i (behind_all (length cs) j) b s 38 (cs ++ t) e
+        ∙ ap (λ n. told_item to rows (behind_all (length cs) j) n q (cs ++ t)) (no-break b 38 refl)
         ∙ play-behind_all j b q cs t h
 
     module _ (st : Stand) (tag : Tag) (name front cs u : List ℕ) (follows : Bool) (b : ℕ) (s : T) (held : list_all is_held cs ≡ true) (e : reference_at true rows (cs ++ u) ≡ decided true rows cs follows) (f : fault_of_reference rows (cs ++ u) ≡ fault_of_reference rows cs) where
       -- what is noted of what was held
       abbrev wronged_by : T
-      wronged_by = erred_by erred (slight_if (is_some (fault_of_reference rows cs))) s
+      wronged_by = erred_by to.erred (slight_if (is_some (fault_of_reference rows cs))) s
 
-      pub play-unquoted : play step erred cdata ends rows (unquoted_after rows st tag name front (38 ∷ cs ++ u)) b s (38 ∷ cs ++ u) ≡ play step erred cdata ends rows (unquoted_after rows st tag name (front ++ resolved true rows cs follows) u) b wronged_by u
+      pub play-unquoted : told_item to rows (unquoted_after rows st tag name front (38 ∷ cs ++ u)) b s (38 ∷ cs ++ u) ≡ told_item to rows (unquoted_after rows st tag name (front ++ resolved true rows cs follows) u) b wronged_by u
       play-unquoted = play-held _ _ _ b s cs u held (unquoted-held rows st tag name front cs u follows held e f)
 
-      pub play-double : play step erred cdata ends rows (quoted_after rows 34 st tag name front (38 ∷ cs ++ u)) b s (38 ∷ cs ++ u) ≡ play step erred cdata ends rows (quoted_after rows 34 st tag name (front ++ resolved true rows cs follows) u) b wronged_by u
+      pub play-double : told_item to rows (quoted_after rows 34 st tag name front (38 ∷ cs ++ u)) b s (38 ∷ cs ++ u) ≡ told_item to rows (quoted_after rows 34 st tag name (front ++ resolved true rows cs follows) u) b wronged_by u
       play-double = play-held _ _ _ b s cs u held (quoted-held rows st tag name front cs u follows held e f 34 double-goes_on)
 
-      pub play-single : play step erred cdata ends rows (quoted_after rows 39 st tag name front (38 ∷ cs ++ u)) b s (38 ∷ cs ++ u) ≡ play step erred cdata ends rows (quoted_after rows 39 st tag name (front ++ resolved true rows cs follows) u) b wronged_by u
+      pub play-single : told_item to rows (quoted_after rows 39 st tag name front (38 ∷ cs ++ u)) b s (38 ∷ cs ++ u) ≡ told_item to rows (quoted_after rows 39 st tag name (front ++ resolved true rows cs follows) u) b wronged_by u
       play-single = play-held _ _ _ b s cs u held (quoted-held rows st tag name front cs u follows held e f 39 single-goes_on)

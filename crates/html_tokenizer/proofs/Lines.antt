@@ -20,6 +20,7 @@ use Rattle.html_tokens.specs.Table.{Row}
 use Rattle.html_tokens.proofs.Readings.{bind_same}
 use Rattle.html_tokenizer.specs.declared.tokenizer.Tokenizer.{Tokenizer}
 use Rattle.html_tokenizer.specs.Rest.{rows_of, standing, held_at}
+use Rattle.html_tokenizer.specs.Listeners.{Listener, told_text, told_item}
 
 -- Behind so many line breaks, or so many, and any number more, the line is the same.
 abbrev pub SameLines : ℕ → ℕ → Type 0
@@ -44,89 +45,89 @@ capped b n = omega arith
 pub lines-capped : (b : ℕ) → SameLines b (min b 0xffff_ffff_ffff_ffff)
 lines-capped b = λ n. capped b n
 
-module _ {T : Type 0} (step : NotedStep T) (erred : Fault → T → T) (cdata : T → Bool) (ends : T → T) (rows : List Row) where
-  said-same : (fault : Option Fault) (token : Option Token) (b d : ℕ) (s : T) → line_number b ≡ line_number d → said step erred fault token b s ≡ said step erred fault token d s
+module _ {T : Type 0} (to : Listener T) (rows : List Row) where
+  said-same : (fault : Option Fault) (token : Option Token) (b d : ℕ) (s : T) → line_number b ≡ line_number d → said to.step to.erred fault token b s ≡ said to.step to.erred fault token d s
   said-same fault None b d s h = refl
-  said-same fault (Some token) b d s h = ap (λ l. step (erred_by erred fault s) token l) h
+  said-same fault (Some token) b d s h = ap (λ l. to.step (erred_by to.erred fault s) token l) h
 
-  pub reading-lines : (n : ℕ) (st : Stand) (b d : ℕ) (s : T) (t : List ℕ) → SameLines b d → reading_from step erred cdata ends rows n st b s t ≡ reading_from step erred cdata ends rows n st d s t
+  pub reading-lines : (n : ℕ) (st : Stand) (b d : ℕ) (s : T) (t : List ℕ) → SameLines b d → reading_from to.step to.erred to.cdata to.ends rows n st b s t ≡ reading_from to.step to.erred to.cdata to.ends rows n st d s t
   unfolding reading_from
-  reading-lines n st b d s [] h = ap (λ l. step (erred_by erred (fault_at_end st.place) s) EOFToken l >>= λ p. Ok (ends p.0)) (line-same b d h)
+  reading-lines n st b d s [] h = ap (λ l. to.step (erred_by to.erred (fault_at_end st.place) s) EOFToken l >>= λ p. Ok (to.ends p.0)) (line-same b d h)
   reading-lines zero st b d s (c ∷ t) h =
-      let i = item rows (cdata s) st c t in
+      let i = item rows (to.cdata s) st c t in
       let m = line_breaks (take i.len (c ∷ t)) in
-      ap (λ r. r >>= λ p. reading_from step erred cdata ends rows (i.len - 1) (next_stand i.next p.1) (b + m) p.0 t) (said-same i.fault i.token (b + m) (d + m) s (h m))
-      ∙ bind_same (said step erred i.fault i.token (d + m) s) (λ p. reading_from step erred cdata ends rows (i.len - 1) (next_stand i.next p.1) (b + m) p.0 t) (λ p. reading_from step erred cdata ends rows (i.len - 1) (next_stand i.next p.1) (d + m) p.0 t)
+      ap (λ r. r >>= λ p. reading_from to.step to.erred to.cdata to.ends rows (i.len - 1) (next_stand i.next p.1) (b + m) p.0 t) (said-same i.fault i.token (b + m) (d + m) s (h m))
+      ∙ bind_same (said to.step to.erred i.fault i.token (d + m) s) (λ p. reading_from to.step to.erred to.cdata to.ends rows (i.len - 1) (next_stand i.next p.1) (b + m) p.0 t) (λ p. reading_from to.step to.erred to.cdata to.ends rows (i.len - 1) (next_stand i.next p.1) (d + m) p.0 t)
       (λ p. reading-lines (i.len - 1) (next_stand i.next p.1) (b + m) (d + m) p.0 t (lines-behind b d m h))
   reading-lines (suc n) st b d s (c ∷ t) h = reading-lines n st b d s t h
 
-  pub play-lines : (i : Item) (b d : ℕ) (s : T) (t : List ℕ) → SameLines b d → play step erred cdata ends rows i b s t ≡ play step erred cdata ends rows i d s t
+  pub play-lines : (i : Item) (b d : ℕ) (s : T) (t : List ℕ) → SameLines b d → told_item to rows i b s t ≡ told_item to rows i d s t
   play-lines i b d s t h =
       let m = line_breaks (take i.len t) in
-      ap (λ r. r >>= λ p. reading step erred cdata ends rows (next_stand i.next p.1) (b + m) p.0 (drop i.len t)) (said-same i.fault i.token (b + m) (d + m) s (h m))
-      ∙ bind_same (said step erred i.fault i.token (d + m) s) (λ p. reading step erred cdata ends rows (next_stand i.next p.1) (b + m) p.0 (drop i.len t)) (λ p. reading step erred cdata ends rows (next_stand i.next p.1) (d + m) p.0 (drop i.len t))
+      ap (λ r. r >>= λ p. told_text to rows (next_stand i.next p.1) (b + m) p.0 (drop i.len t)) (said-same i.fault i.token (b + m) (d + m) s (h m))
+      ∙ bind_same (said to.step to.erred i.fault i.token (d + m) s) (λ p. told_text to rows (next_stand i.next p.1) (b + m) p.0 (drop i.len t)) (λ p. told_text to rows (next_stand i.next p.1) (d + m) p.0 (drop i.len t))
       (λ p. reading-lines 0 (next_stand i.next p.1) (b + m) (d + m) p.0 (drop i.len t) (lines-behind b d m h))
 
-module _ {K T : Type 0} (step : NotedStep T) (erred : Fault → T → T) (cdata : T → Bool) (ends : T → T) where
+module _ {K T : Type 0} (to : Listener T) where
   -- what is held makes of a text what it makes behind other line breaks with the same lines
-  pub held-lines : (st : State) (k : Tokenizer K) (b d : ℕ) (s : T) (t : List ℕ) → SameLines b d → held_at step erred cdata ends st k b s t ≡ held_at step erred cdata ends st k d s t
+  pub held-lines : (st : State) (k : Tokenizer K) (b d : ℕ) (s : T) (t : List ℕ) → SameLines b d → held_at to st k b s t ≡ held_at to st k d s t
   unfolding held_at
-  held-lines state.Data k b d s t h = reading-lines step erred cdata ends (rows_of k) 0 _ b d s _ h
-  held-lines state.Plaintext k b d s t h = reading-lines step erred cdata ends (rows_of k) 0 _ b d s _ h
-  held-lines state.TagOpen k b d s t h = reading-lines step erred cdata ends (rows_of k) 0 _ b d s _ h
-  held-lines state.EndTagOpen k b d s t h = reading-lines step erred cdata ends (rows_of k) 0 _ b d s _ h
-  held-lines state.TagName k b d s t h = play-lines step erred cdata ends (rows_of k) (name_after (standing k InData) k.tag t) b d s t h
-  held-lines (state.RawData kind) k b d s t h = reading-lines step erred cdata ends (rows_of k) 0 _ b d s _ h
-  held-lines (state.RawLessThanSign (raw.ScriptDataEscaped script.DoubleEscaped)) k b d s t h = reading-lines step erred cdata ends (rows_of k) 0 _ b d s _ h
-  held-lines (state.RawLessThanSign (raw.ScriptDataEscaped script.Escaped)) k b d s t h = reading-lines step erred cdata ends (rows_of k) 0 _ b d s _ h
-  held-lines (state.RawLessThanSign raw.Rcdata) k b d s t h = reading-lines step erred cdata ends (rows_of k) 0 _ b d s _ h
-  held-lines (state.RawLessThanSign raw.Rawtext) k b d s t h = reading-lines step erred cdata ends (rows_of k) 0 _ b d s _ h
-  held-lines (state.RawLessThanSign raw.ScriptData) k b d s t h = reading-lines step erred cdata ends (rows_of k) 0 _ b d s _ h
-  held-lines (state.RawEndTagOpen kind) k b d s t h = reading-lines step erred cdata ends (rows_of k) 0 _ b d s _ h
-  held-lines (state.RawEndTagName kind) k b d s t h = reading-lines step erred cdata ends (rows_of k) 0 _ b d s _ h
-  held-lines (state.ScriptDataEscapeStart script.Escaped) k b d s t h = reading-lines step erred cdata ends (rows_of k) 0 _ b d s _ h
-  held-lines (state.ScriptDataEscapeStart script.DoubleEscaped) k b d s t h = reading-lines step erred cdata ends (rows_of k) 0 _ b d s _ h
-  held-lines state.ScriptDataEscapeStartDash k b d s t h = reading-lines step erred cdata ends (rows_of k) 0 _ b d s _ h
-  held-lines (state.ScriptDataEscapedDash kind) k b d s t h = reading-lines step erred cdata ends (rows_of k) 0 _ b d s _ h
-  held-lines (state.ScriptDataEscapedDashDash kind) k b d s t h = reading-lines step erred cdata ends (rows_of k) 0 _ b d s _ h
-  held-lines state.ScriptDataDoubleEscapeEnd k b d s t h = reading-lines step erred cdata ends (rows_of k) 0 _ b d s _ h
-  held-lines state.BeforeAttributeName k b d s t h = reading-lines step erred cdata ends (rows_of k) 0 _ b d s _ h
-  held-lines state.AttributeName k b d s t h = play-lines step erred cdata ends (rows_of k) (attribute_after (rows_of k) (standing k InData) k.tag k.attribute_name t) b d s t h
-  held-lines state.AfterAttributeName k b d s t h = play-lines step erred cdata ends (rows_of k) (equals_at (rows_of k) (standing k InData) k.tag k.attribute_name t) b d s t h
-  held-lines state.BeforeAttributeValue k b d s t h = play-lines step erred cdata ends (rows_of k) (value_at (rows_of k) (standing k InData) k.tag k.attribute_name t) b d s t h
-  held-lines (state.AttributeValue value.Unquoted) k b d s t h = play-lines step erred cdata ends (rows_of k) (unquoted_after (rows_of k) (standing k InData) k.tag k.attribute_name k.attribute_value t) b d s t h
-  held-lines (state.AttributeValue value.SingleQuoted) k b d s t h = play-lines step erred cdata ends (rows_of k) (quoted_after (rows_of k) 39 (standing k InData) k.tag k.attribute_name k.attribute_value t) b d s t h
-  held-lines (state.AttributeValue value.DoubleQuoted) k b d s t h = play-lines step erred cdata ends (rows_of k) (quoted_after (rows_of k) 34 (standing k InData) k.tag k.attribute_name k.attribute_value t) b d s t h
-  held-lines state.AfterAttributeValueQuoted k b d s t h = reading-lines step erred cdata ends (rows_of k) 0 _ b d _ _ h
-  held-lines state.SelfClosingStartTag k b d s t h = reading-lines step erred cdata ends (rows_of k) 0 _ b d s _ h
-  held-lines state.BogusComment k b d s t h = play-lines step erred cdata ends (rows_of k) (bogus_comment_after (standing k InData) k.comment t) b d s t h
-  held-lines state.MarkupDeclarationOpen k b d s t h = reading-lines step erred cdata ends (rows_of k) 0 _ b d s _ h
-  held-lines state.CommentStart k b d s t h = play-lines step erred cdata ends (rows_of k) (comment_at (standing k InData) t) b d s t h
-  held-lines state.CommentStartDash k b d s t h = play-lines step erred cdata ends (rows_of k) (comment_at (standing k InData) (45 ∷ t)) b d s (45 ∷ t) h
-  held-lines state.Comment k b d s t h = play-lines step erred cdata ends (rows_of k) (comment_after (standing k InData) k.comment t) b d s t h
-  held-lines state.CommentLessThanSign k b d s t h = play-lines step erred cdata ends (rows_of k) (comment_after (standing k InData) k.comment t) b d s t h
-  held-lines state.CommentLessThanSignBang k b d s t h = play-lines step erred cdata ends (rows_of k) (comment_after (standing k InData) k.comment t) b d s t h
-  held-lines state.CommentLessThanSignBangDash k b d s t h = play-lines step erred cdata ends (rows_of k) (comment_after (standing k InData) k.comment (45 ∷ t)) b d s (45 ∷ t) h
-  held-lines state.CommentLessThanSignBangDashDash k b d s t h = play-lines step erred cdata ends (rows_of k) (comment_after (standing k InData) k.comment (45 ∷ 45 ∷ t)) b d s (45 ∷ 45 ∷ t) h
-  held-lines state.CommentEndDash k b d s t h = play-lines step erred cdata ends (rows_of k) (comment_after (standing k InData) k.comment (45 ∷ t)) b d s (45 ∷ t) h
-  held-lines state.CommentEnd k b d s t h = play-lines step erred cdata ends (rows_of k) (comment_after (standing k InData) k.comment (45 ∷ 45 ∷ t)) b d s (45 ∷ 45 ∷ t) h
-  held-lines state.CommentEndBang k b d s t h = play-lines step erred cdata ends (rows_of k) (comment_after (standing k InData) k.comment (45 ∷ 45 ∷ 33 ∷ t)) b d s (45 ∷ 45 ∷ 33 ∷ t) h
-  held-lines state.Doctype k b d s t h = play-lines step erred cdata ends (rows_of k) (doctype_at (standing k InData) t) b d s t h
-  held-lines state.BeforeDoctypeName k b d s t h = play-lines step erred cdata ends (rows_of k) (doctype_behind (standing k InData) t) b d s t h
-  held-lines state.DoctypeName k b d s t h = play-lines step erred cdata ends (rows_of k) (doctype_name_after (standing k InData) k.temporary t) b d s t h
-  held-lines state.AfterDoctypeName k b d s t h = play-lines step erred cdata ends (rows_of k) (after_name (standing k InData) k.doctype (k.keyword ++ t)) b d s (k.keyword ++ t) h
-  held-lines (state.AfterDoctypeKeyword id.Public) k b d s t h = play-lines step erred cdata ends (rows_of k) (after_public_keyword (standing k InData) k.doctype t) b d s t h
-  held-lines (state.AfterDoctypeKeyword id.System) k b d s t h = play-lines step erred cdata ends (rows_of k) (after_system_keyword (standing k InData) k.doctype t) b d s t h
-  held-lines (state.BeforeDoctypeIdentifier id.Public) k b d s t h = play-lines step erred cdata ends (rows_of k) (after_public_keyword (standing k InData) k.doctype t) b d s t h
-  held-lines (state.BeforeDoctypeIdentifier id.System) k b d s t h = play-lines step erred cdata ends (rows_of k) (after_system_keyword (standing k InData) k.doctype t) b d s t h
-  held-lines (state.DoctypeIdentifierDoubleQuoted id.Public) k b d s t h = play-lines step erred cdata ends (rows_of k) (public_after 34 (standing k InData) k.doctype k.temporary t) b d s t h
-  held-lines (state.DoctypeIdentifierDoubleQuoted id.System) k b d s t h = play-lines step erred cdata ends (rows_of k) (system_after 34 (standing k InData) k.doctype k.temporary t) b d s t h
-  held-lines (state.DoctypeIdentifierSingleQuoted id.Public) k b d s t h = play-lines step erred cdata ends (rows_of k) (public_after 39 (standing k InData) k.doctype k.temporary t) b d s t h
-  held-lines (state.DoctypeIdentifierSingleQuoted id.System) k b d s t h = play-lines step erred cdata ends (rows_of k) (system_after 39 (standing k InData) k.doctype k.temporary t) b d s t h
-  held-lines (state.AfterDoctypeIdentifier id.Public) k b d s t h = play-lines step erred cdata ends (rows_of k) (after_public (standing k InData) k.doctype t) b d s t h
-  held-lines (state.AfterDoctypeIdentifier id.System) k b d s t h = play-lines step erred cdata ends (rows_of k) (after_system (standing k InData) k.doctype t) b d s t h
-  held-lines state.BetweenDoctypePublicAndSystemIdentifiers k b d s t h = play-lines step erred cdata ends (rows_of k) (after_public (standing k InData) k.doctype t) b d s t h
-  held-lines state.BogusDoctype k b d s t h = play-lines step erred cdata ends (rows_of k) (junk_after (standing k InData) k.doctype t) b d s t h
-  held-lines state.CdataSection k b d s t h = reading-lines step erred cdata ends (rows_of k) 0 _ b d s _ h
-  held-lines state.CdataSectionBracket k b d s t h = reading-lines step erred cdata ends (rows_of k) 0 _ b d s _ h
-  held-lines state.CdataSectionEnd k b d s t h = reading-lines step erred cdata ends (rows_of k) 0 _ b d s _ h
+  held-lines state.Data k b d s t h = reading-lines to (rows_of k) 0 _ b d s _ h
+  held-lines state.Plaintext k b d s t h = reading-lines to (rows_of k) 0 _ b d s _ h
+  held-lines state.TagOpen k b d s t h = reading-lines to (rows_of k) 0 _ b d s _ h
+  held-lines state.EndTagOpen k b d s t h = reading-lines to (rows_of k) 0 _ b d s _ h
+  held-lines state.TagName k b d s t h = play-lines to (rows_of k) (name_after (standing k InData) k.tag t) b d s t h
+  held-lines (state.RawData kind) k b d s t h = reading-lines to (rows_of k) 0 _ b d s _ h
+  held-lines (state.RawLessThanSign (raw.ScriptDataEscaped script.DoubleEscaped)) k b d s t h = reading-lines to (rows_of k) 0 _ b d s _ h
+  held-lines (state.RawLessThanSign (raw.ScriptDataEscaped script.Escaped)) k b d s t h = reading-lines to (rows_of k) 0 _ b d s _ h
+  held-lines (state.RawLessThanSign raw.Rcdata) k b d s t h = reading-lines to (rows_of k) 0 _ b d s _ h
+  held-lines (state.RawLessThanSign raw.Rawtext) k b d s t h = reading-lines to (rows_of k) 0 _ b d s _ h
+  held-lines (state.RawLessThanSign raw.ScriptData) k b d s t h = reading-lines to (rows_of k) 0 _ b d s _ h
+  held-lines (state.RawEndTagOpen kind) k b d s t h = reading-lines to (rows_of k) 0 _ b d s _ h
+  held-lines (state.RawEndTagName kind) k b d s t h = reading-lines to (rows_of k) 0 _ b d s _ h
+  held-lines (state.ScriptDataEscapeStart script.Escaped) k b d s t h = reading-lines to (rows_of k) 0 _ b d s _ h
+  held-lines (state.ScriptDataEscapeStart script.DoubleEscaped) k b d s t h = reading-lines to (rows_of k) 0 _ b d s _ h
+  held-lines state.ScriptDataEscapeStartDash k b d s t h = reading-lines to (rows_of k) 0 _ b d s _ h
+  held-lines (state.ScriptDataEscapedDash kind) k b d s t h = reading-lines to (rows_of k) 0 _ b d s _ h
+  held-lines (state.ScriptDataEscapedDashDash kind) k b d s t h = reading-lines to (rows_of k) 0 _ b d s _ h
+  held-lines state.ScriptDataDoubleEscapeEnd k b d s t h = reading-lines to (rows_of k) 0 _ b d s _ h
+  held-lines state.BeforeAttributeName k b d s t h = reading-lines to (rows_of k) 0 _ b d s _ h
+  held-lines state.AttributeName k b d s t h = play-lines to (rows_of k) (attribute_after (rows_of k) (standing k InData) k.tag k.attribute_name t) b d s t h
+  held-lines state.AfterAttributeName k b d s t h = play-lines to (rows_of k) (equals_at (rows_of k) (standing k InData) k.tag k.attribute_name t) b d s t h
+  held-lines state.BeforeAttributeValue k b d s t h = play-lines to (rows_of k) (value_at (rows_of k) (standing k InData) k.tag k.attribute_name t) b d s t h
+  held-lines (state.AttributeValue value.Unquoted) k b d s t h = play-lines to (rows_of k) (unquoted_after (rows_of k) (standing k InData) k.tag k.attribute_name k.attribute_value t) b d s t h
+  held-lines (state.AttributeValue value.SingleQuoted) k b d s t h = play-lines to (rows_of k) (quoted_after (rows_of k) 39 (standing k InData) k.tag k.attribute_name k.attribute_value t) b d s t h
+  held-lines (state.AttributeValue value.DoubleQuoted) k b d s t h = play-lines to (rows_of k) (quoted_after (rows_of k) 34 (standing k InData) k.tag k.attribute_name k.attribute_value t) b d s t h
+  held-lines state.AfterAttributeValueQuoted k b d s t h = reading-lines to (rows_of k) 0 _ b d _ _ h
+  held-lines state.SelfClosingStartTag k b d s t h = reading-lines to (rows_of k) 0 _ b d s _ h
+  held-lines state.BogusComment k b d s t h = play-lines to (rows_of k) (bogus_comment_after (standing k InData) k.comment t) b d s t h
+  held-lines state.MarkupDeclarationOpen k b d s t h = reading-lines to (rows_of k) 0 _ b d s _ h
+  held-lines state.CommentStart k b d s t h = play-lines to (rows_of k) (comment_at (standing k InData) t) b d s t h
+  held-lines state.CommentStartDash k b d s t h = play-lines to (rows_of k) (comment_at (standing k InData) (45 ∷ t)) b d s (45 ∷ t) h
+  held-lines state.Comment k b d s t h = play-lines to (rows_of k) (comment_after (standing k InData) k.comment t) b d s t h
+  held-lines state.CommentLessThanSign k b d s t h = play-lines to (rows_of k) (comment_after (standing k InData) k.comment t) b d s t h
+  held-lines state.CommentLessThanSignBang k b d s t h = play-lines to (rows_of k) (comment_after (standing k InData) k.comment t) b d s t h
+  held-lines state.CommentLessThanSignBangDash k b d s t h = play-lines to (rows_of k) (comment_after (standing k InData) k.comment (45 ∷ t)) b d s (45 ∷ t) h
+  held-lines state.CommentLessThanSignBangDashDash k b d s t h = play-lines to (rows_of k) (comment_after (standing k InData) k.comment (45 ∷ 45 ∷ t)) b d s (45 ∷ 45 ∷ t) h
+  held-lines state.CommentEndDash k b d s t h = play-lines to (rows_of k) (comment_after (standing k InData) k.comment (45 ∷ t)) b d s (45 ∷ t) h
+  held-lines state.CommentEnd k b d s t h = play-lines to (rows_of k) (comment_after (standing k InData) k.comment (45 ∷ 45 ∷ t)) b d s (45 ∷ 45 ∷ t) h
+  held-lines state.CommentEndBang k b d s t h = play-lines to (rows_of k) (comment_after (standing k InData) k.comment (45 ∷ 45 ∷ 33 ∷ t)) b d s (45 ∷ 45 ∷ 33 ∷ t) h
+  held-lines state.Doctype k b d s t h = play-lines to (rows_of k) (doctype_at (standing k InData) t) b d s t h
+  held-lines state.BeforeDoctypeName k b d s t h = play-lines to (rows_of k) (doctype_behind (standing k InData) t) b d s t h
+  held-lines state.DoctypeName k b d s t h = play-lines to (rows_of k) (doctype_name_after (standing k InData) k.temporary t) b d s t h
+  held-lines state.AfterDoctypeName k b d s t h = play-lines to (rows_of k) (after_name (standing k InData) k.doctype (k.keyword ++ t)) b d s (k.keyword ++ t) h
+  held-lines (state.AfterDoctypeKeyword id.Public) k b d s t h = play-lines to (rows_of k) (after_public_keyword (standing k InData) k.doctype t) b d s t h
+  held-lines (state.AfterDoctypeKeyword id.System) k b d s t h = play-lines to (rows_of k) (after_system_keyword (standing k InData) k.doctype t) b d s t h
+  held-lines (state.BeforeDoctypeIdentifier id.Public) k b d s t h = play-lines to (rows_of k) (after_public_keyword (standing k InData) k.doctype t) b d s t h
+  held-lines (state.BeforeDoctypeIdentifier id.System) k b d s t h = play-lines to (rows_of k) (after_system_keyword (standing k InData) k.doctype t) b d s t h
+  held-lines (state.DoctypeIdentifierDoubleQuoted id.Public) k b d s t h = play-lines to (rows_of k) (public_after 34 (standing k InData) k.doctype k.temporary t) b d s t h
+  held-lines (state.DoctypeIdentifierDoubleQuoted id.System) k b d s t h = play-lines to (rows_of k) (system_after 34 (standing k InData) k.doctype k.temporary t) b d s t h
+  held-lines (state.DoctypeIdentifierSingleQuoted id.Public) k b d s t h = play-lines to (rows_of k) (public_after 39 (standing k InData) k.doctype k.temporary t) b d s t h
+  held-lines (state.DoctypeIdentifierSingleQuoted id.System) k b d s t h = play-lines to (rows_of k) (system_after 39 (standing k InData) k.doctype k.temporary t) b d s t h
+  held-lines (state.AfterDoctypeIdentifier id.Public) k b d s t h = play-lines to (rows_of k) (after_public (standing k InData) k.doctype t) b d s t h
+  held-lines (state.AfterDoctypeIdentifier id.System) k b d s t h = play-lines to (rows_of k) (after_system (standing k InData) k.doctype t) b d s t h
+  held-lines state.BetweenDoctypePublicAndSystemIdentifiers k b d s t h = play-lines to (rows_of k) (after_public (standing k InData) k.doctype t) b d s t h
+  held-lines state.BogusDoctype k b d s t h = play-lines to (rows_of k) (junk_after (standing k InData) k.doctype t) b d s t h
+  held-lines state.CdataSection k b d s t h = reading-lines to (rows_of k) 0 _ b d s _ h
+  held-lines state.CdataSectionBracket k b d s t h = reading-lines to (rows_of k) 0 _ b d s _ h
+  held-lines state.CdataSectionEnd k b d s t h = reading-lines to (rows_of k) 0 _ b d s _ h

@@ -26,6 +26,7 @@ use Rattle.html_tokenizer.proofs.Readings.{reading-is, reading-char_as, sum-zero
 use Rattle.html_tokenizer.proofs.Ends.{behind-one}
 use Rattle.html_tokenizer.proofs.Refused.{keeps_failed, reading-refused, noting-errs}
 use Rattle.html_tokenizer.proofs.Glue.{Says, at, took, took_faulty, keeps_silent, keeps_told, at_erred, failed}
+use Rattle.html_tokenizer.specs.Listeners.{listening}
 
 -- WHAT A CHARACTER OPENS
 
@@ -71,7 +72,7 @@ module _ {K H : Type 0} (Sink : Ghosts K H) (laws : SinkLaws Sink.is_sound Sink.
   -- a reading at "<", by the item that stands there
   pub opened : (old : Tokenizer K) (b : ℕ) (s : Sink.State × Notes ℕ) (t : List ℕ) (j : Item) → item (rows_of old) (Sink.asks_cdata s.0) (standing old InData) 60 t ≡ behind j
       → reads Sink (rows_of old) (standing old InData) b s (60 ∷ t) ≡ plays Sink (rows_of old) j b s t
-  opened old b s t j is = reading-is (noting Sink.step Sink.is_quiet) noting_error (noting_cdata Sink.asks_cdata) (noting_end Sink.ended) (rows_of old) (standing old InData) b s 60 t j is ∙ ap (λ x. plays Sink (rows_of old) j x s t) (sum-zero b)
+  opened old b s t j is = reading-is (listening Sink) (rows_of old) (standing old InData) b s 60 t j is ∙ ap (λ x. plays Sink (rows_of old) j x s t) (sum-zero b)
 
   same-reading : (old : Tokenizer K) (b : ℕ) (s : Sink.State × Notes ℕ) (u : List ℕ) → reads Sink (rows_of old) (standing old InData) b s u ≡ reads Sink (rows_of old) (standing old InData) (b + 0) s u
   same-reading old b s u = ap (λ x. reads Sink (rows_of old) (standing old InData) x s u) (sym (sum-zero b))
@@ -125,7 +126,7 @@ module _ {K H : Type 0} (Sink : Ghosts K H) (laws : SinkLaws Sink.is_sound Sink.
   open-says : (old : Tokenizer K) (c : ℕ) → IsText (opening c) → Says Sink state.TagOpen old c (owed_for (Some Slight)) (CharacterTokens (60 ∷ [])) (λ b s t. at Sink state.Data (record old { state = state.Data }) b s (c ∷ t))
   unfolding held_at
   open-says old c e b s h t =
-      reading-char_as (λ p. Sink.is_sound p.0) (noting Sink.step Sink.is_quiet) noting_error (noting_cdata Sink.asks_cdata) (noting_end Sink.ended) (rows_of old) (noting-lawful Sink.is_sound Sink.step Sink.ended Sink.is_quiet laws) (Some Slight) (standing old InData) (standing old InData) b s h 60 60 (c ∷ t) (line_number b) (open-text (opening c) (Sink.asks_cdata s.0) (standing old InData) c t e)
+      reading-char_as (λ p. Sink.is_sound p.0) (listening Sink) (rows_of old) (noting-lawful Sink.is_sound Sink.step Sink.ended Sink.is_quiet laws) (Some Slight) (standing old InData) (standing old InData) b s h 60 60 (c ∷ t) (line_number b) (open-text (opening c) (Sink.asks_cdata s.0) (standing old InData) c t e)
       ∙ ap (λ x. noting Sink.step Sink.is_quiet (noting_error Slight s) (CharacterTokens (60 ∷ [])) (line_number b) >>= λ p. reads Sink (rows_of old) (standing old InData) x p.0 (c ∷ t)) (sum-zero b)
 
   pub is-text : (c : ℕ) → is_ascii_alphabetic c ≡ false → nat_eq c 47 ≡ false → nat_eq c 33 ≡ false → nat_eq c 63 ≡ false → IsText (opening c)
@@ -157,4 +158,4 @@ module _ {K H : Type 0} (Sink : Ghosts K H) (laws : SinkLaws Sink.is_sound Sink.
       → FallsAll Sink old.sink new.sink fault → Keeps Sink old new c result
   unfolding held_at
   end-failed old new c result fault from is fails = keeps_failed Sink old new c state.EndTagOpen result fault from is fails
-      (λ b s h t. reading-refused (noting Sink.step Sink.is_quiet) noting_error (noting_cdata Sink.asks_cdata) (noting_end Sink.ended) (rows_of old) (noting-errs Sink) s h 0 (standing old InData) b (60 ∷ 47 ∷ c ∷ t))
+      (λ b s h t. reading-refused (listening Sink) (rows_of old) (noting-errs Sink) s h 0 (standing old InData) b (60 ∷ 47 ∷ c ∷ t))

@@ -27,6 +27,7 @@ use Rattle.html_tokenizer.specs.Rest.{rows_of, standing, fault_behind, pending, 
 use Rattle.html_tokenizer.specs.Steps.{and_more}
 use Rattle.html_tokenizer.proofs.Readings.{sum-zero}
 use Rattle.html_tokenizer.proofs.Rises.{more-sum}
+use Rattle.html_tokenizer.specs.Listeners.{noting_listener, told_text, told_item}
 
 more-suc : (k n : ℕ) → and_more k (suc n) ≡ suc (and_more k n)
 more-suc k n =
@@ -73,22 +74,22 @@ module _ {S : Type 0} (step : Step S) (quiet : S → Token → Bool) (cdata : S 
     reading-errors (suc n) st b s notes other (c ∷ t) h = reading-errors n st b s notes other t h
 
     pub play-errors : (i : Item) (b : ℕ) (s : S) (notes other : Notes ℕ) (t : List ℕ) → HasMore notes other
-        → OwesMore (play (noting step quiet) noting_error (noting_cdata cdata) (noting_end ends) rows i b (s, notes) t) (play (noting step quiet) noting_error (noting_cdata cdata) (noting_end ends) rows i b (s, other) t)
+        → OwesMore (told_item (noting_listener step quiet cdata ends) rows i b (s, notes) t) (told_item (noting_listener step quiet cdata ends) rows i b (s, other) t)
     play-errors i b s notes other t h =
         let read = b + line_breaks (take i.len t) in
-        said-errors i.fault i.token read s notes other (λ p. reading (noting step quiet) noting_error (noting_cdata cdata) (noting_end ends) rows (next_stand i.next p.1) read p.0 (drop i.len t)) h
+        said-errors i.fault i.token read s notes other (λ p. told_text (noting_listener step quiet cdata ends) rows (next_stand i.next p.1) read p.0 (drop i.len t)) h
         (λ p notes other h. reading-errors 0 (next_stand i.next p.1) read p.0 notes other (drop i.len t) h)
 
   -- the same of a reading behind something slight
   pub slight-errors : (odd : Bool) (rows : List Row) (st : Stand) (b : ℕ) (s : S) (notes other : Notes ℕ) (t : List ℕ) → HasMore notes other
-      → OwesMore (reading (noting step quiet) noting_error (noting_cdata cdata) (noting_end ends) rows st b (erred_by noting_error (slight_if odd) (s, notes)) t) (reading (noting step quiet) noting_error (noting_cdata cdata) (noting_end ends) rows st b (erred_by noting_error (slight_if odd) (s, other)) t)
+      → OwesMore (told_text (noting_listener step quiet cdata ends) rows st b (erred_by noting_error (slight_if odd) (s, notes)) t) (told_text (noting_listener step quiet cdata ends) rows st b (erred_by noting_error (slight_if odd) (s, other)) t)
   slight-errors true rows st b s notes other t h = reading-errors rows 0 st b s _ _ t h
   slight-errors false rows st b s notes other t h = reading-errors rows 0 st b s notes other t h
 
 module _ {K S : Type 0} (step : Step S) (quiet : S → Token → Bool) (cdata : S → Bool) (ends : S → S) (more_owed : ℕ) where
   -- the same of what is held
   pub held-errors : (st : State) (k : Tokenizer K) (b : ℕ) (s : S) (notes other : Notes ℕ) (t : List ℕ) → HasMore step quiet cdata ends more_owed notes other
-      → OwesMore step quiet cdata ends more_owed (held_at (noting step quiet) noting_error (noting_cdata cdata) (noting_end ends) st k b (s, notes) t) (held_at (noting step quiet) noting_error (noting_cdata cdata) (noting_end ends) st k b (s, other) t)
+      → OwesMore step quiet cdata ends more_owed (held_at (noting_listener step quiet cdata ends) st k b (s, notes) t) (held_at (noting_listener step quiet cdata ends) st k b (s, other) t)
   unfolding held_at
   held-errors state.Data k b s notes other t h = reading-errors step quiet cdata ends more_owed (rows_of k) 0 _ b s notes other _ h
   held-errors state.Plaintext k b s notes other t h = reading-errors step quiet cdata ends more_owed (rows_of k) 0 _ b s notes other _ h
@@ -152,7 +153,7 @@ module _ {K S : Type 0} (step : Step S) (quiet : S → Token → Bool) (cdata : 
 
   -- the same where an unknown name may stand before
   held_behind-errors : (behind : Option Ampersand) (st : State) (k : Tokenizer K) (b : ℕ) (s : S) (notes other : Notes ℕ) (t : List ℕ) → HasMore step quiet cdata ends more_owed notes other
-      → OwesMore step quiet cdata ends more_owed (held_at (noting step quiet) noting_error (noting_cdata cdata) (noting_end ends) st k b (erred_by noting_error (fault_behind behind) (s, notes)) t) (held_at (noting step quiet) noting_error (noting_cdata cdata) (noting_end ends) st k b (erred_by noting_error (fault_behind behind) (s, other)) t)
+      → OwesMore step quiet cdata ends more_owed (held_at (noting_listener step quiet cdata ends) st k b (erred_by noting_error (fault_behind behind) (s, notes)) t) (held_at (noting_listener step quiet cdata ends) st k b (erred_by noting_error (fault_behind behind) (s, other)) t)
   held_behind-errors None st k b s notes other t h = held-errors st k b s notes other t h
   held_behind-errors (Some (Held cs)) st k b s notes other t h = held-errors st k b s notes other t h
   held_behind-errors (Some Unknown) st k b s notes other t h = held-errors st k b s _ _ t h

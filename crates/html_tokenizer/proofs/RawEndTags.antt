@@ -30,6 +30,7 @@ use Rattle.html_tokenizer.proofs.Telling.{keeps_taken, keeps_then, not-told_from
 use Rattle.html_tokenizer_parts.proofs.RawKinds.{and-none, letter-no_open, letter-no_reference, letter-no_null, letter-no_break, letter-no_slash, kind-same, kind-open, kind-slash, fitting-slash}
 use Rattle.html_tokenizer.proofs.RawStates.{raw_text, plain-item, open-item, held-open}
 use Rattle.html_tokenizer.proofs.ScriptStates.{char-says, kind-says}
+use Rattle.html_tokenizer.specs.Listeners.{listening}
 
 module _ {K H : Type 0} (Sink : Ghosts K H) (laws : SinkLaws Sink.is_sound Sink.step Sink.ended Sink.is_quiet) where
   -- "<" and then another character are told, and the text has this kind behind them
@@ -37,7 +38,7 @@ module _ {K H : Type 0} (Sink : Ghosts K H) (laws : SinkLaws Sink.is_sound Sink.
       → raw_text Sink old kind b s (60 ∷ c ∷ t) ≡ (noting Sink.step Sink.is_quiet s (CharacterTokens (60 ∷ c ∷ [])) (line_number b) >>= λ p. raw_text Sink old (kind_after kind (60 ∷ c ∷ []) t) b p.0 t)
   two-says old kind b s h c t e f z n fits =
       let mid = kind_behind kind 60 (c ∷ t) in
-      reading-two (λ p. Sink.is_sound p.0) (noting Sink.step Sink.is_quiet) noting_error (noting_cdata Sink.asks_cdata) (noting_end Sink.ended) (rows_of old) (noting-lawful Sink.is_sound Sink.step Sink.ended Sink.is_quiet laws) (standing old (InRaw kind)) (standing old (InRaw mid)) (standing old (InRaw (kind_behind mid c t))) b s h 60 c t (line_number b) refl n
+      reading-two (λ p. Sink.is_sound p.0) (listening Sink) (rows_of old) (noting-lawful Sink.is_sound Sink.step Sink.ended Sink.is_quiet laws) (standing old (InRaw kind)) (standing old (InRaw mid)) (standing old (InRaw (kind_behind mid c t))) b s h 60 c t (line_number b) refl n
       (λ x. open-item old kind x (c ∷ t) fits) (λ x. plain-item old mid x c t e f z)
 
   pub fits-none : (k : Tokenizer K) (kind : RawKind) (t : List ℕ) → is_fitting_end k.raw_end.name t ≡ false → (ends_at_tag kind && is_fitting_end k.raw_end.name t) ≡ false
@@ -54,7 +55,7 @@ module _ {K H : Type 0} (Sink : Ghosts K H) (laws : SinkLaws Sink.is_sound Sink.
   unfolding held_at
   less-says old kind c e p f b s h t =
       held-open Sink old kind b s (c ∷ t) e
-      ∙ reading-text (λ p. Sink.is_sound p.0) (noting Sink.step Sink.is_quiet) noting_error (noting_cdata Sink.asks_cdata) (noting_end Sink.ended) (rows_of old) (noting-lawful Sink.is_sound Sink.step Sink.ended Sink.is_quiet laws) (standing old (InRaw kind)) (standing old (InRaw (kind_behind kind 60 (c ∷ t)))) b s h 60 (c ∷ t) (line_number b) refl (open-item old kind (Sink.asks_cdata s.0) (c ∷ t) (fits-none old kind (c ∷ t) (fitting-slash old.raw_end.name c t f)))
+      ∙ reading-text (λ p. Sink.is_sound p.0) (listening Sink) (rows_of old) (noting-lawful Sink.is_sound Sink.step Sink.ended Sink.is_quiet laws) (standing old (InRaw kind)) (standing old (InRaw (kind_behind kind 60 (c ∷ t)))) b s h 60 (c ∷ t) (line_number b) refl (open-item old kind (Sink.asks_cdata s.0) (c ∷ t) (fits-none old kind (c ∷ t) (fitting-slash old.raw_end.name c t f)))
       ∙ ap (λ k. noting Sink.step Sink.is_quiet s (CharacterTokens (60 ∷ [])) (line_number b) >>= λ p. raw_text Sink old k b p.0 (c ∷ t)) (kind-open kind c t p)
 
   pub less-kept : (old mid new : Tokenizer K) (kind : RawKind) (c : ℕ) (result : Result (ProcessResult H) ParseFault) → IsAt old (state.RawLessThanSign kind) → Sink.is_sound (Sink.view old.sink) → ends_at_tag kind ≡ true → may_escape kind c ≡ false → (c ≡ 47 → ⊥)

@@ -31,6 +31,7 @@ use Rattle.html_tokenizer_parts.proofs.Words.{and_parts}
 use Rattle.html_tokenizer_parts.proofs.RawKinds.{letter-no_open, letter-no_reference, letter-no_dash, letter-no_null, letter-no_break, kind-same, kind_after-letters, kind-open_slash, double_escaped}
 use Rattle.html_tokenizer.proofs.RawStates.{raw_text, plain-item}
 use Rattle.html_tokenizer.proofs.RawEndTags.{two-says, fits-none}
+use Rattle.html_tokenizer.specs.Listeners.{listening}
 
 module _ {K H : Type 0} (Sink : Ghosts K H) (laws : SinkLaws Sink.is_sound Sink.step Sink.ended Sink.is_quiet) where
   letter-item : (old : Tokenizer K) (kind : RawKind) (x : Bool) (c : ℕ) (t : List ℕ) → is_ascii_alphabetic c ≡ true → item (rows_of old) x (standing old (InRaw kind)) c t ≡ character c (standing old (InRaw kind))
@@ -45,7 +46,7 @@ module _ {K H : Type 0} (Sink : Ghosts K H) (laws : SinkLaws Sink.is_sound Sink.
   run-letters old kind a (c ∷ word) b s h t l w =
       let p = and_parts _ _ w in
       let here = standing old (InRaw kind) in
-      told-more (λ p. Sink.is_sound p.0) (noting Sink.step Sink.is_quiet) noting_error (noting_cdata Sink.asks_cdata) (noting_end Sink.ended) (rows_of old) (noting-lawful Sink.is_sound Sink.step Sink.ended Sink.is_quiet laws) here here b s h a c (word ++ t) l (λ s h. reading-text (λ p. Sink.is_sound p.0) (noting Sink.step Sink.is_quiet) noting_error (noting_cdata Sink.asks_cdata) (noting_end Sink.ended) (rows_of old) (noting-lawful Sink.is_sound Sink.step Sink.ended Sink.is_quiet laws) here here b s h c (word ++ t) l (letter-no_break c p.0) (letter-item old kind (Sink.asks_cdata s.0) c (word ++ t) p.0))
+      told-more (λ p. Sink.is_sound p.0) (listening Sink) (rows_of old) (noting-lawful Sink.is_sound Sink.step Sink.ended Sink.is_quiet laws) here here b s h a c (word ++ t) l (λ s h. reading-text (λ p. Sink.is_sound p.0) (listening Sink) (rows_of old) (noting-lawful Sink.is_sound Sink.step Sink.ended Sink.is_quiet laws) here here b s h c (word ++ t) l (letter-no_break c p.0) (letter-item old kind (Sink.asks_cdata s.0) c (word ++ t) p.0))
       ∙ run-letters old kind (a ++ c ∷ []) word b s h t l p.1
       ∙ ap (λ u. noting Sink.step Sink.is_quiet s (CharacterTokens u) l >>= λ p. raw_text Sink old kind b p.0 t) (append_assoc a (c ∷ []) word)
 

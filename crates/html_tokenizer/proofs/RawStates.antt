@@ -30,6 +30,7 @@ use Rattle.html_tokenizer.proofs.Glue.{Says, took, at}
 use Rattle.html_tokenizer.proofs.Telling.{keeps_taken, took_reference}
 use Rattle.html_tokenizer.proofs.ShownTexts.{reading-shown}
 use Rattle.html_tokenizer_parts.proofs.RawKinds.{kind-same, kind-dash, double_escaped}
+use Rattle.html_tokenizer.specs.Listeners.{listening}
 
 -- a character of raw text that begins no end tag and no reference
 pub raw-item : {K : Type 0} (k : Tokenizer K) (kind : RawKind) (x : Bool) (c : ℕ) (t : List ℕ) → (nat_eq c 60 && ends_at_tag kind && is_fitting_end k.raw_end.name t) ≡ false → (nat_eq c 38 && has_references kind) ≡ false
@@ -75,7 +76,7 @@ module _ {K H : Type 0} (Sink : Ghosts K H) (laws : SinkLaws Sink.is_sound Sink.
   -- a character that is told, by the kind that the text has there
   pub raw-char : (old : Tokenizer K) (kind : RawKind) (b : ℕ) (s : Sink.State × Notes ℕ) → Sink.is_sound s.0 → (c : ℕ) (t : List ℕ) → nat_eq c 60 ≡ false → nat_eq c 38 ≡ false → nat_eq c 0 ≡ false
       → raw_text Sink old kind b s (c ∷ t) ≡ (noting Sink.step Sink.is_quiet s (CharacterTokens (c ∷ [])) (line_number b) >>= λ p. raw_text Sink old (kind_behind kind c t) (b + line_break (nat_eq c 10)) p.0 t)
-  raw-char old kind b s h c t e f z = reading-char (λ p. Sink.is_sound p.0) (noting Sink.step Sink.is_quiet) noting_error (noting_cdata Sink.asks_cdata) (noting_end Sink.ended) (rows_of old) (noting-lawful Sink.is_sound Sink.step Sink.ended Sink.is_quiet laws) (standing old (InRaw kind)) (standing old (InRaw (kind_behind kind c t))) b s h c c t (line_number b) (plain-item old kind (Sink.asks_cdata s.0) c t e f z)
+  raw-char old kind b s h c t e f z = reading-char (λ p. Sink.is_sound p.0) (listening Sink) (rows_of old) (noting-lawful Sink.is_sound Sink.step Sink.ended Sink.is_quiet laws) (standing old (InRaw kind)) (standing old (InRaw (kind_behind kind c t))) b s h c c t (line_number b) (plain-item old kind (Sink.asks_cdata s.0) c t e f z)
 
   pub shown-says : (old : Tokenizer K) (kind : RawKind) (c : ℕ) → nat_eq c 60 ≡ false → nat_eq c 38 ≡ false → nat_eq c 45 ≡ false → Says Sink (state.RawData kind) old c (owed_for (grave_if (nat_eq c 0))) (CharacterTokens (shown c ∷ [])) (λ b s t. at Sink (state.RawData kind) old (b + line_break (nat_eq c 10)) s t)
   unfolding held_at
@@ -98,7 +99,7 @@ module _ {K H : Type 0} (Sink : Ghosts K H) (laws : SinkLaws Sink.is_sound Sink.
   unfolding held_at
   open-says old b s h t =
       let kind = raw.ScriptDataEscaped script.DoubleEscaped in
-      reading-char (λ p. Sink.is_sound p.0) (noting Sink.step Sink.is_quiet) noting_error (noting_cdata Sink.asks_cdata) (noting_end Sink.ended) (rows_of old) (noting-lawful Sink.is_sound Sink.step Sink.ended Sink.is_quiet laws) (standing old (InRaw kind)) (standing old (InRaw (kind_behind kind 60 t))) b s h 60 60 t (line_number b) refl
+      reading-char (λ p. Sink.is_sound p.0) (listening Sink) (rows_of old) (noting-lawful Sink.is_sound Sink.step Sink.ended Sink.is_quiet laws) (standing old (InRaw kind)) (standing old (InRaw (kind_behind kind 60 t))) b s h 60 60 t (line_number b) refl
 
   pub raw-open_told : (old new : Tokenizer K) (kind : RawKind) (result : Result (ProcessResult H) ParseFault) → IsAt old (state.RawData kind) → Sink.is_sound (Sink.view old.sink) → ends_at_tag kind ≡ false → TakesAs Sink nothing_owed (CharacterTokens (60 ∷ [])) (record old { state = state.RawLessThanSign kind }) new result → Keeps Sink old new 60 result
   raw-open_told old new kind result from ok e told =
@@ -114,7 +115,7 @@ module _ {K H : Type 0} (Sink : Ghosts K H) (laws : SinkLaws Sink.is_sound Sink.
   amp-says : (old : Tokenizer K) (kind : RawKind) → has_references kind ≡ false → Says Sink (state.RawData kind) old 38 nothing_owed (CharacterTokens (38 ∷ [])) (λ b s t. at Sink (state.RawData kind) old (b + line_break (nat_eq 38 10)) s t)
   unfolding held_at
   amp-says old kind e b s h t =
-      reading-char (λ p. Sink.is_sound p.0) (noting Sink.step Sink.is_quiet) noting_error (noting_cdata Sink.asks_cdata) (noting_end Sink.ended) (rows_of old) (noting-lawful Sink.is_sound Sink.step Sink.ended Sink.is_quiet laws) (standing old (InRaw kind)) (standing old (InRaw kind)) b s h 38 38 t (line_number b)
+      reading-char (λ p. Sink.is_sound p.0) (listening Sink) (rows_of old) (noting-lawful Sink.is_sound Sink.step Sink.ended Sink.is_quiet laws) (standing old (InRaw kind)) (standing old (InRaw kind)) b s h 38 38 t (line_number b)
       (raw-item old kind (Sink.asks_cdata s.0) 38 t refl e ∙ ap (λ kind. character 38 (standing old (InRaw kind))) (kind-same kind 38 t refl refl))
 
   pub raw-amp_told : (old new : Tokenizer K) (kind : RawKind) (result : Result (ProcessResult H) ParseFault) → IsAt old (state.RawData kind) → Sink.is_sound (Sink.view old.sink) → has_references kind ≡ false → TakesAs Sink nothing_owed (CharacterTokens (38 ∷ [])) old new result → Keeps Sink old new 38 result

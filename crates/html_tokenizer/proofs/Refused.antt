@@ -20,27 +20,28 @@ use Rattle.html_tokens.specs.Table.{Row}
 use Rattle.html_tokenizer.specs.declared.tokenizer.Tokenizer.{Tokenizer}
 use Rattle.html_tokenizer.specs.Steps.{IsAt, Fails, FallsAll, Keeps}
 use Rattle.html_tokenizer.proofs.Glue.{at, now-at, fails-along, bind-err, noted-err, err-noted}
+use Rattle.html_tokenizer.specs.Listeners.{Listener}
 
 module _ {T : Type 0} (step : NotedStep T) where
   abbrev pub AllRefused : T → Type 0
   AllRefused s = (token : Token) (line : ℕ) → IsErr (step s token line)
 
-module _ {T : Type 0} (step : NotedStep T) (erred : Fault → T → T) (cdata : T → Bool) (ends : T → T) (rows : List Row) (errs : (fault : Fault) (s : T) → AllRefused step s → AllRefused step (erred fault s)) where
-  pub erred-refused : (fault : Option Fault) (s : T) → AllRefused step s → AllRefused step (erred_by erred fault s)
+module _ {T : Type 0} (to : Listener T) (rows : List Row) (errs : (fault : Fault) (s : T) → AllRefused to.step s → AllRefused to.step (to.erred fault s)) where
+  pub erred-refused : (fault : Option Fault) (s : T) → AllRefused to.step s → AllRefused to.step (erred_by to.erred fault s)
   erred-refused None s h = h
   erred-refused (Some fault) s h = errs fault s h
 
-  pub said-refused : (fault : Option Fault) (s : T) → AllRefused step s → (token : Option Token) (b : ℕ) (next : T × Reply → Result T (Refusal × ℕ)) → ((q : T) → AllRefused step q → (reply : Reply) → IsErr (next (q, reply))) → IsErr (said step erred fault token b s >>= next)
-  said-refused fault s h None b next k = k (erred_by erred fault s) (erred-refused fault s h) Continue
+  pub said-refused : (fault : Option Fault) (s : T) → AllRefused to.step s → (token : Option Token) (b : ℕ) (next : T × Reply → Result T (Refusal × ℕ)) → ((q : T) → AllRefused to.step q → (reply : Reply) → IsErr (next (q, reply))) → IsErr (said to.step to.erred fault token b s >>= next)
+  said-refused fault s h None b next k = k (erred_by to.erred fault s) (erred-refused fault s h) Continue
   said-refused fault s h (Some token) b next k = bind-err _ next (erred-refused fault s h token _)
 
-  pub reading-refused : (s : T) → AllRefused step s → (n : ℕ) (st : Stand) (b : ℕ) (t : List ℕ) → IsErr (reading_from step erred cdata ends rows n st b s t)
+  pub reading-refused : (s : T) → AllRefused to.step s → (n : ℕ) (st : Stand) (b : ℕ) (t : List ℕ) → IsErr (reading_from to.step to.erred to.cdata to.ends rows n st b s t)
   unfolding reading_from
   reading-refused s h n st b [] = bind-err _ _ (erred-refused (fault_at_end st.place) s h EOFToken _)
   reading-refused s h zero st b (c ∷ t) =
-      let i = item rows (cdata s) st c t in
+      let i = item rows (to.cdata s) st c t in
       let read = b + line_breaks (take i.len (c ∷ t)) in
-      said-refused i.fault s h i.token read (λ p. reading_from step erred cdata ends rows (i.len - 1) (next_stand i.next p.1) read p.0 t) (λ q g reply. reading-refused q g (i.len - 1) (next_stand i.next reply) read t)
+      said-refused i.fault s h i.token read (λ p. reading_from to.step to.erred to.cdata to.ends rows (i.len - 1) (next_stand i.next p.1) read p.0 t) (λ q g reply. reading-refused q g (i.len - 1) (next_stand i.next reply) read t)
   reading-refused s h (suc n) st b (c ∷ t) = reading-refused s h n st b t
 
 module _ {K H : Type 0} (Sink : Ghosts K H) where

@@ -21,6 +21,7 @@ use Rattle.html_tokenizer.proofs.Glue.{took, took_tag, took_odd, keeps_odd, keep
 use Rattle.html_tokenizer.proofs.TagGlue.{took_here, absorbs_odd}
 use Rattle.html_tokenizer.proofs.Lawful.{slight-absorbed}
 use Rattle.html_tokenizer.proofs.TagReadings.{name-more, name-end, tag-space, tag-slash, tag-end, tag-slash_end}
+use Rattle.html_tokenizer.specs.Listeners.{listening}
 
 ends-space : (c : ℕ) → is_white_space c ≡ true → ends_tag_name c ≡ true
 ends-space c e = rw e refl
@@ -42,23 +43,23 @@ module _ {K H : Type 0} (Sink : Ghosts K H) where
   unfolding held_at
   tag_name-space old c from ok e =
       took Sink old (record old { state = state.BeforeAttributeName }) c state.TagName state.BeforeAttributeName from (record { state = refl; fresh = from.fresh }) refl refl ok
-      (λ b s t. name-end (noting Sink.step Sink.is_quiet) noting_error (noting_cdata Sink.asks_cdata) (noting_end Sink.ended) (rows_of old) (standing old InData) old.tag b s c t (ends-space c e)
-      ∙ tag-space (noting Sink.step Sink.is_quiet) noting_error (noting_cdata Sink.asks_cdata) (noting_end Sink.ended) (rows_of old) (standing old InData) old.tag b s c t e)
+      (λ b s t. name-end (listening Sink) (rows_of old) (standing old InData) old.tag b s c t (ends-space c e)
+      ∙ tag-space (listening Sink) (rows_of old) (standing old InData) old.tag b s c t e)
 
   pub tag_name-slash : (old : Tokenizer K) (c : ℕ) → IsAt old state.TagName → Sink.is_sound (Sink.view old.sink) → c ≡ 47
       → Took Sink old (record old { state = state.SelfClosingStartTag }) c flow.Continue
   unfolding held_at
   tag_name-slash old c from ok e = rw e (
       took_here Sink old (record old { state = state.SelfClosingStartTag }) 47 state.TagName state.SelfClosingStartTag from (record { state = refl; fresh = from.fresh }) refl refl ok refl
-      (λ b s t. name-end (noting Sink.step Sink.is_quiet) noting_error (noting_cdata Sink.asks_cdata) (noting_end Sink.ended) (rows_of old) (standing old InData) old.tag b s 47 t refl))
+      (λ b s t. name-end (listening Sink) (rows_of old) (standing old InData) old.tag b s 47 t refl))
 
   pub tag_name-close : (old new : Tokenizer K) (c : ℕ) (result : Result (ProcessResult H) ParseFault) → IsAt old state.TagName → Sink.is_sound (Sink.view old.sink) → c ≡ 62
       → EndsTag Sink old new result → Keeps Sink old new c result
   unfolding held_at
   tag_name-close old new c result from ok e h = rw e (
       took_tag Sink old new 62 state.TagName result from refl h
-      (λ b s x t. name-end (noting Sink.step Sink.is_quiet) noting_error (noting_cdata Sink.asks_cdata) (noting_end Sink.ended) (rows_of old) (standing old InData) old.tag b s 62 t refl
-      ∙ tag-end (noting Sink.step Sink.is_quiet) noting_error (noting_cdata Sink.asks_cdata) (noting_end Sink.ended) (rows_of old) (standing old InData) old.tag b s t
+      (λ b s x t. name-end (listening Sink) (rows_of old) (standing old InData) old.tag b s 62 t refl
+      ∙ tag-end (listening Sink) (rows_of old) (standing old InData) old.tag b s t
       ∙ noted-tag Sink old old.tag (behind_tag (standing old InData) old.tag) b s t) ok)
 
   pub tag_name-more : (old : Tokenizer K) (c : ℕ) (name : List ℕ) → IsAt old state.TagName → Sink.is_sound (Sink.view old.sink) → is_white_space c ≡ false → c ≢ 47 → c ≢ 62 → name ≡ old.tag.name ++ lowered c ∷ []
@@ -66,7 +67,7 @@ module _ {K H : Type 0} (Sink : Ghosts K H) where
   unfolding held_at
   tag_name-more old c name from ok e f g is = rw is (
       took_odd Sink (is_null c) old (record old { tag = record old.tag { name = old.tag.name ++ lowered c ∷ [] } }) c state.TagName state.TagName from (record { state = from.state; fresh = from.fresh }) refl refl ok
-      (λ b s t. name-more (noting Sink.step Sink.is_quiet) noting_error (noting_cdata Sink.asks_cdata) (noting_end Sink.ended) (rows_of old) slight-absorbed (standing old InData) old.tag b s c t (ends-none c e f g)))
+      (λ b s t. name-more (listening Sink) (rows_of old) slight-absorbed (standing old InData) old.tag b s c t (ends-none c e f g)))
 
   pub slash-close : (old new : Tokenizer K) (c : ℕ) (result : Result (ProcessResult H) ParseFault) → IsAt old state.SelfClosingStartTag → Sink.is_sound (Sink.view old.sink) → c ≡ 62
       → EndsTag Sink (record old { tag = record old.tag { self_closing = true } }) new result → Keeps Sink old new c result
@@ -74,7 +75,7 @@ module _ {K H : Type 0} (Sink : Ghosts K H) where
   slash-close old new c result from ok e h =
       let closed = record old { tag = record old.tag { self_closing = true } } in
       let at_closed : IsAt closed state.SelfClosingStartTag = record { state = from.state; fresh = from.fresh } in
-      let law = λ (k : Tokenizer K) (b : ℕ) (s : Sink.State × Notes ℕ) (t : List ℕ). tag-slash_end (noting Sink.step Sink.is_quiet) noting_error (noting_cdata Sink.asks_cdata) (noting_end Sink.ended) (rows_of k) (standing k InData) k.tag b s t in
+      let law = λ (k : Tokenizer K) (b : ℕ) (s : Sink.State × Notes ℕ) (t : List ℕ). tag-slash_end (listening Sink) (rows_of k) (standing k InData) k.tag b s t in
       rw e (
       keeps_silent Sink old closed new 62 state.SelfClosingStartTag state.SelfClosingStartTag result from at_closed refl refl (λ b s t. law old b s t ∙ sym (law closed b s t))
       (took_tag Sink closed new 62 state.SelfClosingStartTag result at_closed refl h (λ b s x t. law closed b s t ∙ noted-tag Sink closed closed.tag (behind_tag (standing closed InData) closed.tag) b s t) ok))
@@ -84,7 +85,7 @@ module _ {K H : Type 0} (Sink : Ghosts K H) where
   unfolding held_at
   slash-other old new c result from ne h =
       keeps_odd Sink true old (record old { state = state.BeforeAttributeName }) new c state.SelfClosingStartTag state.BeforeAttributeName result from (record { state = refl; fresh = from.fresh }) refl refl
-      (λ b s t. tag-slash (noting Sink.step Sink.is_quiet) noting_error (noting_cdata Sink.asks_cdata) (noting_end Sink.ended) (rows_of old) slight-absorbed (standing old InData) old.tag b s c t (ne_eqb 62 c (λ e. ne (sym e)))) h
+      (λ b s t. tag-slash (listening Sink) (rows_of old) slight-absorbed (standing old InData) old.tag b s c t (ne_eqb 62 c (λ e. ne (sym e)))) h
 
   -- U+0000 in a tag's name is odd
   pub tag_name-absorbs : (old : Tokenizer K) (c : ℕ) → IsAt old state.TagName → is_null c ≡ true → Absorbs Sink old c
@@ -93,7 +94,7 @@ module _ {K H : Type 0} (Sink : Ghosts K H) where
       let tag = record old.tag { name = old.tag.name ++ lowered c ∷ [] } in
       absorbs_odd Sink old c state.TagName (is_null c)
       (λ b s t. plays Sink (rows_of old) (name_after (standing old InData) tag t) (b + line_break (nat_eq c 10)) s t) from e
-      (λ b s t. name-more (noting Sink.step Sink.is_quiet) noting_error (noting_cdata Sink.asks_cdata) (noting_end Sink.ended) (rows_of old) slight-absorbed (standing old InData) old.tag b s c t (null-none c e))
+      (λ b s t. name-more (listening Sink) (rows_of old) slight-absorbed (standing old InData) old.tag b s c t (null-none c e))
 
   -- so is what stands behind "/" in a tag, where it is not its end
   pub slash-absorbs : (old : Tokenizer K) (c : ℕ) → IsAt old state.SelfClosingStartTag → not (nat_eq c 62) ≡ true → Absorbs Sink old c
@@ -101,4 +102,4 @@ module _ {K H : Type 0} (Sink : Ghosts K H) where
   slash-absorbs old c from ne =
       absorbs_odd Sink old c state.SelfClosingStartTag true
       (λ b s t. reads Sink (rows_of old) (moved (standing old InData) (InTag old.tag)) b s (c ∷ t)) from refl
-      (λ b s t. tag-slash (noting Sink.step Sink.is_quiet) noting_error (noting_cdata Sink.asks_cdata) (noting_end Sink.ended) (rows_of old) slight-absorbed (standing old InData) old.tag b s c t (not-close c ne))
+      (λ b s t. tag-slash (listening Sink) (rows_of old) slight-absorbed (standing old InData) old.tag b s c t (not-close c ne))

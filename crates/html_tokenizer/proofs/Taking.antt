@@ -22,6 +22,7 @@ use Rattle.html_tokenizer.proofs.HeldRefused.{now-refused}
 use Rattle.html_tokenizer.proofs.Lines.{held-lines, lines-capped}
 use Rattle.html_tokenizer.proofs.Readings.{sum-zero}
 use Rattle.html_tokenizer.proofs.Refused.{every-fails}
+use Rattle.html_tokenizer.specs.Listeners.{listening}
 
 module _ {K H : Type 0} (Sink : Ghosts K H) where
   -- The machine with what it held is the machine.
@@ -30,7 +31,7 @@ module _ {K H : Type 0} (Sink : Ghosts K H) where
 
   counted-by : (k : Tokenizer K) (b : ℕ) (s : Sink.State × Notes ℕ) (t : List ℕ) (breaks : Bool)
       → now Sink k (b + line_break breaks) s t ≡ now Sink k (if breaks then min (b + 1) 0xffff_ffff_ffff_ffff else b) s t
-  counted-by k b s t true = held-lines (noting Sink.step Sink.is_quiet) noting_error (noting_cdata Sink.asks_cdata) (noting_end Sink.ended) k.state k (b + 1) (min (b + 1) 0xffff_ffff_ffff_ffff) (erred_by noting_error (fault_behind k.char_ref) s) (pending k.char_ref ++ t) (lines-capped (b + 1))
+  counted-by k b s t true = held-lines (listening Sink) k.state k (b + 1) (min (b + 1) 0xffff_ffff_ffff_ffff) (erred_by noting_error (fault_behind k.char_ref) s) (pending k.char_ref ++ t) (lines-capped (b + 1))
   counted-by k b s t false = ap (λ n. now Sink k n s t) (sum-zero b)
 
   -- a pause is where it was, whatever is known of the input
@@ -47,7 +48,7 @@ module _ {K H : Type 0} (Sink : Ghosts K H) where
       let new : Tokenizer K = record mid { stream = record mid.stream { breaks = counted mid.stream.breaks c } } in
       h.same notes t
       ∙ counted-by mid old.stream.breaks (Sink.view mid.sink, noted_by Sink.number h.owed notes result) t (nat_eq c 10)
-      ∙ sym (held-other (noting Sink.step Sink.is_quiet) noting_error (noting_cdata Sink.asks_cdata) (noting_end Sink.ended) mid.state mid mid.sink new.stream (counted old.stream.breaks c) (erred_by noting_error (fault_behind mid.char_ref) (Sink.view mid.sink, noted_by Sink.number h.owed notes result)) (pending mid.char_ref ++ t) refl)
+      ∙ sym (held-other (listening Sink) mid.state mid mid.sink new.stream (counted old.stream.breaks c) (erred_by noting_error (fault_behind mid.char_ref) (Sink.view mid.sink, noted_by Sink.number h.owed notes result)) (pending mid.char_ref ++ t) refl)
       ∙ ap (λ x. now Sink new (counted x.breaks c) (Sink.view mid.sink, noted_by Sink.number h.owed notes result) t) (sym h.stream)
 
   -- what is to come is so too where an error of the character was told

@@ -18,6 +18,7 @@ use Rattle.html_tokenizer.specs.Rest.{fault_behind, pending, held_at, rows_of}
 use Rattle.html_tokenizer.specs.Steps.{Owed, IsAt, more, Falls, Told, TakesAs, Took, Keeps, now, nothing_owed}
 use Rattle.html_tokenizer.proofs.Rises.{rises-same}
 use Rattle.html_tokenizer.proofs.Glue.{at, now-at, Says, took_told, keeps_told, token-fails, stays-same, no-break}
+use Rattle.html_tokenizer.specs.Listeners.{listening}
 
 module _ {K H : Type 0} (Sink : Ghosts K H) where
   -- where only the state and what is held were set before a token was told
@@ -78,7 +79,7 @@ module _ {K H : Type 0} (Sink : Ghosts K H) where
 
   -- what is to come where a reference has begun
   begun : (k : Tokenizer K) (st : State) (b : ℕ) (s : Sink.State × Notes ℕ) (t : List ℕ) → k.state ≡ st → k.char_ref ≡ Some (Held []) → now Sink k b s t ≡ at Sink st k b s (38 ∷ t)
-  begun k st b s t e f = ap (λ r. held_at (noting Sink.step Sink.is_quiet) noting_error (noting_cdata Sink.asks_cdata) (noting_end Sink.ended) k.state k b (erred_by noting_error (fault_behind r) s) (pending r ++ t)) f ∙ ap (λ x. held_at (noting Sink.step Sink.is_quiet) noting_error (noting_cdata Sink.asks_cdata) (noting_end Sink.ended) x k b s (38 ∷ t)) e
+  begun k st b s t e f = ap (λ r. held_at (listening Sink) k.state k b (erred_by noting_error (fault_behind r) s) (pending r ++ t)) f ∙ ap (λ x. held_at (listening Sink) x k b s (38 ∷ t)) e
 
   -- A reference begins.
   pub took_reference : (old new : Tokenizer K) (c : ℕ) (st : State) → IsAt old st → may_hold st ≡ true → nat_eq c 10 ≡ false → new.state ≡ st → new.char_ref ≡ Some (Held []) → new.stream ≡ old.stream → new.sink ≡ old.sink → Sink.is_sound (Sink.view old.sink)

@@ -47,6 +47,7 @@ use Rattle.html_tokenizer.proofs.Runs.{reading-text, told-more}
 use Rattle.html_tokenizer.proofs.RunStops.{run-at}
 use Rattle.html_tokenizer.proofs.ShownTexts.{shown-itself}
 use Rattle.html_tokenizer_parts.proofs.Sets.{differs, not-member}
+use Rattle.html_tokenizer.specs.Listeners.{Listener, listening, told_text}
 
 -- a character of an attribute's name that is no U+0000
 pub lowered-same : (c : ℕ) → nat_eq c 0 ≡ false → lowered c ≡ to_ascii_lowercase c
@@ -60,25 +61,25 @@ name-goes_on c lacks =
 
 -- READINGS
 
-module _ {T : Type 0} (sound : T → Type 0) (step : NotedStep T) (erred : Fault → T → T) (cdata : T → Bool) (ends : T → T) (rows : List Row) (laws : Lawful sound step) where
+module _ {T : Type 0} (sound : T → Type 0) (to : Listener T) (rows : List Row) (laws : Lawful sound to.step) where
   -- Each character that is not in a set, which has the line feed, is read as itself.
   module _ (bits : ℕ) (unbroken : has bits 10 ≡ true) (st : Stand) (plain : (c : ℕ) → has bits c ≡ false → (x : Bool) (t : List ℕ) → item rows x st c t ≡ character c st) where
     one-told : (b : ℕ) (s : T) → sound s → (c : ℕ) (t : List ℕ) (l : ℕ) → has bits c ≡ false
-        → reading step erred cdata ends rows st b s (c ∷ t) ≡ (step s (CharacterTokens (c ∷ [])) l >>= λ p. reading step erred cdata ends rows st b p.0 t)
-    one-told b s h c t l lacks = reading-text sound step erred cdata ends rows laws st st b s h c t l (not-member bits c 10 unbroken lacks) (plain c lacks (cdata s) t)
+        → told_text to rows st b s (c ∷ t) ≡ (to.step s (CharacterTokens (c ∷ [])) l >>= λ p. told_text to rows st b p.0 t)
+    one-told b s h c t l lacks = reading-text sound to rows laws st st b s h c t l (not-member bits c 10 unbroken lacks) (plain c lacks (to.cdata s) t)
 
     -- text, and then a run more of it
     run-more : (b : ℕ) (s : T) → sound s → (front run t : List ℕ) (l : ℕ) → All (λ c. has bits c ≡ false) run
-        → (step s (CharacterTokens front) l >>= λ p. reading step erred cdata ends rows st b p.0 (run ++ t)) ≡ (step s (CharacterTokens (front ++ run)) l >>= λ p. reading step erred cdata ends rows st b p.0 t)
-    run-more b s h front [] t l lacking = ap (λ a. step s (CharacterTokens a) l >>= λ p. reading step erred cdata ends rows st b p.0 t) (sym (append-nil front))
+        → (to.step s (CharacterTokens front) l >>= λ p. told_text to rows st b p.0 (run ++ t)) ≡ (to.step s (CharacterTokens (front ++ run)) l >>= λ p. told_text to rows st b p.0 t)
+    run-more b s h front [] t l lacking = ap (λ a. to.step s (CharacterTokens a) l >>= λ p. told_text to rows st b p.0 t) (sym (append-nil front))
     run-more b s h front (c ∷ run) t l lacking =
-        told-more sound step erred cdata ends rows laws st st b s h front c (run ++ t) l (λ s h. one-told b s h c (run ++ t) l (All-head (λ c. has bits c ≡ false) c run lacking))
+        told-more sound to rows laws st st b s h front c (run ++ t) l (λ s h. one-told b s h c (run ++ t) l (All-head (λ c. has bits c ≡ false) c run lacking))
         ∙ run-more b s h (front ++ c ∷ []) run t l (All-tail (λ c. has bits c ≡ false) c run lacking)
-        ∙ ap (λ a. step s (CharacterTokens a) l >>= λ p. reading step erred cdata ends rows st b p.0 t) (append_assoc front (c ∷ []) run)
+        ∙ ap (λ a. to.step s (CharacterTokens a) l >>= λ p. told_text to rows st b p.0 t) (append_assoc front (c ∷ []) run)
 
     -- a run is read as one text
     pub run-told : (b : ℕ) (s : T) → sound s → (run t : List ℕ) (l : ℕ) → 0 < length run → All (λ c. has bits c ≡ false) run
-        → reading step erred cdata ends rows st b s (run ++ t) ≡ (step s (CharacterTokens run) l >>= λ p. reading step erred cdata ends rows st b p.0 t)
+        → told_text to rows st b s (run ++ t) ≡ (to.step s (CharacterTokens run) l >>= λ p. told_text to rows st b p.0 t)
     run-told b s h [] t l filled lacking = absurd (omega arith)
     run-told b s h (c ∷ run) t l filled lacking =
         one-told b s h c (run ++ t) l (All-head (λ c. has bits c ≡ false) c run lacking)
@@ -342,7 +343,7 @@ module _ {K H : Type 0} (Sink : Ghosts K H) (laws : SinkLaws Sink.is_sound Sink.
       → (b : ℕ) (s : Sink.State × Notes ℕ) → Sink.is_sound s.0 → (t : List ℕ)
       → reads Sink (rows_of old) (standing old place) b s (run ++ t) ≡ (noting Sink.step Sink.is_quiet s (CharacterTokens run) (line_number b) >>= λ p. reads Sink (rows_of old) (standing old place) b p.0 t)
   place-says old place bits run unbroken filled lacking plain b s h t =
-      run-told (λ p. Sink.is_sound p.0) (noting Sink.step Sink.is_quiet) noting_error (noting_cdata Sink.asks_cdata) (noting_end Sink.ended) (rows_of old) (noting-lawful Sink.is_sound Sink.step Sink.ended Sink.is_quiet laws) bits unbroken (standing old place) plain b s h run t (line_number b) filled lacking
+      run-told (λ p. Sink.is_sound p.0) (listening Sink) (rows_of old) (noting-lawful Sink.is_sound Sink.step Sink.ended Sink.is_quiet laws) bits unbroken (standing old place) plain b s h run t (line_number b) filled lacking
 
   text-says : (old : Tokenizer K) (st : State) (set : SmallCharSet) (run : List ℕ) → state_stops st ≡ Some set → ((kind : AttrValueKind) → st ≢ state.AttributeValue kind) → st ≢ state.BogusComment → st ≢ state.Comment → st ≢ state.AttributeName
       → 0 < length run → All (λ c. has set.bits c ≡ false) run → RunSays Sink st old run

@@ -22,6 +22,7 @@ use Rattle.html_tokenizer.proofs.Runs.{reading-token}
 use Rattle.html_tokenizer.proofs.ShownTexts.{reading-shown}
 use Rattle.html_tokenizer.proofs.Glue.{Says, took, at}
 use Rattle.html_tokenizer.proofs.Telling.{keeps_taken, took_reference}
+use Rattle.html_tokenizer.specs.Listeners.{listening}
 
 module _ {K H : Type 0} (Sink : Ghosts K H) (laws : SinkLaws Sink.is_sound Sink.step Sink.ended Sink.is_quiet) where
   plaintext-says : (old : Tokenizer K) (c : ℕ) → Says Sink state.Plaintext old c (owed_for (grave_if (nat_eq c 0))) (CharacterTokens (shown c ∷ [])) (λ b s t. at Sink state.Plaintext old (b + line_break (nat_eq c 10)) s t)
@@ -37,13 +38,13 @@ module _ {K H : Type 0} (Sink : Ghosts K H) (laws : SinkLaws Sink.is_sound Sink.
   unfolding held_at
   data-char old c f g z b s h t =
       let plain = standing old InData in
-      reading-char (λ p. Sink.is_sound p.0) (noting Sink.step Sink.is_quiet) noting_error (noting_cdata Sink.asks_cdata) (noting_end Sink.ended) (rows_of old) (noting-lawful Sink.is_sound Sink.step Sink.ended Sink.is_quiet laws) plain plain b s h c c t (line_number b) (rw (f, g, z) refl)
+      reading-char (λ p. Sink.is_sound p.0) (listening Sink) (rows_of old) (noting-lawful Sink.is_sound Sink.step Sink.ended Sink.is_quiet laws) plain plain b s h c c t (line_number b) (rw (f, g, z) refl)
 
   data-null : (old : Tokenizer K) → Says Sink state.Data old 0 a_fault NullCharacterToken (λ b s t. at Sink state.Data old (b + line_break (nat_eq 0 10)) s t)
   unfolding held_at
   data-null old b s h t =
       let plain = standing old InData in
-      reading-token (λ p. Sink.is_sound p.0) (noting Sink.step Sink.is_quiet) noting_error (noting_cdata Sink.asks_cdata) (noting_end Sink.ended) (rows_of old) (noting-lawful Sink.is_sound Sink.step Sink.ended Sink.is_quiet laws) (Some Grave) plain plain b s h 0 t NullCharacterToken tt refl refl
+      reading-token (λ p. Sink.is_sound p.0) (listening Sink) (rows_of old) (noting-lawful Sink.is_sound Sink.step Sink.ended Sink.is_quiet laws) (Some Grave) plain plain b s h 0 t NullCharacterToken tt refl refl
 
   -- a character of text was taken
   pub data-kept : (old new : Tokenizer K) (c : ℕ) (result : Result (ProcessResult H) ParseFault) → IsAt old state.Data → Sink.is_sound (Sink.view old.sink) → (c ≡ 60 → ⊥) → (c ≡ 38 → ⊥) → (c ≡ 0 → ⊥) → TakesAs Sink nothing_owed (CharacterTokens (c ∷ [])) old new result → Keeps Sink old new c result

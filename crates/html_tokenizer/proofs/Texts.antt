@@ -14,9 +14,10 @@ use Rattle.html_tokenizer.specs.declared.tokenizer.Tokenizer.{Tokenizer}
 use Rattle.html_tokenizer.specs.Rest.{rows_of, standing, coming, held_at}
 use Rattle.html_tokens.specs.Item.{Fault}
 use Rattle.html_tokenizer.proofs.Glue.{now-at}
+use Rattle.html_tokenizer.specs.Listeners.{Listener, listening, told_text}
 
-module _ {K T : Type 0} (step : NotedStep T) (erred : Fault → T → T) (cdata : T → Bool) (ends : T → T) where
-  text-reads : (st : State) (k : Tokenizer K) (b : ℕ) (s : T) (t : List ℕ) → is_text_state st ≡ true → held_at step erred cdata ends st k b s t ≡ reading step erred cdata ends (rows_of k) (standing k (first_place (Some st))) b s t
+module _ {K T : Type 0} (to : Listener T) where
+  text-reads : (st : State) (k : Tokenizer K) (b : ℕ) (s : T) (t : List ℕ) → is_text_state st ≡ true → held_at to st k b s t ≡ told_text to (rows_of k) (standing k (first_place (Some st))) b s t
   unfolding held_at
   text-reads state.Data k b s t h = refl
   text-reads state.Plaintext k b s t h = refl
@@ -31,7 +32,7 @@ module _ {K H : Type 0} (Sink : Ghosts K H) where
   pub reads-text : (k : Tokenizer K) → is_none k.char_ref ≡ true → is_text_state k.state ≡ true → ReadsAt Sink (first_place (Some k.state)) k
   reads-text k none text = λ notes t.
       now-at Sink k k.state k.stream.breaks (Sink.view k.sink, notes) (coming k t) (record { state = refl; fresh = is-fresh k.char_ref none })
-      ∙ text-reads (noting Sink.step Sink.is_quiet) noting_error (noting_cdata Sink.asks_cdata) (noting_end Sink.ended) k.state k k.stream.breaks (Sink.view k.sink, notes) (coming k t) text
+      ∙ text-reads (listening Sink) k.state k k.stream.breaks (Sink.view k.sink, notes) (coming k t) text
 
   -- the same of a new tokenizer, from where its options have it
   pub is-new : (k : Tokenizer K) (sink : K) (opts : TokenizerOpts) → k.sink ≡ sink → k.stream.breaks ≡ 0 → k.stream.ignore_lf ≡ false → k.stream.discard_bom ≡ opts.discard_bom → k.stream.has_ended ≡ false → k.stream.has_failed ≡ false → k.stream.exact_errors ≡ opts.exact_errors

@@ -14,6 +14,7 @@ use Rattle.html_tokenizer.proofs.Glue.{no-break}
 use Rattle.html_tokenizer_parts.proofs.Keywords.{and_both}
 use Rattle.html_tokenizer.proofs.Readings.{play-is}
 use Rattle.html_tokenizer_parts.proofs.Words.{and_parts}
+use Rattle.html_tokenizer.specs.Listeners.{Listener, told_item}
 
 -- a character that ends no line
 abbrev pub is_inline : ℕ → Bool
@@ -30,19 +31,19 @@ all-pass p q f (c ∷ w) h =
     let parts = and_parts (p c) (list_all p w) h in
     and_both (q c) (list_all q w) (f c parts.0) (all-pass p q f w parts.1)
 
-module _ {T : Type 0} (step : NotedStep T) (erred : Fault → T → T) (cdata : T → Bool) (ends : T → T) (rows : List Row) where
+module _ {T : Type 0} (to : Listener T) (rows : List Row) where
   -- an item behind characters that end no line
-  pub play-inline : (cs t : List ℕ) (j : Item) (b : ℕ) (s : T) → list_all is_inline cs ≡ true → play step erred cdata ends rows (behind_all (length cs) j) b s (cs ++ t) ≡ play step erred cdata ends rows j b s t
+  pub play-inline : (cs t : List ℕ) (j : Item) (b : ℕ) (s : T) → list_all is_inline cs ≡ true → told_item to rows (behind_all (length cs) j) b s (cs ++ t) ≡ told_item to rows j b s t
   play-inline [] t j b s h = refl
   play-inline (c ∷ cs) t j b s h =
       let p = and_parts (is_inline c) (list_all is_inline cs) h in
-      play-is step erred cdata ends rows (behind_all (length (c ∷ cs)) j) (behind_all (length cs) j) b s c (cs ++ t) refl
-      ∙ ap (λ n. play step erred cdata ends rows (behind_all (length cs) j) n s (cs ++ t)) (no-break b c (not-so (nat_eq c 10) p.0))
+      play-is to rows (behind_all (length (c ∷ cs)) j) (behind_all (length cs) j) b s c (cs ++ t) refl
+      ∙ ap (λ n. told_item to rows (behind_all (length cs) j) n s (cs ++ t)) (no-break b c (not-so (nat_eq c 10) p.0))
       ∙ play-inline cs t j b s p.1
 
 module _ (T : Type 0) {K : Type 0} (k : Tokenizer K) where
   -- The front of an item is held that ends at ">".
   pub by-mark : (st : State) (i : Item) → i.len ≡ 1 → is_markup i.token ≡ true
-      → ((step : NotedStep T) (erred : Fault → T → T) (cdata : T → Bool) (ends : T → T) (b : ℕ) (s : T) (t : List ℕ) → held_at step erred cdata ends st k b s (62 ∷ t) ≡ played step erred cdata ends i k b s (62 ∷ t))
+      → ((to : Listener T) (b : ℕ) (s : T) (t : List ℕ) → held_at to st k b s (62 ∷ t) ≡ played to i k b s (62 ∷ t))
       → Untold T st k
   by-mark st i len markup same = Front (record { more = codes ">"; item = i; some = lit< tt; whole = len; markup = markup; same = same })

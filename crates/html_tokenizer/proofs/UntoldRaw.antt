@@ -29,6 +29,7 @@ use Rattle.html_tokenizer.proofs.UntoldGlue.{all-pass, is_inline, play-inline}
 use Rattle.html_tokenizer.proofs.UntoldTags.{part-closed}
 use Rattle.html_tokenizer.proofs.UntoldText.{less_than-told}
 use Rattle.html_tokenizer_parts.proofs.Words.{and_parts, letter-of}
+use Rattle.html_tokenizer.specs.Listeners.{Listener, told_text, told_item}
 
 -- LETTERS
 
@@ -122,26 +123,26 @@ spelled front more word t e = ap (λ u. front ++ u) (append_assoc more (62 ∷ [
 some-text : (w : List ℕ) → 0 < length (w ++ 62 ∷ [])
 some-text w = omega (arith, length-append w (62 ∷ []))
 
-module _ {T : Type 0} (step : NotedStep T) (erred : Fault → T → T) (cdata : T → Bool) (ends : T → T) (rows : List Row) where
+module _ {T : Type 0} (to : Listener T) (rows : List Row) where
   -- the fitting end tag
   end_tag-closed : (st : Stand) (kind : RawKind) (word : List ℕ) (b : ℕ) (s : T) (t : List ℕ) → list_all is_ascii_alphabetic word ≡ true → st.place ≡ InRaw kind → ends_at_tag kind ≡ true → is_fitting_end st.last_start_tag (47 ∷ (word ++ 62 ∷ t)) ≡ true
-      → reading step erred cdata ends rows st b s (60 ∷ 47 ∷ (word ++ 62 ∷ t)) ≡ play step erred cdata ends rows (tag_end st (named EndTag (all_lowered word)) 1) b s (62 ∷ t)
+      → told_text to rows st b s (60 ∷ 47 ∷ (word ++ 62 ∷ t)) ≡ told_item to rows (tag_end st (named EndTag (all_lowered word)) 1) b s (62 ∷ t)
   end_tag-closed st kind word b s t w place e fits =
       let tag : Tag = named EndTag (all_lowered word) in
       let name : Item = behind_all (length word) (silent 0 (moved st (InTag tag))) in
-      reading-is step erred cdata ends rows st b s 60 (47 ∷ (word ++ 62 ∷ t)) (behind name) (rw (place, e, fits) (ap (λ i. behind (behind i)) (name-read st (named EndTag []) word t w)))
-      ∙ ap (λ n. play step erred cdata ends rows (behind name) n s (47 ∷ (word ++ 62 ∷ t))) (sum-zero b)
-      ∙ play-is step erred cdata ends rows (behind name) name b s 47 (word ++ 62 ∷ t) refl
-      ∙ ap (λ n. play step erred cdata ends rows name n s (word ++ 62 ∷ t)) (sum-zero b)
-      ∙ play-inline step erred cdata ends rows word (62 ∷ t) (silent 0 (moved st (InTag tag))) b s (letters-inline word w)
-      ∙ part-closed step erred cdata ends rows st tag b s t
+      reading-is to rows st b s 60 (47 ∷ (word ++ 62 ∷ t)) (behind name) (rw (place, e, fits) (ap (λ i. behind (behind i)) (name-read st (named EndTag []) word t w)))
+      ∙ ap (λ n. told_item to rows (behind name) n s (47 ∷ (word ++ 62 ∷ t))) (sum-zero b)
+      ∙ play-is to rows (behind name) name b s 47 (word ++ 62 ∷ t) refl
+      ∙ ap (λ n. told_item to rows name n s (word ++ 62 ∷ t)) (sum-zero b)
+      ∙ play-inline to rows word (62 ∷ t) (silent 0 (moved st (InTag tag))) b s (letters-inline word w)
+      ∙ part-closed to rows st tag b s t
 
 -- STATES
 
 module _ (T : Type 0) {K : Type 0} (k : Tokenizer K) where
   -- "<" and this text are held
   abbrev HoldsOpen : State → RawKind → List ℕ → Type 0
-  HoldsOpen st kind front = (step : NotedStep T) (erred : Fault → T → T) (cdata : T → Bool) (ends : T → T) (b : ℕ) (s : T) (t : List ℕ) → held_at step erred cdata ends st k b s t ≡ read_at step erred cdata ends (InRaw kind) k b s (60 ∷ (front ++ t))
+  HoldsOpen st kind front = (to : Listener T) (b : ℕ) (s : T) (t : List ℕ) → held_at to st k b s t ≡ read_at to (InRaw kind) k b s (60 ∷ (front ++ t))
 
   ended-front : (st : State) (kind : RawKind) (front name : List ℕ) → HoldsOpen st kind front → k.raw_end.name ≡ Some name → ends_at_tag kind ≡ true → is_letters name ≡ true → BeginsEndTag (Some name) front → Untold T st k
   ended-front st kind front name same is e l begins =
@@ -154,14 +155,14 @@ module _ (T : Type 0) {K : Type 0} (k : Tokenizer K) where
         some = some-text end.more;
         whole = refl;
         markup = refl;
-        same = λ step erred cdata ends b s t.
-            same step erred cdata ends b s (text ++ t)
-            ∙ ap (λ u. read_at step erred cdata ends (InRaw kind) k b s (60 ∷ u)) (spelled front end.more end.word t end.whole)
-            ∙ end_tag-closed step erred cdata ends (rows_of k) (standing k (InRaw kind)) kind end.word b s t end.letters refl e
+        same = λ to b s t.
+            same to b s (text ++ t)
+            ∙ ap (λ u. read_at to (InRaw kind) k b s (60 ∷ u)) (spelled front end.more end.word t end.whole)
+            ∙ end_tag-closed to (rows_of k) (standing k (InRaw kind)) kind end.word b s t end.letters refl e
             (ap (λ last. is_fitting_end last (47 ∷ (end.word ++ 62 ∷ t))) is ∙ fitting-word (Some name) end.word 62 t end.letters refl ∙ word-ends name end.word l end.same)
-            ∙ sym (play-inline step erred cdata ends (rows_of k) end.more (62 ∷ t) (tag_end (standing k InData) tag 1) b s end.inline)
-            ∙ ap (λ i. played step erred cdata ends i k b s (end.more ++ 62 ∷ t)) (ends-later (standing k InData) tag end.more)
-            ∙ ap (λ u. played step erred cdata ends (tag_end (standing k InData) tag (length text)) k b s u) (sym (append_assoc end.more (62 ∷ []) t));
+            ∙ sym (play-inline to (rows_of k) end.more (62 ∷ t) (tag_end (standing k InData) tag 1) b s end.inline)
+            ∙ ap (λ i. played to i k b s (end.more ++ 62 ∷ t)) (ends-later (standing k InData) tag end.more)
+            ∙ ap (λ u. played to (tag_end (standing k InData) tag (length text)) k b s u) (sym (append_assoc end.more (62 ∷ []) t));
       })
 
   open-by : (st : State) (kind : RawKind) (front : List ℕ) (last : Option (List ℕ)) (ends : Bool) → HoldsOpen st kind front → k.raw_end.name ≡ last → has_end kind last ≡ ends → BeginsEndTag last front → Untold T st k
@@ -176,16 +177,16 @@ module _ (T : Type 0) {K : Type 0} (k : Tokenizer K) where
 
   pub less_than-untold : (kind : RawKind) → Untold T (state.RawLessThanSign kind) k
   unfolding held_at
-  less_than-untold raw.Rcdata = open-untold (state.RawLessThanSign raw.Rcdata) raw.Rcdata [] (λ step erred cdata ends b s t. refl) tt
-  less_than-untold raw.Rawtext = open-untold (state.RawLessThanSign raw.Rawtext) raw.Rawtext [] (λ step erred cdata ends b s t. refl) tt
-  less_than-untold raw.ScriptData = open-untold (state.RawLessThanSign raw.ScriptData) raw.ScriptData [] (λ step erred cdata ends b s t. refl) tt
-  less_than-untold (raw.ScriptDataEscaped script.Escaped) = open-untold (state.RawLessThanSign (raw.ScriptDataEscaped script.Escaped)) (raw.ScriptDataEscaped script.Escaped) [] (λ step erred cdata ends b s t. refl) tt
+  less_than-untold raw.Rcdata = open-untold (state.RawLessThanSign raw.Rcdata) raw.Rcdata [] (λ to b s t. refl) tt
+  less_than-untold raw.Rawtext = open-untold (state.RawLessThanSign raw.Rawtext) raw.Rawtext [] (λ to b s t. refl) tt
+  less_than-untold raw.ScriptData = open-untold (state.RawLessThanSign raw.ScriptData) raw.ScriptData [] (λ to b s t. refl) tt
+  less_than-untold (raw.ScriptDataEscaped script.Escaped) = open-untold (state.RawLessThanSign (raw.ScriptDataEscaped script.Escaped)) (raw.ScriptDataEscaped script.Escaped) [] (λ to b s t. refl) tt
   less_than-untold (raw.ScriptDataEscaped script.DoubleEscaped) = less_than-told T k
 
   pub end_open-untold : (kind : RawKind) → Untold T (state.RawEndTagOpen kind) k
   unfolding held_at
-  end_open-untold kind = open-untold (state.RawEndTagOpen kind) kind (47 ∷ []) (λ step erred cdata ends b s t. refl) (refl, tt)
+  end_open-untold kind = open-untold (state.RawEndTagOpen kind) kind (47 ∷ []) (λ to b s t. refl) (refl, tt)
 
   pub end_name-untold : (kind : RawKind) → BeginsEnd k.raw_end.name k.raw_end.letters → Untold T (state.RawEndTagName kind) k
   unfolding held_at
-  end_name-untold kind begins = open-untold (state.RawEndTagName kind) kind (47 ∷ k.raw_end.letters) (λ step erred cdata ends b s t. refl) (refl, begins)
+  end_name-untold kind begins = open-untold (state.RawEndTagName kind) kind (47 ∷ k.raw_end.letters) (λ to b s t. refl) (refl, begins)

@@ -36,6 +36,7 @@ use Rattle.html_tokenizer.specs.Untold.{Untold}
 use Rattle.html_tokenizer_parts.specs.Words.{BeginsEnd, FittingEnd}
 use Rattle.html_tokenizer.specs.Steps.{IsAt, PausesAt, Owed, nothing_owed, owed_for_each, together, more, paused_by, noted_by, Rises, now, Stays, Fell, Fails, FailsAmong, Replied, reads}
 pub use Rattle.html_tokenizer_parts.specs.Refusals.{refused_by, refusal, Refuses}
+use Rattle.html_tokenizer.specs.Listeners.{listening}
 
 -- the pauses so far, and the one with which a call of `feed` hands back control
 abbrev pub paused_with : {H : Type 0} → (H → ℕ) → List Reply → TokenizerResult H → List Reply
@@ -92,7 +93,7 @@ EndHeldIn st e = (kind : RawKind) → st ≡ state.RawEndTagName kind → Begins
 module _ {K H : Type 0} (Sink : Ghosts K H) where
   -- what a further text makes of the sink and of what was noted
   abbrev pub to_come : Tokenizer K → Notes ℕ → List ℕ → Result (Sink.State × Notes ℕ) (Refusal × ℕ)
-  to_come k notes t = rest (noting Sink.step Sink.is_quiet) noting_error (noting_cdata Sink.asks_cdata) (noting_end Sink.ended) k (Sink.view k.sink, notes) t
+  to_come k notes t = rest (listening Sink) k (Sink.view k.sink, notes) t
 
   -- what the end of the input makes of the sink
   abbrev pub at_end : ℕ → Sink.State × Notes ℕ → Result (Sink.State × Notes ℕ) (Refusal × ℕ)

@@ -4,6 +4,7 @@ pub mod EndText
 pub mod Fronts
 pub mod Going
 pub mod Laws
+pub mod Listeners
 pub mod Quotes
 pub mod Ready
 pub mod Rest

@@ -23,6 +23,7 @@ use Rattle.html_tokenizer_parts.specs.declared.held_reference.Ampersand.{Ampersa
 use Rattle.html_tokenizer_parts.specs.declared.held_reference.Ampersand.TheVariants.{Held, Unknown}
 use Rattle.html_tokenizer.specs.declared.tokenizer.Tokenizer.{Tokenizer}
 use Rattle.html_tokenizer_parts.specs.Words.{kind_after}
+use Rattle.html_tokenizer.specs.Listeners.{Listener, told_text, told_item}
 
 -- the rows of the table of references
 abbrev pub rows_of : {K : Type 0} → Tokenizer K → List Row
@@ -53,14 +54,14 @@ with_identifier id.System d cs = record d { system_id = Some cs }
 abbrev pub coming : {K : Type 0} → Tokenizer K → List ℕ → List ℕ
 coming k t = newlines_behind k.stream.ignore_lf (without_mark k.stream.discard_bom t)
 
-module _ {K T : Type 0} (step : NotedStep T) (erred : Fault → T → T) (cdata : T → Bool) (ends : T → T) where
+module _ {K T : Type 0} (to : Listener T) where
   -- what a text makes of the sink, where a reading stands at this place
   abbrev pub read_at : Place → Tokenizer K → ℕ → T → List ℕ → Result T (Refusal × ℕ)
-  read_at place k b s t = reading step erred cdata ends (rows_of k) (standing k place) b s t
+  read_at place k b s t = told_text to (rows_of k) (standing k place) b s t
 
   -- an item, and then what follows it
   abbrev pub played : Item → Tokenizer K → ℕ → T → List ℕ → Result T (Refusal × ℕ)
-  played i k b s t = play step erred cdata ends (rows_of k) i b s t
+  played i k b s t = told_item to (rows_of k) i b s t
 
   -- What the characters t make of the sink s behind b line breaks, where the machine is in this state.
   unfoldable pub held_at : State → Tokenizer K → ℕ → T → List ℕ → Result T (Refusal × ℕ)
@@ -89,7 +90,7 @@ module _ {K T : Type 0} (step : NotedStep T) (erred : Fault → T → T) (cdata 
   held_at (state.AttributeValue value.Unquoted) k b s t = played (unquoted_after (rows_of k) (standing k InData) k.tag k.attribute_name k.attribute_value t) k b s t
   held_at (state.AttributeValue value.SingleQuoted) k b s t = played (quoted_after (rows_of k) 39 (standing k InData) k.tag k.attribute_name k.attribute_value t) k b s t
   held_at (state.AttributeValue value.DoubleQuoted) k b s t = played (quoted_after (rows_of k) 34 (standing k InData) k.tag k.attribute_name k.attribute_value t) k b s t
-  held_at state.AfterAttributeValueQuoted k b s t = read_at (InTag k.tag) k b (erred_by erred (slight_if (lacks_space t)) s) t
+  held_at state.AfterAttributeValueQuoted k b s t = read_at (InTag k.tag) k b (erred_by to.erred (slight_if (lacks_space t)) s) t
   held_at state.SelfClosingStartTag k b s t = read_at (InTag k.tag) k b s (47 ∷ t)
   -- comments
   held_at state.BogusComment k b s t = played (bogus_comment_after (standing k InData) k.comment t) k b s t
@@ -128,7 +129,7 @@ module _ {K T : Type 0} (step : NotedStep T) (erred : Fault → T → T) (cdata 
 
   -- the same where the machine is, with the reference that is held, or behind an unknown name
   abbrev pub held : Tokenizer K → ℕ → T → List ℕ → Result T (Refusal × ℕ)
-  held k b s t = held_at k.state k b (erred_by erred (fault_behind k.char_ref) s) (pending k.char_ref ++ t)
+  held k b s t = held_at k.state k b (erred_by to.erred (fault_behind k.char_ref) s) (pending k.char_ref ++ t)
 
   -- what a further text of the input makes of the sink
   abbrev pub rest : Tokenizer K → T → List ℕ → Result T (Refusal × ℕ)

@@ -21,6 +21,7 @@ use Rattle.html_tokens.specs.Tags.{behind_tag, is_faulty_tag}
 use Rattle.html_tokenizer_parts.specs.CharRefs.{fits_in}
 use Rattle.html_tokenizer.specs.declared.tokenizer.Tokenizer.{Tokenizer}
 use Rattle.html_tokenizer.specs.Rest.{rows_of, standing, held}
+use Rattle.html_tokenizer.specs.Listeners.{listening, told_text, told_item}
 
 -- the machine is in this state, and holds no reference
 pub record IsAt {K : Type 0} (k : Tokenizer K) (st : State) : Type 0 where
@@ -117,15 +118,15 @@ answer_to (reply.EncodingIndicator label) = flow.EncodingIndicator label
 module _ {K H : Type 0} (Sink : Ghosts K H) where
   -- what a text makes of the sink and of what was noted, from a stand on
   abbrev pub reads : List Row → Stand → ℕ → Sink.State × Notes ℕ → List ℕ → Result (Sink.State × Notes ℕ) (Refusal × ℕ)
-  reads rows st b s t = reading (noting Sink.step Sink.is_quiet) noting_error (noting_cdata Sink.asks_cdata) (noting_end Sink.ended) rows st b s t
+  reads rows st b s t = told_text (listening Sink) rows st b s t
 
   -- the same, where an item stands at its front
   abbrev pub plays : List Row → Item → ℕ → Sink.State × Notes ℕ → List ℕ → Result (Sink.State × Notes ℕ) (Refusal × ℕ)
-  plays rows i b s t = play (noting Sink.step Sink.is_quiet) noting_error (noting_cdata Sink.asks_cdata) (noting_end Sink.ended) rows i b s t
+  plays rows i b s t = told_item (listening Sink) rows i b s t
 
   -- what the characters t make of the sink and of what was noted
   abbrev pub now : Tokenizer K → ℕ → Sink.State × Notes ℕ → List ℕ → Result (Sink.State × Notes ℕ) (Refusal × ℕ)
-  now k b s t = held (noting Sink.step Sink.is_quiet) noting_error (noting_cdata Sink.asks_cdata) (noting_end Sink.ended) k b s t
+  now k b s t = held (listening Sink) k b s t
 
   -- What stays of a sink: it had failed before where it has failed, and it works through the same loans.
   pub record Stays (old new : K) : Type 0 where

@@ -10,6 +10,7 @@ use Rattle.html_tokens.specs.RawText.{is_letters, ends_at_tag}
 use Rattle.html_tokenizer.specs.declared.tokenizer.Tokenizer.{Tokenizer}
 use Rattle.html_tokenizer.specs.Rest.{read_at, played, held_at}
 use Rattle.html_tokenizer_parts.specs.Words.{BeginsEnd}
+use Rattle.html_tokenizer.specs.Listeners.{Listener}
 
 -- text of any kind
 abbrev pub is_text_place : Place → Bool
@@ -40,7 +41,7 @@ module _ (T : Type 0) {K : Type 0} (st : State) (k : Tokenizer K) where
   pub record IsAllTold : Type 0 where
     pub place : List ℕ → Place
     pub in_text : (t : List ℕ) → is_text_place (place t) ≡ true
-    pub same : (step : NotedStep T) (erred : Fault → T → T) (cdata : T → Bool) (ends : T → T) (b : ℕ) (s : T) (t : List ℕ) → held_at step erred cdata ends st k b s t ≡ read_at step erred cdata ends (place t) k b s t
+    pub same : (to : Listener T) (b : ℕ) (s : T) (t : List ℕ) → held_at to st k b s t ≡ read_at to (place t) k b s t
 
   -- The front of one item is held, which is no text: this text behind it makes the item whole, whatever follows.
   pub record IsFront : Type 0 where
@@ -49,7 +50,7 @@ module _ (T : Type 0) {K : Type 0} (st : State) (k : Tokenizer K) where
     pub some : 0 < length more
     pub whole : item.len ≡ length more
     pub markup : is_markup item.token ≡ true
-    pub same : (step : NotedStep T) (erred : Fault → T → T) (cdata : T → Bool) (ends : T → T) (b : ℕ) (s : T) (t : List ℕ) → held_at step erred cdata ends st k b s (more ++ t) ≡ played step erred cdata ends item k b s (more ++ t)
+    pub same : (to : Listener T) (b : ℕ) (s : T) (t : List ℕ) → held_at to st k b s (more ++ t) ≡ played to item k b s (more ++ t)
 
   -- "<" and the front of an end tag are held, in raw text that no end tag ends.
   pub record IsUnended : Type 0 where
@@ -57,7 +58,7 @@ module _ (T : Type 0) {K : Type 0} (st : State) (k : Tokenizer K) where
     pub front : List ℕ
     pub begins : BeginsEndTag k.raw_end.name front
     pub endless : has_end kind k.raw_end.name ≡ false
-    pub same : (step : NotedStep T) (erred : Fault → T → T) (cdata : T → Bool) (ends : T → T) (b : ℕ) (s : T) (t : List ℕ) → held_at step erred cdata ends st k b s t ≡ read_at step erred cdata ends (InRaw kind) k b s (60 ∷ (front ++ t))
+    pub same : (to : Listener T) (b : ℕ) (s : T) (t : List ℕ) → held_at to st k b s t ≡ read_at to (InRaw kind) k b s (60 ∷ (front ++ t))
 
   -- So much is held, and no more.
   pub data Untold : Type 0 where
