@@ -47,6 +47,7 @@ module _ {K : Type 0} where
 module _ {K H : Type 0} (Sink : Ghosts K H) where
   held-run : (old : Tokenizer K) (cs : List ℕ) → IsAt old state.Data → Sink.is_sound (Sink.view old.sink) → is_held_front (rows_of old) cs ≡ true → TookRun Sink old (record old { char_ref = Some (Held cs) }) (38 ∷ cs)
   held-run old cs from ok front = record {
+    paused = tt;
     owed = nothing_owed;
     rises = rises-same Sink.errors old.sink old.sink refl;
     same = λ notes t.

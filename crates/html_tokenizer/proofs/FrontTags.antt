@@ -79,11 +79,12 @@ plain-space bits c t n f s lacks = rw (not-member bits c 9 t lacks, not-member b
 module _ {K H : Type 0} (Sink : Ghosts K H) where
   -- nothing was taken
   pub took-none : (k : Tokenizer K) → Sink.is_sound (Sink.view k.sink) → fits_in (rows_of k) k.char_ref k.state ≡ true → TookRun Sink k k []
-  took-none k ok fits = record { owed = nothing_owed; rises = rises-same Sink.errors k.sink k.sink refl; same = λ notes t. refl; stream = refl; sound = ok; fits = fits; stays = stays-same Sink k.sink k.sink refl }
+  took-none k ok fits = record { paused = tt; owed = nothing_owed; rises = rises-same Sink.errors k.sink k.sink refl; same = λ notes t. refl; stream = refl; sound = ok; fits = fits; stays = stays-same Sink k.sink k.sink refl }
 
   -- a run was taken, and then another
   pub run-then : (old mid new : Tokenizer K) (a b : List ℕ) → TookRun Sink old mid a → TookRun Sink mid new b → TookRun Sink old new (a ++ b)
   run-then old mid new a b first rest = record {
+    paused = tt;
     owed = together rest.owed first.owed;
     rises = rises-then Sink.errors old.sink mid.sink new.sink first.rises rest.rises;
     same = λ notes t.

@@ -160,6 +160,7 @@ module _ {K H : Type 0} (Sink : Ghosts K H) where
   run-kept : (old new : Tokenizer K) (run : List ℕ) (st : State) (result : Result (Unit {0}) ParseFault) → IsAt old st → Sink.is_sound (Sink.view old.sink) → Tells Sink nothing_owed (CharacterTokens run) old new result → RunSays st old run
       → KeepsRun Sink old new run result
   run-kept old new run st (Ok x) from ok told law = record {
+    paused = tt;
     owed = and_heard (Sink.is_quiet (Sink.view old.sink) (CharacterTokens run)) nothing_owed;
     rises = told.rises;
     same = λ notes t.
@@ -183,6 +184,7 @@ module _ {K H : Type 0} (Sink : Ghosts K H) where
   -- A character was taken, and then a run.
   pub took-then : (old mid new : Tokenizer K) (c : ℕ) (run : List ℕ) → nat_eq c 10 ≡ false → Took Sink old mid c flow.Continue → TookRun Sink mid new run → TookRun Sink old new (c ∷ run)
   took-then old mid new c run unbroken first rest = record {
+    paused = tt;
     owed = together rest.owed first.owed;
     rises = rises-then Sink.errors old.sink mid.sink new.sink first.rises rest.rises;
     same = λ notes t.
@@ -199,6 +201,7 @@ module _ {K H : Type 0} (Sink : Ghosts K H) where
   -- Errors were told, and then a run was taken that is quiet only where none were.
   erred-run : (old mid new : Tokenizer K) (run : List ℕ) (owed : Owed) → Erred Sink owed old mid → (took : TookRun Sink mid new run) → (took.owed.is_quiet ≡ true → owed.is_quiet ≡ true) → TookRun Sink old new run
   erred-run old mid new run owed h took quiet-too = record {
+    paused = tt;
     owed = took.owed;
     rises = rises-less Sink.errors old.sink new.sink (record { faults = omega arith; quiet = λ e. and_from took.owed.is_quiet owed.is_quiet e (quiet-too e) }) (rises-then Sink.errors old.sink mid.sink new.sink h.rises took.rises);
     same = λ notes t. erred-now Sink old mid old.stream.breaks notes (run ++ t) h ∙ (rw (← ap (λ k. k.stream) h.changed) (took.same notes t));
@@ -216,7 +219,7 @@ module _ {K H : Type 0} (Sink : Ghosts K H) where
     unfolding took-then
     run-noted front [] lacking =
         let none : (took : TookRun Sink (machine front) (machine front) []) × (took.owed.is_quiet ≡ true → how_many odd [] ≡ 0) =
-        (record { owed = nothing_owed; rises = rises-same Sink.errors (machine front).sink (machine front).sink refl; same = λ notes t. refl; stream = refl; sound = ok front; fits = fits front; stays = stays-same Sink (machine front).sink (machine front).sink refl }, λ h. refl) in
+        (record { paused = tt; owed = nothing_owed; rises = rises-same Sink.errors (machine front).sink (machine front).sink refl; same = λ notes t. refl; stream = refl; sound = ok front; fits = fits front; stays = stays-same Sink (machine front).sink (machine front).sink refl }, λ h. refl) in
         rw (append-nil front) none
     run-noted front (c ∷ run) lacking =
         let lacks = All-head (λ c. has bits c ≡ false) c run lacking in

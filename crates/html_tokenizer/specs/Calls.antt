@@ -34,7 +34,7 @@ use Rattle.html_queue.specs.declared.set.SmallCharSet.{SmallCharSet}
 use Rattle.html_tokenizer.specs.Rest.{rest, rows_of, standing, coming}
 use Rattle.html_tokenizer.specs.Untold.{Untold}
 use Rattle.html_tokenizer_parts.specs.Words.{BeginsEnd, FittingEnd}
-use Rattle.html_tokenizer.specs.Steps.{IsAt, PausesAt, Owed, nothing_owed, owed_for_each, together, more, paused_by, noted_by, Rises, now, Stays, Fell, Fails, FailsAmong, Replied, reads}
+use Rattle.html_tokenizer.specs.Steps.{Read, FailsOver, IsAt, PausesAt, Owed, nothing_owed, owed_for_each, together, more, paused_by, noted_by, Rises, now, Stays, Fell, Fails, FailsAmong, Replied, reads}
 pub use Rattle.html_tokenizer_parts.specs.Refusals.{refused_by, refusal, Refuses}
 use Rattle.html_tokenizer.specs.Listeners.{listening}
 
@@ -99,36 +99,21 @@ module _ {K H : Type 0} (Sink : Ghosts K H) where
   abbrev pub at_end : ℕ → Sink.State × Notes ℕ → Result (Sink.State × Notes ℕ) (Refusal × ℕ)
   at_end b s = noting Sink.step Sink.is_quiet s EOFToken (line_number b) >>= λ p. Ok (noting_end Sink.ended p.0)
 
-  -- A character was taken, its line counted: whatever follows, the tokenizer makes of it what it would have made of it behind c,
-  -- which owed this.
-  pub record Passed (old new : Tokenizer K) (c : ℕ) (result : ProcessResult H) : Type 0 where
-    pub owed : Owed
-    pub rises : Rises Sink.errors (together owed (owed_for_text old.stream.exact_errors (c ∷ []))) old.sink new.sink
-    pub same : (notes : Notes ℕ) (t : List ℕ) → now Sink old old.stream.breaks (Sink.view old.sink, notes) (c ∷ t) ≡ now Sink new new.stream.breaks (Sink.view new.sink, noted_by Sink.number owed notes result) t
-    pub stream : new.stream ≡ record old.stream { breaks = new.stream.breaks }
-    pub sound : Sink.is_sound (Sink.view new.sink)
-    pub fits : fits_in (rows_of new) new.char_ref new.state ≡ true
-    pub stays : Stays Sink old.sink new.sink
-    pub paused : PausesAt Sink result c new
+  -- A character was taken, its line counted, which owed what it owes on its own besides.
+  abbrev pub Passed : Tokenizer K → Tokenizer K → ℕ → ProcessResult H → Type 0
+  Passed old new c result = Read Sink (c ∷ []) (λ owed. together owed (owed_for_text old.stream.exact_errors (c ∷ []))) new.stream.breaks (record old.stream { breaks = new.stream.breaks }) old new result
 
   abbrev pub Passes : Tokenizer K → Tokenizer K → ℕ → Result (ProcessResult H) ParseFault → Type 0
   Passes old new c (Ok result) = Passed old new c result
-  Passes old new c (Err fault) = Fell Sink old.sink new.sink × ((notes : Notes ℕ) (t : List ℕ) → Fails Sink old.sink new.sink (now Sink old old.stream.breaks (Sink.view old.sink, notes) (c ∷ t)) fault)
+  Passes old new c (Err fault) = FailsOver Sink (c ∷ []) old new.sink fault
 
-  -- A run of text was taken, of which no character ends a line: whatever follows, the tokenizer makes of it what it would have made
-  -- of it behind the run, which owed this.
-  pub record TookRun (old new : Tokenizer K) (run : List ℕ) : Type 0 where
-    pub owed : Owed
-    pub rises : Rises Sink.errors owed old.sink new.sink
-    pub same : (notes : Notes ℕ) (t : List ℕ) → now Sink old old.stream.breaks (Sink.view old.sink, notes) (run ++ t) ≡ now Sink new old.stream.breaks (Sink.view new.sink, more owed notes) t
-    pub stream : new.stream ≡ old.stream
-    pub sound : Sink.is_sound (Sink.view new.sink)
-    pub fits : fits_in (rows_of new) new.char_ref new.state ≡ true
-    pub stays : Stays Sink old.sink new.sink
+  -- A run of text was taken, of which no character ends a line.
+  abbrev pub TookRun : Tokenizer K → Tokenizer K → List ℕ → Type 0
+  TookRun old new run = Read Sink run (λ owed. owed) old.stream.breaks old.stream old new flow.Continue
 
   abbrev pub KeepsRun : Tokenizer K → Tokenizer K → List ℕ → Result (Unit {0}) ParseFault → Type 0
   KeepsRun old new run (Ok x) = TookRun old new run
-  KeepsRun old new run (Err fault) = Fell Sink old.sink new.sink × ((notes : Notes ℕ) (t : List ℕ) → Fails Sink old.sink new.sink (now Sink old old.stream.breaks (Sink.view old.sink, notes) (run ++ t)) fault)
+  KeepsRun old new run (Err fault) = FailsOver Sink run old new.sink fault
 
   -- The same of a call that then goes on.
   abbrev pub KeepsText : Tokenizer K → Tokenizer K → List ℕ → Result (ProcessResult H) ParseFault → Type 0

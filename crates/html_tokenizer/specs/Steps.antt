@@ -20,6 +20,8 @@ use Rattle.html_tokens.specs.Table.{Row}
 use Rattle.html_tokens.specs.Tags.{behind_tag, is_faulty_tag}
 use Rattle.html_tokenizer_parts.specs.CharRefs.{fits_in}
 use Rattle.html_tokenizer.specs.declared.tokenizer.Tokenizer.{Tokenizer}
+use Rattle.html_tokenizer_parts.specs.declared.stream.Stream.{Stream}
+use Rattle.html_tokenizer_parts.specs.Input.{last_of}
 use Rattle.html_tokenizer.specs.Rest.{rows_of, standing, held}
 use Rattle.html_tokenizer.specs.Listeners.{listening, told_text, told_item}
 
@@ -214,20 +216,29 @@ module _ {K H : Type 0} (Sink : Ghosts K H) where
   Errs owed old new (Ok x) = Erred owed old new
   Errs owed old new (Err fault) = FallsAll old.sink new.sink fault
 
-  -- Whatever follows, the machine makes of it what it would have made of it behind c, which owed this.
-  pub record Took (old new : Tokenizer K) (c : ℕ) (result : ProcessResult H) : Type 0 where
+  -- Characters were read: whatever follows, the machine makes of it what it would have made of it behind them. They owed this, and
+  -- what they owe besides. The last of them may hand back control.
+  pub record Read (chars : List ℕ) (besides : Owed → Owed) (breaks : ℕ) (behind : Stream) (old new : Tokenizer K) (result : ProcessResult H) : Type 0 where
     pub owed : Owed
-    pub same : (notes : Notes ℕ) (t : List ℕ) → now old old.stream.breaks (Sink.view old.sink, notes) (c ∷ t) ≡ now new (old.stream.breaks + line_break (nat_eq c 10)) (Sink.view new.sink, noted_by Sink.number owed notes result) t
-    pub rises : Rises Sink.errors owed old.sink new.sink
-    pub stream : new.stream ≡ old.stream
+    pub same : (notes : Notes ℕ) (t : List ℕ) → now old old.stream.breaks (Sink.view old.sink, notes) (chars ++ t) ≡ now new breaks (Sink.view new.sink, noted_by Sink.number owed notes result) t
+    pub rises : Rises Sink.errors (besides owed) old.sink new.sink
+    pub stream : new.stream ≡ behind
     pub sound : Sink.is_sound (Sink.view new.sink)
     pub fits : fits_in (rows_of new) new.char_ref new.state ≡ true
     pub stays : Stays old.sink new.sink
-    pub paused : PausesAt result c new
+    pub paused : PausesAt result (last_of chars) new
+
+  -- A call failed, which left its sink so: what was to come over these characters is refused, whatever follows.
+  abbrev pub FailsOver : List ℕ → Tokenizer K → K → ParseFault → Type 0
+  FailsOver chars old left fault = Fell old.sink left × ((notes : Notes ℕ) (t : List ℕ) → Fails old.sink left (now old old.stream.breaks (Sink.view old.sink, notes) (chars ++ t)) fault)
+
+  -- One character was taken, whose line the caller counts.
+  abbrev pub Took : Tokenizer K → Tokenizer K → ℕ → ProcessResult H → Type 0
+  Took old new c result = Read (c ∷ []) (λ owed. owed) (old.stream.breaks + line_break (nat_eq c 10)) old.stream old new result
 
   abbrev pub Keeps : Tokenizer K → Tokenizer K → ℕ → Result (ProcessResult H) ParseFault → Type 0
   Keeps old new c (Ok result) = Took old new c result
-  Keeps old new c (Err fault) = Fell old.sink new.sink × ((notes : Notes ℕ) (t : List ℕ) → Fails old.sink new.sink (now old old.stream.breaks (Sink.view old.sink, notes) (c ∷ t)) fault)
+  Keeps old new c (Err fault) = FailsOver (c ∷ []) old new.sink fault
 
   -- what a tag owes
   abbrev pub owed_by : Tokenizer K → Owed
