@@ -9,7 +9,7 @@ use Rattle.html_tokenizer.specs.Calls.{EndGives, owed_for_text, refusal}
 use Rattle.html_tokenizer.specs.Steps.{and_more}
 use Rattle.html_tokenizer.specs.Steps as steps
 use Rattle.html_tokenizer.specs.declared.tokenizer.Tokenizer.{Tokenizer}
-use Rattle.html_tokenizer.proofs.Rises.{more-sum}
+use Rattle.html_tokenizer.proofs.Errors.Rises.{more-sum}
 use Rattle.html_tokens.specs.Notes.{errors_of, was_quiet}
 use Rattle.bench_tokenizer.specs.Counts.{counted_by, counting}
 use Rattle.bench_tokenizer.specs.Readings.{HasRead, Reads, Begins, IsCounted, page_reading, page_owes, noted, owed_behind, to_come}

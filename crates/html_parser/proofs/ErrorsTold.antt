@@ -10,7 +10,7 @@ use Rattle.html_tokens.specs.Reading.{erred_by}
 use Rattle.html_tokenizer.specs.Calls.{IsReadyIf}
 use Rattle.html_tokenizer.specs.Rest.{coming, fault_behind, pending, rest}
 use Rattle.html_tokenizer.specs.declared.tokenizer.Tokenizer.{Tokenizer}
-use Rattle.html_tokenizer.proofs.Glue.{held-other}
+use Rattle.html_tokenizer.proofs.Steps.Keeping.{held-other}
 use Rattle.html_tree_builder.specs.States.{built}
 use Rattle.html_tree_builder.specs.declared.builder.TreeBuilder.{TreeBuilder}
 use Rattle.html_parser.specs.Documents.{TellsError, builder}

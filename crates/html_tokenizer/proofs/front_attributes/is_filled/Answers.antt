@@ -1,4 +1,4 @@
-use Rattle.html_tokenizer.proofs.FrontTexts.{filled-if}
+use Rattle.html_tokenizer.proofs.Fronts.Texts.{filled-if}
 use Rattle.html_tokenizer.proofs.front_attributes.is_filled.Goals as goal
 
 pub returns : goal.returns

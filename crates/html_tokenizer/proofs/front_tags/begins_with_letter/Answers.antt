@@ -1,5 +1,5 @@
 use Rattle.std.proofs.Common.{◌∙◌, sym}
-use Rattle.html_tokenizer.proofs.FrontTexts.{letter-if}
+use Rattle.html_tokenizer.proofs.Fronts.Texts.{letter-if}
 use Rattle.html_tokenizer.proofs.front_tags.begins_with_letter.Goals as goal
 
 pub returns-then-not-is_empty : goal.returns-then-not-is_empty

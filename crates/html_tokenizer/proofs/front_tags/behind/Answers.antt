@@ -1,4 +1,4 @@
-use Rattle.html_tokenizer.proofs.FrontTexts.{cut-behind-if}
+use Rattle.html_tokenizer.proofs.Fronts.Texts.{cut-behind-if}
 use Rattle.html_tokenizer.proofs.front_tags.behind.Goals as goal
 
 pub range_from-requires : goal.range_from-requires

@@ -1,4 +1,4 @@
-use Rattle.html_tokenizer.proofs.Chains.{any-pieces}
+use Rattle.html_tokenizer.proofs.Feeds.Chains.{any-pieces}
 use Rattle.html_tokenizer.proofs.laws.any_pieces.Goals as goal
 
 pub returns : goal.returns

@@ -1,4 +1,4 @@
-use Rattle.html_tokenizer.proofs.Chains.{chain}
+use Rattle.html_tokenizer.proofs.Feeds.Chains.{chain}
 use Rattle.html_tokenizer.proofs.laws.calls_are_chained.Goals as goal
 
 pub returns : goal.returns

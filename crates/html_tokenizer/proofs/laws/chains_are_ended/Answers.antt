@@ -1,4 +1,4 @@
-use Rattle.html_tokenizer.proofs.Chains.{chain-ended}
+use Rattle.html_tokenizer.proofs.Feeds.Chains.{chain-ended}
 use Rattle.html_tokenizer.proofs.laws.chains_are_ended.Goals as goal
 
 pub returns : goal.returns

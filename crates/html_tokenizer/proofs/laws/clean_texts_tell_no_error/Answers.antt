@@ -1,4 +1,4 @@
-use Rattle.html_tokenizer.proofs.Chains.{clean-quiet}
+use Rattle.html_tokenizer.proofs.Feeds.Chains.{clean-quiet}
 use Rattle.html_tokenizer.proofs.laws.clean_texts_tell_no_error.Goals as goal
 
 pub returns : goal.returns

@@ -1,4 +1,4 @@
-use Rattle.html_tokenizer.proofs.Owing.{is-owing}
+use Rattle.html_tokenizer.proofs.Errors.Owing.{is-owing}
 use Rattle.html_tokenizer.proofs.laws.owed_errors_are_told.Goals as goal
 
 pub returns : goal.returns

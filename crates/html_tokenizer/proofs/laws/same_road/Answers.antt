@@ -1,4 +1,4 @@
-use Rattle.html_tokenizer.proofs.Chains.{same-road}
+use Rattle.html_tokenizer.proofs.Feeds.Chains.{same-road}
 use Rattle.html_tokenizer.proofs.laws.same_road.Goals as goal
 
 pub returns : goal.returns

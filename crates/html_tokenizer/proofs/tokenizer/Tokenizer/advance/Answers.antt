@@ -1,6 +1,6 @@
 use Rattle.std.proofs.Common.{◌∙◌, Some, ap, sym}
 use Rattle.html_tokenizer_parts.specs.declared.held_reference.Ampersand.TheVariants.{Held, Unknown}
-use Rattle.html_tokenizer.proofs.Taking.{advanced}
+use Rattle.html_tokenizer.proofs.Feeds.Characters.{advanced}
 use Rattle.html_tokenizer.proofs.tokenizer.Tokenizer.advance.Goals as goal
 
 pub returns-in-Some-Held : goal.returns-in-Some-Held

@@ -1,4 +1,4 @@
-use Rattle.html_tokenizer.proofs.Going.{goes-on, stays-behind}
+use Rattle.html_tokenizer.proofs.Steps.Going.{goes-on, stays-behind}
 use Rattle.html_tokenizer.proofs.tokenizer.Tokenizer.advance_on.Goals as goal
 
 pub returns : goal.returns

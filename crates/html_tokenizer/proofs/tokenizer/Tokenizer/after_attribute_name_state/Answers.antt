@@ -1,5 +1,5 @@
 use Rattle.std.proofs.Common.{◌∙◌, sym}
-use Rattle.html_tokenizer.proofs.AttributeNames.{after-space, after-equals, after-other}
+use Rattle.html_tokenizer.proofs.Attributes.Names.{after-space, after-equals, after-other}
 use Rattle.html_tokenizer.proofs.tokenizer.Tokenizer.after_attribute_name_state.Goals as goal
 
 pub returns-then-is_white_space : goal.returns-then-is_white_space

@@ -1,8 +1,8 @@
 use Rattle.std.proofs.Common.{◌∙◌, ap, sym}
 use Rattle.std.specs.Prelude.{not}
-use Rattle.html_tokenizer.proofs.Erring.{keeps_refused}
-use Rattle.html_tokenizer.proofs.Glue.{keeps_erred}
-use Rattle.html_tokenizer.proofs.AttributeValues.{behind-absorbs}
+use Rattle.html_tokenizer.proofs.Errors.BeforeCharacters.{keeps_refused}
+use Rattle.html_tokenizer.proofs.Steps.Keeping.{keeps_erred}
+use Rattle.html_tokenizer.proofs.Attributes.Values.{behind-absorbs}
 use Rattle.html_tokenizer.proofs.tokenizer.Tokenizer.after_attribute_value_quoted_state.Goals as goal
 
 pub returns-in_err-tell_if : goal.returns-in_err-tell_if

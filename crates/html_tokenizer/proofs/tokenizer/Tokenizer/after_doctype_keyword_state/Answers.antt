@@ -1,6 +1,6 @@
-use Rattle.html_tokenizer.proofs.Doctypes.{keyword-absorbs}
-use Rattle.html_tokenizer.proofs.Erring.{keeps_refused}
-use Rattle.html_tokenizer.proofs.Glue.{keeps_erred}
+use Rattle.html_tokenizer.proofs.Declarations.Doctypes.{keyword-absorbs}
+use Rattle.html_tokenizer.proofs.Errors.BeforeCharacters.{keeps_refused}
+use Rattle.html_tokenizer.proofs.Steps.Keeping.{keeps_erred}
 use Rattle.html_tokenizer.proofs.tokenizer.Tokenizer.after_doctype_keyword_state.Goals as goal
 
 pub returns-in_err-tell_fault : goal.returns-in_err-tell_fault

@@ -1,7 +1,7 @@
 use Rattle.std.proofs.Common.{true, ◌∙◌, sym}
 use Rattle.std.proofs.lemmas.Bool.{ne_eqb}
 use Rattle.html_tokens.specs.declared.states.State.TheVariants as state
-use Rattle.html_tokenizer.proofs.Doctypes.{between-white, second-double, second-single, between-says, between-other, doctype-took, doctype-failed}
+use Rattle.html_tokenizer.proofs.Declarations.Doctypes.{between-white, second-double, second-single, between-says, between-other, doctype-took, doctype-failed}
 use Rattle.html_tokenizer.proofs.tokenizer.Tokenizer.after_doctype_public_identifier_state.Goals as goal
 
 pub returns-then-is_white_space : goal.returns-then-is_white_space

@@ -1,5 +1,5 @@
 use Rattle.std.proofs.Common.{◌∙◌, sym}
-use Rattle.html_tokenizer.proofs.Doctypes.{after_system-white, after_system-other}
+use Rattle.html_tokenizer.proofs.Declarations.Doctypes.{after_system-white, after_system-other}
 use Rattle.html_tokenizer.proofs.tokenizer.Tokenizer.after_doctype_system_identifier_state.Goals as goal
 
 pub returns-then-is_white_space : goal.returns-then-is_white_space

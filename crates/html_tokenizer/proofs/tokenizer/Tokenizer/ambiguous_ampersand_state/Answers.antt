@@ -1,7 +1,7 @@
 use Rattle.std.specs.Prelude.{Some}
 use Rattle.html_tokenizer_parts.specs.declared.held_reference.Ampersand.TheVariants.{Unknown}
-use Rattle.html_tokenizer.proofs.Ambiguous.{unknown-ended}
-use Rattle.html_tokenizer.proofs.Erring.{keeps_refused}
+use Rattle.html_tokenizer.proofs.HeldReferences.Ambiguous.{unknown-ended}
+use Rattle.html_tokenizer.proofs.Errors.BeforeCharacters.{keeps_refused}
 use Rattle.html_tokenizer.proofs.tokenizer.Tokenizer.ambiguous_ampersand_state.Goals as goal
 
 pub returns-in_err-tell_if : goal.returns-in_err-tell_if

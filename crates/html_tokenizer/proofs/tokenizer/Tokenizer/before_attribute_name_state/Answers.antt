@@ -1,7 +1,7 @@
 use Rattle.std.proofs.Common.{◌∙◌, sym}
-use Rattle.html_tokenizer.proofs.Erring.{keeps_refused}
-use Rattle.html_tokenizer.proofs.Glue.{keeps_erred}
-use Rattle.html_tokenizer.proofs.AttributeNames.{before-absorbs}
+use Rattle.html_tokenizer.proofs.Errors.BeforeCharacters.{keeps_refused}
+use Rattle.html_tokenizer.proofs.Steps.Keeping.{keeps_erred}
+use Rattle.html_tokenizer.proofs.Attributes.Names.{before-absorbs}
 use Rattle.html_tokenizer.proofs.tokenizer.Tokenizer.before_attribute_name_state.Goals as goal
 
 pub returns-in_err-tell_fault : goal.returns-in_err-tell_fault

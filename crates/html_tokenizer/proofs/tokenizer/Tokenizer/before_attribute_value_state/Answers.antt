@@ -1,6 +1,6 @@
-use Rattle.html_tokenizer.proofs.Erring.{keeps_refused}
-use Rattle.html_tokenizer.proofs.Glue.{keeps_erred}
-use Rattle.html_tokenizer.proofs.AttributeValues.{value_before-absorbs}
+use Rattle.html_tokenizer.proofs.Errors.BeforeCharacters.{keeps_refused}
+use Rattle.html_tokenizer.proofs.Steps.Keeping.{keeps_erred}
+use Rattle.html_tokenizer.proofs.Attributes.Values.{value_before-absorbs}
 use Rattle.html_tokenizer.proofs.tokenizer.Tokenizer.before_attribute_value_state.Goals as goal
 
 pub returns-in_err-tell_if : goal.returns-in_err-tell_if

@@ -1,6 +1,6 @@
 use Rattle.std.proofs.Common.{◌∙◌, sym}
 use Rattle.std.proofs.lemmas.Bool.{ne_eqb}
-use Rattle.html_tokenizer.proofs.Doctypes.{before_identifier-white, double-opened, single-opened, before_identifier-other}
+use Rattle.html_tokenizer.proofs.Declarations.Doctypes.{before_identifier-white, double-opened, single-opened, before_identifier-other}
 use Rattle.html_tokenizer.proofs.tokenizer.Tokenizer.before_doctype_identifier_state.Goals as goal
 
 pub returns-then-is_white_space : goal.returns-then-is_white_space

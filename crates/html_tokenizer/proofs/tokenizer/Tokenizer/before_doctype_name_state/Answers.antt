@@ -2,7 +2,7 @@ use Rattle.std.proofs.Common.{false, ◌∙◌, sym}
 use Rattle.std.proofs.lemmas.Bool.{ne_eqb}
 use Rattle.html_tokens.specs.Doctypes.{forced}
 use Rattle.html_tokens.specs.declared.states.State.TheVariants as state
-use Rattle.html_tokenizer.proofs.Doctypes.{before_name-white, before_name-says, before_name-other, doctype-took, doctype-failed}
+use Rattle.html_tokenizer.proofs.Declarations.Doctypes.{before_name-white, before_name-says, before_name-other, doctype-took, doctype-failed}
 use Rattle.html_tokenizer.proofs.tokenizer.Tokenizer.before_doctype_name_state.Goals as goal
 
 pub returns-then-is_white_space : goal.returns-then-is_white_space

@@ -1,7 +1,7 @@
 use Rattle.std.proofs.Common.{nat_eq}
-use Rattle.html_tokenizer.proofs.Doctypes.{bogus-absorbs}
-use Rattle.html_tokenizer.proofs.Erring.{keeps_refused}
-use Rattle.html_tokenizer.proofs.Glue.{keeps_erred}
+use Rattle.html_tokenizer.proofs.Declarations.Doctypes.{bogus-absorbs}
+use Rattle.html_tokenizer.proofs.Errors.BeforeCharacters.{keeps_refused}
+use Rattle.html_tokenizer.proofs.Steps.Keeping.{keeps_erred}
 use Rattle.html_tokenizer.proofs.tokenizer.Tokenizer.bogus_doctype_state.Goals as goal
 
 pub returns-in_err-tell_null : goal.returns-in_err-tell_null

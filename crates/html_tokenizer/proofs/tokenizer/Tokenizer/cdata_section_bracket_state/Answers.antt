@@ -1,4 +1,4 @@
-use Rattle.html_tokenizer.proofs.CdataStates.{cdata-brackets, bracket-kept, bracket-failed}
+use Rattle.html_tokenizer.proofs.Text.CdataSections.{cdata-brackets, bracket-kept, bracket-failed}
 use Rattle.html_tokenizer.proofs.tokenizer.Tokenizer.cdata_section_bracket_state.Goals as goal
 
 pub returns-then-c-eq93 : goal.returns-then-c-eq93

@@ -1,4 +1,4 @@
-use Rattle.html_tokenizer.proofs.CdataStates.{cdata-ended, more-kept, brackets-kept, brackets-failed}
+use Rattle.html_tokenizer.proofs.Text.CdataSections.{cdata-ended, more-kept, brackets-kept, brackets-failed}
 use Rattle.html_tokenizer.proofs.tokenizer.Tokenizer.cdata_section_end_state.Goals as goal
 
 pub returns-then-c-eq62 : goal.returns-then-c-eq62

@@ -1,4 +1,4 @@
-use Rattle.html_tokenizer.proofs.CdataStates.{cdata-bracket, cdata-null_kept, cdata-kept}
+use Rattle.html_tokenizer.proofs.Text.CdataSections.{cdata-bracket, cdata-null_kept, cdata-kept}
 use Rattle.html_tokenizer.proofs.tokenizer.Tokenizer.cdata_section_state.Goals as goal
 
 pub returns-then-c-eq93 : goal.returns-then-c-eq93

@@ -1,4 +1,4 @@
-use Rattle.html_tokenizer.proofs.FrontAttributes.{ended-fresh, tag-closes}
+use Rattle.html_tokenizer.proofs.Fronts.Attributes.{ended-fresh, tag-closes}
 use Rattle.html_tokenizer.proofs.tokenizer.Tokenizer.close_tag.Goals as goal
 
 pub emit_tag-requires-clause-fresh : goal.emit_tag-requires-clause-fresh

@@ -2,7 +2,7 @@ use Rattle.std.specs.Str.{chars}
 use Rattle.std.proofs.lemmas.Bool.{ne_eqb}
 use Rattle.html_tokens.specs.declared.states.State.TheVariants as state
 use Rattle.html_tokenizer.specs.Steps.{a_fault}
-use Rattle.html_tokenizer.proofs.Comments.{end_bang-says, bang-other, comment-took, comment-failed}
+use Rattle.html_tokenizer.proofs.Declarations.Comments.{end_bang-says, bang-other, comment-took, comment-failed}
 use Rattle.html_tokenizer.proofs.tokenizer.Tokenizer.comment_end_bang_state.Goals as goal
 
 pub returns-in_err-emit_faulty_comment : goal.returns-in_err-emit_faulty_comment

@@ -1,5 +1,5 @@
 use Rattle.std.proofs.lemmas.Bool.{ne_eqb}
-use Rattle.html_tokenizer.proofs.Comments.{end_dash-dash, end_dash-other}
+use Rattle.html_tokenizer.proofs.Declarations.Comments.{end_dash-dash, end_dash-other}
 use Rattle.html_tokenizer.proofs.tokenizer.Tokenizer.comment_end_dash_state.Goals as goal
 
 pub returns-then-c-eq45 : goal.returns-then-c-eq45

@@ -1,6 +1,6 @@
-use Rattle.html_tokenizer.proofs.Comments.{end-absorbs}
-use Rattle.html_tokenizer.proofs.Erring.{keeps_refused}
-use Rattle.html_tokenizer.proofs.Glue.{keeps_erred}
+use Rattle.html_tokenizer.proofs.Declarations.Comments.{end-absorbs}
+use Rattle.html_tokenizer.proofs.Errors.BeforeCharacters.{keeps_refused}
+use Rattle.html_tokenizer.proofs.Steps.Keeping.{keeps_erred}
 use Rattle.html_tokenizer.proofs.tokenizer.Tokenizer.comment_end_state.Goals as goal
 
 pub returns-in_err-tell_if : goal.returns-in_err-tell_if

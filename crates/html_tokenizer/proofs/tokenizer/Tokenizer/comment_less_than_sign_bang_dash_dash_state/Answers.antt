@@ -1,4 +1,4 @@
-use Rattle.html_tokenizer.proofs.Comments.{less-than-dashes_kept}
+use Rattle.html_tokenizer.proofs.Declarations.Comments.{less-than-dashes_kept}
 use Rattle.html_tokenizer.proofs.tokenizer.Tokenizer.comment_less_than_sign_bang_dash_dash_state.Goals as goal
 
 pub returns : goal.returns

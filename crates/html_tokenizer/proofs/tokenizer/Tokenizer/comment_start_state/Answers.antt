@@ -2,7 +2,7 @@ use Rattle.std.proofs.Common.{sym}
 use Rattle.std.proofs.lemmas.Bool.{ne_eqb}
 use Rattle.html_tokens.specs.declared.states.State.TheVariants as state
 use Rattle.html_tokenizer.specs.Steps.{a_fault}
-use Rattle.html_tokenizer.proofs.Comments.{start-says, start-dash, start-other, comment-took, comment-failed}
+use Rattle.html_tokenizer.proofs.Declarations.Comments.{start-says, start-dash, start-other, comment-took, comment-failed}
 use Rattle.html_tokenizer.proofs.tokenizer.Tokenizer.comment_start_state.Goals as goal
 
 pub returns-then-c-eq45 : goal.returns-then-c-eq45

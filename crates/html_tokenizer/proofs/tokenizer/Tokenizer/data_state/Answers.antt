@@ -1,4 +1,4 @@
-use Rattle.html_tokenizer.proofs.TextStates.{data-opened, data-reference, data-null_kept, data-kept}
+use Rattle.html_tokenizer.proofs.Text.States.{data-opened, data-reference, data-null_kept, data-kept}
 use Rattle.html_tokenizer.proofs.tokenizer.Tokenizer.data_state.Goals as goal
 
 pub returns-then-c-eq60 : goal.returns-then-c-eq60

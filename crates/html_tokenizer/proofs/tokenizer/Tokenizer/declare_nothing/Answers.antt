@@ -1,4 +1,4 @@
-use Rattle.html_tokenizer.proofs.Declarations.{bogus-opened}
+use Rattle.html_tokenizer.proofs.Declarations.Openings.{bogus-opened}
 use Rattle.html_tokenizer.proofs.tokenizer.Tokenizer.declare_nothing.Goals as goal
 
 pub returns : goal.returns

@@ -1,5 +1,5 @@
 use Rattle.std.proofs.Common.{sym}
-use Rattle.html_tokenizer.proofs.ScriptStates.{word-letter_told, word-kept}
+use Rattle.html_tokenizer.proofs.RawText.Scripts.{word-letter_told, word-kept}
 use Rattle.html_tokenizer.proofs.tokenizer.Tokenizer.double_escape_start.Goals as goal
 
 pub returns-then-is_ascii_alphabetic : goal.returns-then-is_ascii_alphabetic

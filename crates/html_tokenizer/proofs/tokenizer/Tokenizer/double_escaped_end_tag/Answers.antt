@@ -1,4 +1,4 @@
-use Rattle.html_tokenizer.proofs.RawNames.{deep_end-kept, deep_end-failed}
+use Rattle.html_tokenizer.proofs.RawText.Names.{deep_end-kept, deep_end-failed}
 use Rattle.html_tokenizer.proofs.tokenizer.Tokenizer.double_escaped_end_tag.Goals as goal
 
 pub returns-in_err-tell_end_tag : goal.returns-in_err-tell_end_tag

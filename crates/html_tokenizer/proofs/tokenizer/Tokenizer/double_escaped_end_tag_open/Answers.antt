@@ -1,4 +1,4 @@
-use Rattle.html_tokenizer.proofs.RawNames.{deep_open-kept, deep_open-failed}
+use Rattle.html_tokenizer.proofs.RawText.Names.{deep_open-kept, deep_open-failed}
 use Rattle.html_tokenizer.proofs.tokenizer.Tokenizer.double_escaped_end_tag_open.Goals as goal
 
 pub returns-in_err-tell_two : goal.returns-in_err-tell_two

@@ -1,4 +1,4 @@
-use Rattle.html_tokenizer.proofs.RawEndTags.{deep_slash-told, deep-kept}
+use Rattle.html_tokenizer.proofs.RawText.EndTags.{deep_slash-told, deep-kept}
 use Rattle.html_tokenizer.proofs.tokenizer.Tokenizer.double_escaped_less_than_sign.Goals as goal
 
 pub returns-then-c-eq47 : goal.returns-then-c-eq47

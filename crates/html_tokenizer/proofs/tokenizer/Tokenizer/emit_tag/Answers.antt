@@ -2,10 +2,10 @@ use Rattle.std.proofs.Common.{◌∙◌, ap, ap₂}
 use Rattle.html_tokens.specs.Tags.{or_last}
 use Rattle.html_tokenizer.specs.declared.tokenizer.Tokenizer.{Tokenizer}
 use Rattle.html_tokens.specs.declared.token.Token.TheVariants.{TagToken}
-use Rattle.html_tokenizer.proofs.Errors.{refused-now, took-stays}
+use Rattle.html_tokenizer.proofs.Errors.RefusedErrors.{refused-now, took-stays}
 use Rattle.html_tokenizer.specs.Steps.{IsOfText, state_behind}
-use Rattle.html_tokenizer.proofs.Rises.{rises-own}
-use Rattle.html_tokenizer.proofs.TagEnds.{tag-failed, tag-refused, tag-ended}
+use Rattle.html_tokenizer.proofs.Errors.Rises.{rises-own}
+use Rattle.html_tokenizer.proofs.Tags.TagEnds.{tag-failed, tag-refused, tag-ended}
 use Rattle.html_tokenizer.proofs.tokenizer.Tokenizer.emit_tag.Goals as goal
 
 pub returns-in_err-tell_faulty_tag : goal.returns-in_err-tell_faulty_tag

@@ -1,4 +1,4 @@
-use Rattle.html_tokenizer.proofs.EndTextStates.{cdata-closes}
+use Rattle.html_tokenizer.proofs.EndOfInput.Text.{cdata-closes}
 use Rattle.html_tokenizer.proofs.tokenizer.Tokenizer.end_cdata_section.Goals as goal
 
 pub returns : goal.returns

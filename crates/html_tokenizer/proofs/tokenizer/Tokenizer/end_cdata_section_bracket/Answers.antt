@@ -1,4 +1,4 @@
-use Rattle.html_tokenizer.proofs.EndTextStates.{bracket-closes, bracket-untold}
+use Rattle.html_tokenizer.proofs.EndOfInput.Text.{bracket-closes, bracket-untold}
 use Rattle.html_tokenizer.proofs.tokenizer.Tokenizer.end_cdata_section_bracket.Goals as goal
 
 pub returns-in_err-tell_char : goal.returns-in_err-tell_char

@@ -1,4 +1,4 @@
-use Rattle.html_tokenizer.proofs.EndTextStates.{brackets-closes, brackets-untold}
+use Rattle.html_tokenizer.proofs.EndOfInput.Text.{brackets-closes, brackets-untold}
 use Rattle.html_tokenizer.proofs.tokenizer.Tokenizer.end_cdata_section_end.Goals as goal
 
 pub returns-in_err-tell_two : goal.returns-in_err-tell_two

@@ -1,4 +1,4 @@
-use Rattle.html_tokenizer.proofs.EndMarkup.{bogus-closes, comment-closes, start-closes}
+use Rattle.html_tokenizer.proofs.EndOfInput.Markup.{bogus-closes, comment-closes, start-closes}
 use Rattle.html_tokenizer.proofs.tokenizer.Tokenizer.end_comment_part.Goals as goal
 
 pub returns-in-BogusComment : goal.returns-in-BogusComment

@@ -1,4 +1,4 @@
-use Rattle.html_tokenizer.proofs.EndTextReferences.{data-closes}
+use Rattle.html_tokenizer.proofs.EndOfInput.References.{data-closes}
 use Rattle.html_tokenizer.proofs.tokenizer.Tokenizer.end_data_reference.Goals as goal
 
 pub returns : goal.returns

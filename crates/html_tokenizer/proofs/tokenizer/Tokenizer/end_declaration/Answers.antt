@@ -1,4 +1,4 @@
-use Rattle.html_tokenizer.proofs.EndMarkup.{declaration-closes}
+use Rattle.html_tokenizer.proofs.EndOfInput.Markup.{declaration-closes}
 use Rattle.html_tokenizer.proofs.tokenizer.Tokenizer.end_declaration.Goals as goal
 
 pub returns : goal.returns

@@ -1,4 +1,4 @@
-use Rattle.html_tokenizer.proofs.EndMarkup.{doctype_start-closes, doctype_name-closes, identifier-closes, junk-closes, doctype-closes}
+use Rattle.html_tokenizer.proofs.EndOfInput.Markup.{doctype_start-closes, doctype_name-closes, identifier-closes, junk-closes, doctype-closes}
 use Rattle.html_tokenizer.proofs.tokenizer.Tokenizer.end_doctype_part.Goals as goal
 
 pub returns-in-Doctype : goal.returns-in-Doctype

@@ -1,4 +1,4 @@
-use Rattle.html_tokenizer.proofs.EndTextStates.{end_open-closes}
+use Rattle.html_tokenizer.proofs.EndOfInput.Text.{end_open-closes}
 use Rattle.html_tokenizer.proofs.tokenizer.Tokenizer.end_end_tag_open.Goals as goal
 
 pub returns : goal.returns

@@ -1,8 +1,8 @@
 use Rattle.std.proofs.Common.{false}
 use Rattle.std.proofs.lemmas.Bool.{ne_eqb}
 use Rattle.html_tokens.specs.declared.states.State.TheVariants as state
-use Rattle.html_tokenizer.proofs.DoctypeKeywords.{keyword-says, keyword-white}
-use Rattle.html_tokenizer.proofs.Doctypes.{doctype-took, doctype-failed}
+use Rattle.html_tokenizer.proofs.Declarations.DoctypeKeywords.{keyword-says, keyword-white}
+use Rattle.html_tokenizer.proofs.Declarations.Doctypes.{doctype-took, doctype-failed}
 use Rattle.html_tokenizer.proofs.tokenizer.Tokenizer.end_keyword.Goals as goal
 
 pub returns-in_err-emit_doctype : goal.returns-in_err-emit_doctype

@@ -1,4 +1,4 @@
-use Rattle.html_tokenizer.proofs.EndMarkup.{keyword-closes}
+use Rattle.html_tokenizer.proofs.EndOfInput.Markup.{keyword-closes}
 use Rattle.html_tokenizer.proofs.tokenizer.Tokenizer.end_keyword_part.Goals as goal
 
 pub returns : goal.returns

@@ -1,4 +1,4 @@
-use Rattle.html_tokenizer.proofs.EndTextStates.{raw_name-closes, raw_name-untold}
+use Rattle.html_tokenizer.proofs.EndOfInput.Text.{raw_name-closes, raw_name-untold}
 use Rattle.html_tokenizer.proofs.tokenizer.Tokenizer.end_raw_end_tag_name.Goals as goal
 
 pub returns-in_err-tell_end_tag : goal.returns-in_err-tell_end_tag

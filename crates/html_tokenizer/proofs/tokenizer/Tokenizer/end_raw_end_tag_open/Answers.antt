@@ -1,4 +1,4 @@
-use Rattle.html_tokenizer.proofs.EndTextStates.{raw_end_open-closes, raw_end_open-untold}
+use Rattle.html_tokenizer.proofs.EndOfInput.Text.{raw_end_open-closes, raw_end_open-untold}
 use Rattle.html_tokenizer.proofs.tokenizer.Tokenizer.end_raw_end_tag_open.Goals as goal
 
 pub returns-in_err-tell_two : goal.returns-in_err-tell_two

@@ -1,5 +1,5 @@
 use Rattle.std.proofs.Common.{sym}
-use Rattle.html_tokenizer.proofs.EndTextStates.{raw_open-closes, raw_open-untold, deep-closes}
+use Rattle.html_tokenizer.proofs.EndOfInput.Text.{raw_open-closes, raw_open-untold, deep-closes}
 use Rattle.html_tokenizer.proofs.tokenizer.Tokenizer.end_raw_less_than_sign.Goals as goal
 
 pub returns-then-not-ends_at_tag : goal.returns-then-not-ends_at_tag

@@ -1,4 +1,4 @@
-use Rattle.html_tokenizer.proofs.EndTextReferences.{rcdata-closes}
+use Rattle.html_tokenizer.proofs.EndOfInput.References.{rcdata-closes}
 use Rattle.html_tokenizer.proofs.tokenizer.Tokenizer.end_rcdata_reference.Goals as goal
 
 pub returns : goal.returns

@@ -1,5 +1,5 @@
 use Rattle.std.proofs.Common.{◌∙◌, sym}
-use Rattle.html_tokenizer.proofs.HeldTextStates.{data-ended, data-ended_unknown, data-failed}
+use Rattle.html_tokenizer.proofs.HeldReferences.InText.{data-ended, data-ended_unknown, data-failed}
 use Rattle.html_tokenizer.proofs.tokenizer.Tokenizer.end_reference_in_data.Goals as goal
 
 pub returns-in_err-tell_reference : goal.returns-in_err-tell_reference

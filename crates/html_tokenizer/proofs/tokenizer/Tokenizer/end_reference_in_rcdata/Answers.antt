@@ -1,5 +1,5 @@
 use Rattle.std.proofs.Common.{◌∙◌, sym}
-use Rattle.html_tokenizer.proofs.HeldTextStates.{rcdata-ended, rcdata-ended_unknown, rcdata-failed}
+use Rattle.html_tokenizer.proofs.HeldReferences.InText.{rcdata-ended, rcdata-ended_unknown, rcdata-failed}
 use Rattle.html_tokenizer.proofs.tokenizer.Tokenizer.end_reference_in_rcdata.Goals as goal
 
 pub returns-in_err-tell_reference : goal.returns-in_err-tell_reference

@@ -2,8 +2,8 @@ use Rattle.std.specs.Prelude.{Some}
 use Rattle.std.proofs.Common.{◌∙◌, sym}
 use Rattle.html_tokenizer_parts.specs.declared.held_reference.Ampersand.TheVariants.{Held}
 use Rattle.html_tokenizer.specs.Rest.{rows_of}
-use Rattle.html_tokenizer.proofs.Erring.{keeps_refused}
-use Rattle.html_tokenizer.proofs.HeldValueStates.{value-erred, value-erred_unknown, value-pushed}
+use Rattle.html_tokenizer.proofs.Errors.BeforeCharacters.{keeps_refused}
+use Rattle.html_tokenizer.proofs.HeldReferences.InValues.{value-erred, value-erred_unknown, value-pushed}
 use Rattle.html_tokenizer.proofs.tokenizer.Tokenizer.end_reference_in_value.Goals as goal
 
 pub returns-in_err-tell_reference_faults : goal.returns-in_err-tell_reference_faults

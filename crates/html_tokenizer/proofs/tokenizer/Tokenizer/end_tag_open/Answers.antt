@@ -1,4 +1,4 @@
-use Rattle.html_tokenizer.proofs.EndTextStates.{open-closes}
+use Rattle.html_tokenizer.proofs.EndOfInput.Text.{open-closes}
 use Rattle.html_tokenizer.proofs.tokenizer.Tokenizer.end_tag_open.Goals as goal
 
 pub returns : goal.returns

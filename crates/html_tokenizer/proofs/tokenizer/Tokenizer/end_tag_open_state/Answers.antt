@@ -1,7 +1,7 @@
 use Rattle.std.proofs.Common.{◌∙◌, refl, sym}
 use Rattle.std.proofs.lemmas.Bool.{ne_eqb}
 use Rattle.html_tokens.specs.declared.tags.TagKind.TheVariants.{EndTag}
-use Rattle.html_tokenizer.proofs.Opens.{end-letter, end-failed, end-nothing, end-bogus_kept}
+use Rattle.html_tokenizer.proofs.Tags.Opens.{end-letter, end-failed, end-nothing, end-bogus_kept}
 use Rattle.html_tokenizer.proofs.tokenizer.Tokenizer.end_tag_open_state.Goals as goal
 
 pub returns-then-is_ascii_alphabetic : goal.returns-then-is_ascii_alphabetic

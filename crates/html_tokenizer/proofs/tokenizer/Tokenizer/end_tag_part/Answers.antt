@@ -1,4 +1,4 @@
-use Rattle.html_tokenizer.proofs.EndTextTags.{tag-closes}
+use Rattle.html_tokenizer.proofs.EndOfInput.Tags.{tag-closes}
 use Rattle.html_tokenizer.proofs.tokenizer.Tokenizer.end_tag_part.Goals as goal
 
 pub returns : goal.returns

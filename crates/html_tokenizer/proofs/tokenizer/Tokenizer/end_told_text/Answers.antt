@@ -1,4 +1,4 @@
-use Rattle.html_tokenizer.proofs.EndTextStates.{told-closes}
+use Rattle.html_tokenizer.proofs.EndOfInput.Text.{told-closes}
 use Rattle.html_tokenizer.proofs.tokenizer.Tokenizer.end_told_text.Goals as goal
 
 pub returns : goal.returns

@@ -1,4 +1,4 @@
-use Rattle.html_tokenizer.proofs.Ambiguous.{unknown-closes}
+use Rattle.html_tokenizer.proofs.HeldReferences.Ambiguous.{unknown-closes}
 use Rattle.html_tokenizer.proofs.tokenizer.Tokenizer.end_unknown.Goals as goal
 
 pub returns : goal.returns

@@ -1,4 +1,4 @@
-use Rattle.html_tokenizer.proofs.EndTextReferences.{value-closes}
+use Rattle.html_tokenizer.proofs.EndOfInput.References.{value-closes}
 use Rattle.html_tokenizer.proofs.tokenizer.Tokenizer.end_value_reference.Goals as goal
 
 pub returns : goal.returns

@@ -1,4 +1,4 @@
-use Rattle.html_tokenizer.proofs.ScriptStates.{start-dash_told, start-kept}
+use Rattle.html_tokenizer.proofs.RawText.Scripts.{start-dash_told, start-kept}
 use Rattle.html_tokenizer.proofs.tokenizer.Tokenizer.escape_start.Goals as goal
 
 pub returns-then-c-eq45 : goal.returns-then-c-eq45

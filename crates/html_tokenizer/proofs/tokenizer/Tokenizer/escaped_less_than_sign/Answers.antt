@@ -1,5 +1,5 @@
 use Rattle.std.proofs.Common.{sym}
-use Rattle.html_tokenizer.proofs.RawEndTags.{letter-told}
+use Rattle.html_tokenizer.proofs.RawText.EndTags.{letter-told}
 use Rattle.html_tokenizer.proofs.tokenizer.Tokenizer.escaped_less_than_sign.Goals as goal
 
 pub returns-then-is_ascii_alphabetic : goal.returns-then-is_ascii_alphabetic

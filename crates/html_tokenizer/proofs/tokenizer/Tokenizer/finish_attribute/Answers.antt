@@ -1,6 +1,6 @@
 use Rattle.std.proofs.Common.{◌≡◌, ◌∙◌, false, sym, ap}
 use Rattle.html_tokens.specs.Tags.{has_attribute}
-use Rattle.html_tokenizer.proofs.Finished.{plain, added}
+use Rattle.html_tokenizer.proofs.Attributes.Finished.{plain, added}
 use Rattle.html_tokenizer.proofs.tokenizer.Tokenizer.finish_attribute.Goals as goal
 
 pub returns-clause-ok : goal.returns-clause-ok

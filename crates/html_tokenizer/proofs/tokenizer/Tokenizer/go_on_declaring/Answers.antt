@@ -1,5 +1,5 @@
 use Rattle.std.proofs.Common.{◌∙◌, sym}
-use Rattle.html_tokenizer.proofs.Declarations.{part-more, declaration-push, nothing-begun}
+use Rattle.html_tokenizer.proofs.Declarations.Openings.{part-more, declaration-push, nothing-begun}
 use Rattle.html_tokenizer.proofs.tokenizer.Tokenizer.go_on_declaring.Goals as goal
 
 pub push-requires : goal.push-requires

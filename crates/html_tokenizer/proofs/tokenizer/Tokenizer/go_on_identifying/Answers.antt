@@ -1,5 +1,5 @@
 use Rattle.std.proofs.Common.{◌∙◌, sym}
-use Rattle.html_tokenizer.proofs.DoctypeKeywords.{identifier-more, keyword-push, keyword-other}
+use Rattle.html_tokenizer.proofs.Declarations.DoctypeKeywords.{identifier-more, keyword-push, keyword-other}
 use Rattle.html_tokenizer.proofs.tokenizer.Tokenizer.go_on_identifying.Goals as goal
 
 pub push-requires : goal.push-requires

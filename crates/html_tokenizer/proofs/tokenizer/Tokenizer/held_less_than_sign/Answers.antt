@@ -1,4 +1,4 @@
-use Rattle.html_tokenizer.proofs.RawEndTags.{slash-taken, less-kept, less-failed}
+use Rattle.html_tokenizer.proofs.RawText.EndTags.{slash-taken, less-kept, less-failed}
 use Rattle.html_tokenizer.proofs.tokenizer.Tokenizer.held_less_than_sign.Goals as goal
 
 pub returns-then-c-eq47 : goal.returns-then-c-eq47

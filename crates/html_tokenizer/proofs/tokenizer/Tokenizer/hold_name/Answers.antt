@@ -1,5 +1,5 @@
 use Rattle.std.proofs.Common.{◌∙◌, ◌∷◌, ◌++◌, [], ap}
-use Rattle.html_tokenizer.proofs.FrontReferences.{holds-name}
+use Rattle.html_tokenizer.proofs.Fronts.References.{holds-name}
 use Rattle.html_tokenizer_parts.proofs.HeldFronts.{front-if}
 use Rattle.html_tokenizer.proofs.tokenizer.Tokenizer.hold_name.Goals as goal
 

@@ -1,5 +1,5 @@
 use Rattle.std.proofs.Common.{◌∙◌, sym}
-use Rattle.html_tokenizer.proofs.Declarations.{comment-opened, doctype-opened}
+use Rattle.html_tokenizer.proofs.Declarations.Openings.{comment-opened, doctype-opened}
 use Rattle.html_tokenizer.proofs.tokenizer.Tokenizer.markup_declaration_open_state.Goals as goal
 
 pub returns-then-becomes : goal.returns-then-becomes

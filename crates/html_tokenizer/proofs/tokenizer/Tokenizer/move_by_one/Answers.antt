@@ -1,5 +1,5 @@
 use Rattle.std.proofs.Common.{refl}
-use Rattle.html_tokenizer.proofs.Feeding.{moved-nowhere, moved-one}
+use Rattle.html_tokenizer.proofs.Feeds.Pieces.{moved-nowhere, moved-one}
 use Rattle.html_tokenizer.proofs.tokenizer.Tokenizer.move_by_one.Goals as goal
 
 pub returns-in-Some : goal.returns-in-Some

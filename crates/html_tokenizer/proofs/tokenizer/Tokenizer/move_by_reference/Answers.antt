@@ -1,7 +1,7 @@
 use Rattle.std.proofs.Common.{refl}
-use Rattle.html_tokenizer.proofs.Fronts.{heeding, moved-front, not-fronted, skip-cut}
-use Rattle.html_tokenizer.proofs.FrontRuns.{data-stopped}
-use Rattle.html_tokenizer.proofs.FrontReferences.{reference-shorter, reference-taken}
+use Rattle.html_tokenizer.proofs.Fronts.Moves.{heeding, moved-front, not-fronted, skip-cut}
+use Rattle.html_tokenizer.proofs.Fronts.Runs.{data-stopped}
+use Rattle.html_tokenizer.proofs.Fronts.References.{reference-shorter, reference-taken}
 use Rattle.html_tokenizer.proofs.tokenizer.Tokenizer.move_by_reference.Goals as goal
 
 pub skip-requires : goal.skip-requires

@@ -1,7 +1,7 @@
 use Rattle.std.proofs.Common.{refl}
-use Rattle.html_tokenizer.proofs.Feeding.{moved-run}
-use Rattle.html_tokenizer.proofs.FrontRuns.{run-at, run-comes_at, run-cut}
-use Rattle.html_tokenizer.proofs.Fronts.{heeding}
+use Rattle.html_tokenizer.proofs.Feeds.Pieces.{moved-run}
+use Rattle.html_tokenizer.proofs.Fronts.Runs.{run-at, run-comes_at, run-cut}
+use Rattle.html_tokenizer.proofs.Fronts.Moves.{heeding}
 use Rattle.html_tokenizer.proofs.tokenizer.Tokenizer.move_by_run.Goals as goal
 
 pub skip-requires : goal.skip-requires

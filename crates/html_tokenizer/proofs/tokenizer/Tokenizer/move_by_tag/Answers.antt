@@ -1,6 +1,6 @@
 use Rattle.std.proofs.Common.{◌<◌, length, refl, subst, sym}
 use Rattle.html_tokenizer.specs.Fronts.{TakesFront}
-use Rattle.html_tokenizer.proofs.Fronts.{heeding, moved-front, not-fronted, skip-cut}
+use Rattle.html_tokenizer.proofs.Fronts.Moves.{heeding, moved-front, not-fronted, skip-cut}
 use Rattle.html_tokenizer.proofs.tokenizer.Tokenizer.move_by_tag.Goals as goal
 
 pub skip-requires : goal.skip-requires

@@ -1,6 +1,6 @@
 use Rattle.std.proofs.Common.{refl}
-use Rattle.html_tokenizer.proofs.Feeding.{moved-nowhere, moved-one}
-use Rattle.html_tokenizer.proofs.FrontRuns.{in-tag-still, tag-passes}
+use Rattle.html_tokenizer.proofs.Feeds.Pieces.{moved-nowhere, moved-one}
+use Rattle.html_tokenizer.proofs.Fronts.Runs.{in-tag-still, tag-passes}
 use Rattle.html_tokenizer.proofs.tokenizer.Tokenizer.move_in_tag.Goals as goal
 
 pub close_tag-requires-clause-at : goal.close_tag-requires-clause-at

@@ -1,6 +1,6 @@
 use Rattle.std.proofs.Common.{ap, refl}
 use Rattle.html_tokenizer_parts.specs.Words.{FittingEnd}
-use Rattle.html_tokenizer.proofs.Texts.{is-new}
+use Rattle.html_tokenizer.proofs.Text.NothingHeld.{is-new}
 use Rattle.html_tokenizer.proofs.tokenizer.Tokenizer.new.Goals as goal
 
 pub returns-clause-reads : goal.returns-clause-reads

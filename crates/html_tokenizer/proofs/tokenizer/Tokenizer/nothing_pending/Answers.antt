@@ -1,6 +1,6 @@
 use Rattle.std.proofs.Common.{◌∙◌, ap, sym}
 use Rattle.std.specs.Prelude.{not}
-use Rattle.html_tokenizer.proofs.Texts.{reads-text}
+use Rattle.html_tokenizer.proofs.Text.NothingHeld.{reads-text}
 use Rattle.html_tokenizer.proofs.tokenizer.Tokenizer.nothing_pending.Goals as goal
 
 pub returns-clause-reads : goal.returns-clause-reads

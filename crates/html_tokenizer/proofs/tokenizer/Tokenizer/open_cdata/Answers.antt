@@ -1,5 +1,5 @@
 use Rattle.std.proofs.Common.{◌∙◌, sym}
-use Rattle.html_tokenizer.proofs.Declarations.{cdata-opened}
+use Rattle.html_tokenizer.proofs.Declarations.Openings.{cdata-opened}
 use Rattle.html_tokenizer.proofs.tokenizer.Tokenizer.open_cdata.Goals as goal
 
 pub returns-then-adjusted_current_node_present_but_not_in_html_namespace : goal.returns-then-adjusted_current_node_present_but_not_in_html_namespace

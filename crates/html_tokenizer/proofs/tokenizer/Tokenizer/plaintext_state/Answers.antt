@@ -1,4 +1,4 @@
-use Rattle.html_tokenizer.proofs.TextStates.{plaintext-kept}
+use Rattle.html_tokenizer.proofs.Text.States.{plaintext-kept}
 use Rattle.html_tokenizer.proofs.tokenizer.Tokenizer.plaintext_state.Goals as goal
 
 pub returns : goal.returns

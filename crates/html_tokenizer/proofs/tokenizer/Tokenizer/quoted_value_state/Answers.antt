@@ -1,6 +1,6 @@
-use Rattle.html_tokenizer.proofs.Erring.{keeps_refused}
-use Rattle.html_tokenizer.proofs.Glue.{keeps_erred}
-use Rattle.html_tokenizer.proofs.AttributeValues.{quoted-absorbs}
+use Rattle.html_tokenizer.proofs.Errors.BeforeCharacters.{keeps_refused}
+use Rattle.html_tokenizer.proofs.Steps.Keeping.{keeps_erred}
+use Rattle.html_tokenizer.proofs.Attributes.Values.{quoted-absorbs}
 use Rattle.html_tokenizer.proofs.tokenizer.Tokenizer.quoted_value_state.Goals as goal
 
 pub returns-in_err-tell_null : goal.returns-in_err-tell_null

@@ -1,5 +1,5 @@
 use Rattle.std.proofs.Common.{sym}
-use Rattle.html_tokenizer.proofs.RawStates.{raw-reference, raw-amp_told}
+use Rattle.html_tokenizer.proofs.RawText.States.{raw-reference, raw-amp_told}
 use Rattle.html_tokenizer.proofs.tokenizer.Tokenizer.raw_ampersand.Goals as goal
 
 pub returns-then-has_references : goal.returns-then-has_references

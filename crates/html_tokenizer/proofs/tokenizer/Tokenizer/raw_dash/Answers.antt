@@ -1,4 +1,4 @@
-use Rattle.html_tokenizer.proofs.RawStates.{raw-escaped_dash, raw-dash_told}
+use Rattle.html_tokenizer.proofs.RawText.States.{raw-escaped_dash, raw-dash_told}
 use Rattle.html_tokenizer.proofs.tokenizer.Tokenizer.raw_dash.Goals as goal
 
 pub returns-in-ScriptDataEscaped : goal.returns-in-ScriptDataEscaped

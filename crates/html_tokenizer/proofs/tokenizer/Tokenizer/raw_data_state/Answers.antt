@@ -1,4 +1,4 @@
-use Rattle.html_tokenizer.proofs.RawStates.{raw-kept}
+use Rattle.html_tokenizer.proofs.RawText.States.{raw-kept}
 use Rattle.html_tokenizer.proofs.tokenizer.Tokenizer.raw_data_state.Goals as goal
 
 pub returns : goal.returns

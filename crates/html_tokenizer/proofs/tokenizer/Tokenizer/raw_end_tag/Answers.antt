@@ -1,5 +1,5 @@
 use Rattle.std.proofs.Common.{◌∙◌}
-use Rattle.html_tokenizer.proofs.RawEnds.{end_tag-kept}
+use Rattle.html_tokenizer.proofs.RawText.FittingEnds.{end_tag-kept}
 use Rattle.html_tokenizer.proofs.tokenizer.Tokenizer.raw_end_tag.Goals as goal
 
 pub returns : goal.returns

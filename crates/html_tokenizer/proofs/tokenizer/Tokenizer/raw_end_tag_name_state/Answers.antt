@@ -1,5 +1,5 @@
 use Rattle.std.proofs.Common.{sym}
-use Rattle.html_tokenizer.proofs.RawNames.{letter-taken, unfit-kept, unfit-failed}
+use Rattle.html_tokenizer.proofs.RawText.Names.{letter-taken, unfit-kept, unfit-failed}
 use Rattle.html_tokenizer.proofs.tokenizer.Tokenizer.raw_end_tag_name_state.Goals as goal
 
 pub returns-then-goes_on_by : goal.returns-then-goes_on_by

@@ -1,5 +1,5 @@
 use Rattle.std.proofs.Common.{sym, inr}
-use Rattle.html_tokenizer.proofs.RawEndTags.{name-taken, no_name-kept, no_name-failed}
+use Rattle.html_tokenizer.proofs.RawText.EndTags.{name-taken, no_name-kept, no_name-failed}
 use Rattle.html_tokenizer.proofs.tokenizer.Tokenizer.raw_end_tag_open_state.Goals as goal
 
 pub returns-then-begins_with : goal.returns-then-begins_with

@@ -1,5 +1,5 @@
 use Rattle.std.proofs.Common.{sym}
-use Rattle.html_tokenizer.proofs.RawStates.{raw-opened, raw-open_told}
+use Rattle.html_tokenizer.proofs.RawText.States.{raw-opened, raw-open_told}
 use Rattle.html_tokenizer.proofs.tokenizer.Tokenizer.raw_less_than_sign.Goals as goal
 
 pub returns-then-ends_at_tag : goal.returns-then-ends_at_tag

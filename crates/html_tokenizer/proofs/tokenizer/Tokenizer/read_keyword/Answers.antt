@@ -1,5 +1,5 @@
 use Rattle.std.proofs.Common.{◌∙◌, sym}
-use Rattle.html_tokenizer.proofs.DoctypeKeywords.{public-found, system-found}
+use Rattle.html_tokenizer.proofs.Declarations.DoctypeKeywords.{public-found, system-found}
 use Rattle.html_tokenizer.proofs.tokenizer.Tokenizer.read_keyword.Goals as goal
 
 pub returns-then-becomes : goal.returns-then-becomes

@@ -1,6 +1,6 @@
 use Rattle.std.proofs.Common.{◌∙◌, sym}
 use Rattle.html_tokenizer.specs.Rest.{rows_of}
-use Rattle.html_tokenizer.proofs.HeldGlue.{took-held}
+use Rattle.html_tokenizer.proofs.HeldReferences.Holding.{took-held}
 use Rattle.html_tokenizer_parts.proofs.HeldFronts.{goes_on-held}
 use Rattle.html_tokenizer.proofs.tokenizer.Tokenizer.reference_state.Goals as goal
 

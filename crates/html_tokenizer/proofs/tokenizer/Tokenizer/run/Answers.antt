@@ -1,4 +1,4 @@
-use Rattle.html_tokenizer.proofs.Feeding.{started, going-on, fed-whole, fed-script, fed-encoding, not-fed}
+use Rattle.html_tokenizer.proofs.Feeds.Pieces.{started, going-on, fed-whole, fed-script, fed-encoding, not-fed}
 use Rattle.html_tokenizer.proofs.tokenizer.Tokenizer.run.Goals as goal
 
 pub returns-in_err-move_on : goal.returns-in_err-move_on

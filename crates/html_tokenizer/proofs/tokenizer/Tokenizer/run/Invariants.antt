@@ -1,5 +1,5 @@
 use Rattle.std.proofs.Common.{length}
-use Rattle.html_tokenizer.proofs.Feeding.{Going}
+use Rattle.html_tokenizer.proofs.Feeds.Pieces.{Going}
 use Rattle.html_tokenizer.proofs.tokenizer.Tokenizer.run.Given as goal
 
 abbrev pub invariant-loop-letters : goal.invariant-loop-letters

@@ -1,5 +1,5 @@
 use Rattle.std.proofs.Common.{sym}
-use Rattle.html_tokenizer.proofs.ScriptStates.{end_word-letter_told, end_word-kept}
+use Rattle.html_tokenizer.proofs.RawText.Scripts.{end_word-letter_told, end_word-kept}
 use Rattle.html_tokenizer.proofs.tokenizer.Tokenizer.script_data_double_escape_end_state.Goals as goal
 
 pub returns-then-is_ascii_alphabetic : goal.returns-then-is_ascii_alphabetic

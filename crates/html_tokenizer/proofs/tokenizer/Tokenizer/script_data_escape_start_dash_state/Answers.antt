@@ -1,4 +1,4 @@
-use Rattle.html_tokenizer.proofs.ScriptStates.{dash-dash_told, dash-kept}
+use Rattle.html_tokenizer.proofs.RawText.Scripts.{dash-dash_told, dash-kept}
 use Rattle.html_tokenizer.proofs.tokenizer.Tokenizer.script_data_escape_start_dash_state.Goals as goal
 
 pub returns-then-c-eq45 : goal.returns-then-c-eq45

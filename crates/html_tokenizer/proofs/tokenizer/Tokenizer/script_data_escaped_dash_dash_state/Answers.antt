@@ -1,4 +1,4 @@
-use Rattle.html_tokenizer.proofs.ScriptStates.{dashes-dash_told, dashes-closed, dashes-kept}
+use Rattle.html_tokenizer.proofs.RawText.Scripts.{dashes-dash_told, dashes-closed, dashes-kept}
 use Rattle.html_tokenizer.proofs.tokenizer.Tokenizer.script_data_escaped_dash_dash_state.Goals as goal
 
 pub returns-then-c-eq45 : goal.returns-then-c-eq45

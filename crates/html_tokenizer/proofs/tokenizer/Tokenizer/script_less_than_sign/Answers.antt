@@ -1,4 +1,4 @@
-use Rattle.html_tokenizer.proofs.RawEndTags.{bang-told}
+use Rattle.html_tokenizer.proofs.RawText.EndTags.{bang-told}
 use Rattle.html_tokenizer.proofs.tokenizer.Tokenizer.script_less_than_sign.Goals as goal
 
 pub returns-then-c-eq33 : goal.returns-then-c-eq33

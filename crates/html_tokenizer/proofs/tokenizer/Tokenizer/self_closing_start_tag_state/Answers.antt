@@ -1,6 +1,6 @@
-use Rattle.html_tokenizer.proofs.Erring.{keeps_refused}
-use Rattle.html_tokenizer.proofs.Glue.{keeps_erred}
-use Rattle.html_tokenizer.proofs.TagStates.{slash-absorbs}
+use Rattle.html_tokenizer.proofs.Errors.BeforeCharacters.{keeps_refused}
+use Rattle.html_tokenizer.proofs.Steps.Keeping.{keeps_erred}
+use Rattle.html_tokenizer.proofs.Tags.States.{slash-absorbs}
 use Rattle.html_tokenizer.proofs.tokenizer.Tokenizer.self_closing_start_tag_state.Goals as goal
 
 pub returns-in_err-tell_if : goal.returns-in_err-tell_if

@@ -1,6 +1,6 @@
 use Rattle.std.proofs.Common.{refl}
 use Rattle.std.proofs.lemmas.Bool.{and_parts}
-use Rattle.html_tokenizer.proofs.Texts.{reads-text}
+use Rattle.html_tokenizer.proofs.Text.NothingHeld.{reads-text}
 use Rattle.html_tokenizer.proofs.tokenizer.Tokenizer.set_plaintext_state.Goals as goal
 
 pub returns-clause-reads : goal.returns-clause-reads

@@ -1,6 +1,6 @@
-use Rattle.html_tokenizer.proofs.Erring.{keeps_refused}
-use Rattle.html_tokenizer.proofs.Glue.{keeps_erred}
-use Rattle.html_tokenizer.proofs.TagStates.{tag_name-absorbs}
+use Rattle.html_tokenizer.proofs.Errors.BeforeCharacters.{keeps_refused}
+use Rattle.html_tokenizer.proofs.Steps.Keeping.{keeps_erred}
+use Rattle.html_tokenizer.proofs.Tags.States.{tag_name-absorbs}
 use Rattle.html_tokenizer.proofs.tokenizer.Tokenizer.tag_name_state.Goals as goal
 
 pub returns-in_err-tell_null : goal.returns-in_err-tell_null

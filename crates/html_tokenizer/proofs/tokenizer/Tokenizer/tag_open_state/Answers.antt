@@ -1,6 +1,6 @@
 use Rattle.std.proofs.Common.{◌∙◌, sym}
 use Rattle.std.proofs.lemmas.Bool.{ne_eqb}
-use Rattle.html_tokenizer.proofs.Opens.{open-slash, open-mark, open-letter, open-bogus, is-text, open-text_kept, open-text_failed}
+use Rattle.html_tokenizer.proofs.Tags.Opens.{open-slash, open-mark, open-letter, open-bogus, is-text, open-text_kept, open-text_failed}
 use Rattle.html_tokenizer.proofs.tokenizer.Tokenizer.tag_open_state.Goals as goal
 
 pub returns-then-c-eq47 : goal.returns-then-c-eq47

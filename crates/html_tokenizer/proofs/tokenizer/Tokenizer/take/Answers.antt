@@ -1,4 +1,4 @@
-use Rattle.html_tokenizer.proofs.Going.{on-failed}
+use Rattle.html_tokenizer.proofs.Steps.Going.{on-failed}
 use Rattle.html_tokenizer.proofs.tokenizer.Tokenizer.take.Goals as goal
 
 pub returns-in_err-take_on : goal.returns-in_err-take_on

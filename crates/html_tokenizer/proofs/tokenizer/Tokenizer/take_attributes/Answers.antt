@@ -1,5 +1,5 @@
 use Rattle.std.proofs.Common.{◌∙◌, refl}
-use Rattle.html_tokenizer.proofs.FrontAttributes.{attributes-begin, attributes-more}
+use Rattle.html_tokenizer.proofs.Fronts.Attributes.{attributes-begin, attributes-more}
 use Rattle.html_tokenizer.proofs.tokenizer.Tokenizer.take_attributes.Goals as goal
 
 pub loop-name-init : goal.loop-name-init

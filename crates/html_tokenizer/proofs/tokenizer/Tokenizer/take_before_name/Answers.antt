@@ -1,5 +1,5 @@
 use Rattle.std.proofs.Common.{◌∙◌, sym}
-use Rattle.html_tokenizer.proofs.AttributeNames.{before-space, before-slash, before-close, before-name}
+use Rattle.html_tokenizer.proofs.Attributes.Names.{before-space, before-slash, before-close, before-name}
 use Rattle.html_tokenizer.proofs.tokenizer.Tokenizer.take_before_name.Goals as goal
 
 pub returns-then-is_white_space : goal.returns-then-is_white_space

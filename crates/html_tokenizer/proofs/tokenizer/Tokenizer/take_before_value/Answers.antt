@@ -1,5 +1,5 @@
 use Rattle.std.proofs.Common.{◌∙◌, sym}
-use Rattle.html_tokenizer.proofs.AttributeValues.{value_before-space, value_before-close, value_before-quote, value_before-apostrophe, value_before-other}
+use Rattle.html_tokenizer.proofs.Attributes.Values.{value_before-space, value_before-close, value_before-quote, value_before-apostrophe, value_before-other}
 use Rattle.html_tokenizer.proofs.tokenizer.Tokenizer.take_before_value.Goals as goal
 
 pub returns-then-is_white_space : goal.returns-then-is_white_space

@@ -4,7 +4,7 @@ use Rattle.std.proofs.lemmas.Bool.{ne_eqb}
 use Rattle.html_tokens.specs.declared.states.State.TheVariants as state
 use Rattle.html_tokens.specs.Item.{Slight}
 use Rattle.html_tokenizer.specs.Steps.{owed_for}
-use Rattle.html_tokenizer.proofs.Comments.{end_state-says, end-bang_held, end-dash_more, end-other, comment-took_well, comment-failed}
+use Rattle.html_tokenizer.proofs.Declarations.Comments.{end_state-says, end-bang_held, end-dash_more, end-other, comment-took_well, comment-failed}
 use Rattle.html_tokenizer.proofs.tokenizer.Tokenizer.take_behind_dashes.Goals as goal
 
 pub returns-in_err-emit_comment : goal.returns-in_err-emit_comment

@@ -1,4 +1,4 @@
-use Rattle.html_tokenizer.proofs.Doctypes.{doctype-other}
+use Rattle.html_tokenizer.proofs.Declarations.Doctypes.{doctype-other}
 use Rattle.html_tokenizer.proofs.tokenizer.Tokenizer.take_behind_doctype.Goals as goal
 
 pub returns : goal.returns

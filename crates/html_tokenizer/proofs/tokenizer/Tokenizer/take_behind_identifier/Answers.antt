@@ -1,4 +1,4 @@
-use Rattle.html_tokenizer.proofs.Doctypes.{after_public-other}
+use Rattle.html_tokenizer.proofs.Declarations.Doctypes.{after_public-other}
 use Rattle.html_tokenizer.proofs.tokenizer.Tokenizer.take_behind_identifier.Goals as goal
 
 pub returns-in-Public : goal.returns-in-Public

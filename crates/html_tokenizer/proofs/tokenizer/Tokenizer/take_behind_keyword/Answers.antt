@@ -1,4 +1,4 @@
-use Rattle.html_tokenizer.proofs.Doctypes.{keyword-other}
+use Rattle.html_tokenizer.proofs.Declarations.Doctypes.{keyword-other}
 use Rattle.html_tokenizer.proofs.tokenizer.Tokenizer.take_behind_keyword.Goals as goal
 
 pub returns : goal.returns

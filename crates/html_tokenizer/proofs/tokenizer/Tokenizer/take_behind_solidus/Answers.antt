@@ -1,4 +1,4 @@
-use Rattle.html_tokenizer.proofs.TagStates.{slash-close, slash-other}
+use Rattle.html_tokenizer.proofs.Tags.States.{slash-close, slash-other}
 use Rattle.html_tokenizer.proofs.tokenizer.Tokenizer.take_behind_solidus.Goals as goal
 
 pub returns-then-c-eq62 : goal.returns-then-c-eq62

@@ -1,4 +1,4 @@
-use Rattle.html_tokenizer.proofs.AttributeValues.{value_behind}
+use Rattle.html_tokenizer.proofs.Attributes.Values.{value_behind}
 use Rattle.html_tokenizer.proofs.tokenizer.Tokenizer.take_behind_value.Goals as goal
 
 pub returns : goal.returns

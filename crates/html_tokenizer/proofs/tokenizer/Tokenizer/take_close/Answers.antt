@@ -1,4 +1,4 @@
-use Rattle.html_tokenizer.proofs.Taking.{passed, not-passed, error-refused}
+use Rattle.html_tokenizer.proofs.Feeds.Characters.{passed, not-passed, error-refused}
 use Rattle.html_tokenizer.proofs.tokenizer.Tokenizer.take_close.Goals as goal
 
 pub returns-in_err-tell_forbidden : goal.returns-in_err-tell_forbidden

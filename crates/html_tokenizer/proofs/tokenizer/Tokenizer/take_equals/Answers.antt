@@ -1,6 +1,6 @@
 use Rattle.std.proofs.lemmas.Result.{IfOk-weaker}
 use Rattle.html_tokens.specs.declared.states.State.TheVariants as state
-use Rattle.html_tokenizer.proofs.FrontAttributes.{none-taken, equals-front}
+use Rattle.html_tokenizer.proofs.Fronts.Attributes.{none-taken, equals-front}
 use Rattle.html_tokenizer.proofs.tokenizer.Tokenizer.take_equals.Goals as goal
 
 pub returns-in_default-clause-ok : goal.returns-in_default-clause-ok

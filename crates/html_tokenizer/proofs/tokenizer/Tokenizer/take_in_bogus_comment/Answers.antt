@@ -1,7 +1,7 @@
 use Rattle.std.proofs.lemmas.Bool.{ne_eqb}
 use Rattle.html_tokens.specs.declared.states.State.TheVariants as state
 use Rattle.html_tokenizer.specs.Steps.{a_fault}
-use Rattle.html_tokenizer.proofs.Comments.{bogus-says, bogus-push, comment-took, comment-failed}
+use Rattle.html_tokenizer.proofs.Declarations.Comments.{bogus-says, bogus-push, comment-took, comment-failed}
 use Rattle.html_tokenizer.proofs.tokenizer.Tokenizer.take_in_bogus_comment.Goals as goal
 
 pub returns-in_err-emit_bogus_comment : goal.returns-in_err-emit_bogus_comment

@@ -1,7 +1,7 @@
 use Rattle.std.proofs.Common.{true}
 use Rattle.std.proofs.lemmas.Bool.{ne_eqb}
 use Rattle.html_tokens.specs.declared.states.State.TheVariants as state
-use Rattle.html_tokenizer.proofs.Doctypes.{bogus-junk, bogus-says, doctype-took, doctype-failed}
+use Rattle.html_tokenizer.proofs.Declarations.Doctypes.{bogus-junk, bogus-says, doctype-took, doctype-failed}
 use Rattle.html_tokenizer.proofs.tokenizer.Tokenizer.take_in_bogus_doctype.Goals as goal
 
 pub returns-in_err-emit_doctype : goal.returns-in_err-emit_doctype

@@ -1,5 +1,5 @@
 use Rattle.std.proofs.lemmas.Bool.{ne_eqb}
-use Rattle.html_tokenizer.proofs.Comments.{comment-push, comment-dash}
+use Rattle.html_tokenizer.proofs.Declarations.Comments.{comment-push, comment-dash}
 use Rattle.html_tokenizer.proofs.tokenizer.Tokenizer.take_in_comment.Goals as goal
 
 pub returns-then-c-eq45 : goal.returns-then-c-eq45

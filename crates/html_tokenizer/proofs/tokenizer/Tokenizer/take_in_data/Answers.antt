@@ -1,4 +1,4 @@
-use Rattle.html_tokenizer.proofs.Going.{data-passes, data-refused}
+use Rattle.html_tokenizer.proofs.Steps.Going.{data-passes, data-refused}
 use Rattle.html_tokenizer.proofs.tokenizer.Tokenizer.take_in_data.Goals as goal
 
 pub returns : goal.returns

@@ -2,7 +2,7 @@ use Rattle.std.proofs.Common.{false, ◌∙◌, [], Some, refl, sym}
 use Rattle.std.proofs.lemmas.Bool.{ne_eqb}
 use Rattle.html_tokens.specs.Doctypes.{no_doctype}
 use Rattle.html_tokens.specs.declared.states.State.TheVariants as state
-use Rattle.html_tokenizer.proofs.Doctypes.{name-push, name-white, name-says, doctype-took, doctype-failed}
+use Rattle.html_tokenizer.proofs.Declarations.Doctypes.{name-push, name-white, name-says, doctype-took, doctype-failed}
 use Rattle.html_tokenizer.proofs.tokenizer.Tokenizer.take_in_doctype_name.Goals as goal
 
 pub returns-then-is_white_space : goal.returns-then-is_white_space

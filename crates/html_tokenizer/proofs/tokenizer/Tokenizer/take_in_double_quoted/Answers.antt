@@ -3,7 +3,7 @@ use Rattle.std.proofs.lemmas.Bool.{ne_eqb}
 use Rattle.html_tokens.specs.Doctypes.{forced}
 use Rattle.html_tokens.specs.declared.states.State.TheVariants as state
 use Rattle.html_tokenizer.specs.Rest.{with_identifier}
-use Rattle.html_tokenizer.proofs.Doctypes.{double-push, double-says, double-closed, doctype-took, doctype-failed}
+use Rattle.html_tokenizer.proofs.Declarations.Doctypes.{double-push, double-says, double-closed, doctype-took, doctype-failed}
 use Rattle.html_tokenizer.proofs.tokenizer.Tokenizer.take_in_double_quoted.Goals as goal
 
 pub returns-then-c-eq34 : goal.returns-then-c-eq34

@@ -1,5 +1,5 @@
 use Rattle.std.proofs.Common.{◌∙◌, sym}
-use Rattle.html_tokenizer.proofs.AttributeNames.{name-more, name-end}
+use Rattle.html_tokenizer.proofs.Attributes.Names.{name-more, name-end}
 use Rattle.html_tokenizer.proofs.tokenizer.Tokenizer.take_in_name.Goals as goal
 
 pub returns-then-ends_name : goal.returns-then-ends_name

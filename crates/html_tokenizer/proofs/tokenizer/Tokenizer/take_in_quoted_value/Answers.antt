@@ -1,4 +1,4 @@
-use Rattle.html_tokenizer.proofs.AttributeValues.{value-reference, quoted-more, quoted-close}
+use Rattle.html_tokenizer.proofs.Attributes.Values.{value-reference, quoted-more, quoted-close}
 use Rattle.html_tokenizer.proofs.tokenizer.Tokenizer.take_in_quoted_value.Goals as goal
 
 pub returns-then-c-quote : goal.returns-then-c-quote

@@ -3,7 +3,7 @@ use Rattle.std.proofs.lemmas.Bool.{ne_eqb}
 use Rattle.html_tokens.specs.Doctypes.{forced}
 use Rattle.html_tokens.specs.declared.states.State.TheVariants as state
 use Rattle.html_tokenizer.specs.Rest.{with_identifier}
-use Rattle.html_tokenizer.proofs.Doctypes.{single-push, single-says, single-closed, doctype-took, doctype-failed}
+use Rattle.html_tokenizer.proofs.Declarations.Doctypes.{single-push, single-says, single-closed, doctype-took, doctype-failed}
 use Rattle.html_tokenizer.proofs.tokenizer.Tokenizer.take_in_single_quoted.Goals as goal
 
 pub returns-then-c-eq39 : goal.returns-then-c-eq39

@@ -1,5 +1,5 @@
 use Rattle.std.proofs.Common.{◌∙◌, sym}
-use Rattle.html_tokenizer.proofs.TagStates.{tag_name-space, tag_name-slash, tag_name-close, tag_name-more}
+use Rattle.html_tokenizer.proofs.Tags.States.{tag_name-space, tag_name-slash, tag_name-close, tag_name-more}
 use Rattle.html_tokenizer.proofs.tokenizer.Tokenizer.take_in_tag_name.Goals as goal
 
 pub returns-then-is_white_space : goal.returns-then-is_white_space

@@ -1,6 +1,6 @@
 use Rattle.std.proofs.Common.{◌∙◌, sym}
 use Rattle.html_tokens.specs.declared.states.AttrValueKind.TheVariants as value
-use Rattle.html_tokenizer.proofs.AttributeValues.{value-reference, unquoted-more, unquoted-end}
+use Rattle.html_tokenizer.proofs.Attributes.Values.{value-reference, unquoted-more, unquoted-end}
 use Rattle.html_tokenizer.proofs.tokenizer.Tokenizer.take_in_unquoted_value.Goals as goal
 
 pub returns-then-ends_word : goal.returns-then-ends_word

@@ -1,6 +1,6 @@
 use Rattle.html_tokens.specs.declared.replies.ProcessResult.TheVariants as flow
-use Rattle.html_tokenizer.proofs.Going.{on-refused, on-untold}
-use Rattle.html_tokenizer.proofs.Taking.{passed}
+use Rattle.html_tokenizer.proofs.Steps.Going.{on-refused, on-untold}
+use Rattle.html_tokenizer.proofs.Feeds.Characters.{passed}
 use Rattle.html_tokenizer.proofs.tokenizer.Tokenizer.take_on.Goals as goal
 
 pub returns : goal.returns

@@ -1,5 +1,5 @@
 use Rattle.std.proofs.lemmas.Result.{IfOk-weaker}
-use Rattle.html_tokenizer.proofs.FrontTags.{opening-in, opening-shorter, opening-taken}
+use Rattle.html_tokenizer.proofs.Fronts.Tags.{opening-in, opening-shorter, opening-taken}
 use Rattle.html_tokenizer.proofs.tokenizer.Tokenizer.take_opening.Goals as goal
 
 pub take_attributes-requires-clause-at : goal.take_attributes-requires-clause-at

@@ -1,5 +1,5 @@
 use Rattle.html_tokens.specs.declared.states.State.TheVariants as state
-use Rattle.html_tokenizer.proofs.FrontAttributes.{none-taken, plain-front}
+use Rattle.html_tokenizer.proofs.Fronts.Attributes.{none-taken, plain-front}
 use Rattle.html_tokenizer.proofs.tokenizer.Tokenizer.take_plain.Goals as goal
 
 pub returns-then-not-is_filled-clause-ok : goal.returns-then-not-is_filled-clause-ok

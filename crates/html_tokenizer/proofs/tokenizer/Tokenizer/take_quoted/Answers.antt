@@ -1,4 +1,4 @@
-use Rattle.html_tokenizer.proofs.FrontAttributes.{quoted-front, quoted-whole}
+use Rattle.html_tokenizer.proofs.Fronts.Attributes.{quoted-front, quoted-whole}
 use Rattle.html_tokenizer.proofs.tokenizer.Tokenizer.take_quoted.Goals as goal
 
 pub returns-in_default-clause-ok : goal.returns-in_default-clause-ok

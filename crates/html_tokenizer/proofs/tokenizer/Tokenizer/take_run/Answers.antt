@@ -1,4 +1,4 @@
-use Rattle.html_tokenizer.proofs.TextRuns.{comment_run-kept, name_run-kept, text_run-kept}
+use Rattle.html_tokenizer.proofs.Text.Runs.{comment_run-kept, name_run-kept, text_run-kept}
 use Rattle.html_tokenizer.proofs.tokenizer.Tokenizer.take_run.Goals as goal
 
 pub returns-in-BogusComment : goal.returns-in-BogusComment

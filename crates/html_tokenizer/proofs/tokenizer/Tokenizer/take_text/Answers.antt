@@ -1,4 +1,4 @@
-use Rattle.html_tokenizer.proofs.Feeding.{not-taken}
+use Rattle.html_tokenizer.proofs.Feeds.Pieces.{not-taken}
 use Rattle.html_tokenizer.proofs.tokenizer.Tokenizer.take_text.Goals as goal
 
 pub returns-in_err-take_run : goal.returns-in_err-take_run

@@ -1,4 +1,4 @@
-use Rattle.html_tokenizer.proofs.AmbiguousStates.{data-unknown, data-unknown_failed}
+use Rattle.html_tokenizer.proofs.HeldReferences.AmbiguousStates.{data-unknown, data-unknown_failed}
 use Rattle.html_tokenizer.proofs.tokenizer.Tokenizer.take_unknown_in_data.Goals as goal
 
 pub returns-in_err-tell_char : goal.returns-in_err-tell_char

@@ -1,4 +1,4 @@
-use Rattle.html_tokenizer.proofs.AmbiguousStates.{rcdata-unknown, rcdata-unknown_failed}
+use Rattle.html_tokenizer.proofs.HeldReferences.AmbiguousStates.{rcdata-unknown, rcdata-unknown_failed}
 use Rattle.html_tokenizer.proofs.tokenizer.Tokenizer.take_unknown_in_rcdata.Goals as goal
 
 pub returns-in_err-tell_shown : goal.returns-in_err-tell_shown

@@ -1,4 +1,4 @@
-use Rattle.html_tokenizer.proofs.AmbiguousStates.{value-unknown}
+use Rattle.html_tokenizer.proofs.HeldReferences.AmbiguousStates.{value-unknown}
 use Rattle.html_tokenizer.proofs.tokenizer.Tokenizer.take_unknown_in_value.Goals as goal
 
 pub returns : goal.returns

@@ -1,5 +1,5 @@
-use Rattle.html_tokenizer.proofs.Erring.{run_refused}
-use Rattle.html_tokenizer.proofs.TextRuns.{unquoted_run-kept}
+use Rattle.html_tokenizer.proofs.Errors.BeforeCharacters.{run_refused}
+use Rattle.html_tokenizer.proofs.Text.Runs.{unquoted_run-kept}
 use Rattle.html_tokenizer.proofs.tokenizer.Tokenizer.take_unquoted_run.Goals as goal
 
 pub returns-in_err-tell_unquoted_faults : goal.returns-in_err-tell_unquoted_faults

@@ -1,4 +1,4 @@
-use Rattle.html_tokenizer.proofs.TextRuns.{value_run-kept}
+use Rattle.html_tokenizer.proofs.Text.Runs.{value_run-kept}
 use Rattle.html_tokenizer.proofs.tokenizer.Tokenizer.take_value_run.Goals as goal
 
 pub returns-in_default : goal.returns-in_default

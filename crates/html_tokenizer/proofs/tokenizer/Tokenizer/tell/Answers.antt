@@ -1,4 +1,4 @@
-use Rattle.html_tokenizer.proofs.Errors.{told-alone, untold}
+use Rattle.html_tokenizer.proofs.Errors.RefusedErrors.{told-alone, untold}
 use Rattle.html_tokenizer.specs.Steps.{IsOfText, nothing_owed}
 use Rattle.html_tokenizer.proofs.tokenizer.Tokenizer.tell.Goals as goal
 

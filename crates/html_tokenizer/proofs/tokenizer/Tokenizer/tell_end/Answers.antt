@@ -1,4 +1,4 @@
-use Rattle.html_tokenizer.proofs.Endings.{ended, not-closed}
+use Rattle.html_tokenizer.proofs.EndOfInput.Told.{ended, not-closed}
 use Rattle.html_tokenizer.proofs.tokenizer.Tokenizer.tell_end.Goals as goal
 
 pub returns-in_err-tell_held : goal.returns-in_err-tell_held

@@ -1,5 +1,5 @@
 use Rattle.html_tokens.specs.declared.token.Token.TheVariants.{EOFToken}
-use Rattle.html_tokenizer.proofs.Errors.{told-alone, untold}
+use Rattle.html_tokenizer.proofs.Errors.RefusedErrors.{told-alone, untold}
 use Rattle.html_tokenizer.specs.Steps.{nothing_owed}
 use Rattle.html_tokenizer.proofs.tokenizer.Tokenizer.tell_end_of_input.Goals as goal
 

@@ -4,8 +4,8 @@ use Rattle.html_tokens.specs.Tags.{is_empty}
 use Rattle.html_tokenizer.specs.declared.tokenizer.Tokenizer.{Tokenizer}
 use Rattle.html_tokens.specs.Item.{grave_if}
 use Rattle.html_tokenizer.specs.Steps.{Errs, owed_for}
-use Rattle.html_tokenizer.proofs.Erring.{errs-not, errs-then}
-use Rattle.html_tokenizer.proofs.Rises.{or-no-more}
+use Rattle.html_tokenizer.proofs.Errors.BeforeCharacters.{errs-not, errs-then}
+use Rattle.html_tokenizer.proofs.Errors.Rises.{or-no-more}
 use Rattle.html_tokenizer.proofs.tokenizer.Tokenizer.tell_end_tag_faults.Goals as goal
 
 pub returns-in_err-tell_if : goal.returns-in_err-tell_if

@@ -1,4 +1,4 @@
-use Rattle.html_tokenizer.proofs.Errors.{errs-failed}
+use Rattle.html_tokenizer.proofs.Errors.RefusedErrors.{errs-failed}
 use Rattle.html_tokenizer.proofs.tokenizer.Tokenizer.tell_error.Goals as goal
 use Rattle.html_tokenizer.specs.Steps.{a_fault}
 

@@ -1,4 +1,4 @@
-use Rattle.html_tokenizer.proofs.Errors.{tells-erred, tells-failed}
+use Rattle.html_tokenizer.proofs.Errors.RefusedErrors.{tells-erred, tells-failed}
 use Rattle.html_tokenizer.proofs.tokenizer.Tokenizer.tell_faulty.Goals as goal
 use Rattle.html_tokenizer.specs.Steps.{a_fault}
 

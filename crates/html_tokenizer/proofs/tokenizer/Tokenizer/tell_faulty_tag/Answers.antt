@@ -4,8 +4,8 @@ use Rattle.html_tokens.specs.declared.tags.Tag.{Tag}
 use Rattle.html_tokens.specs.Item.{grave_if}
 use Rattle.html_tokens.specs.Tags.{is_faulty_end}
 use Rattle.html_tokenizer.specs.Steps.{Errs, owed_for}
-use Rattle.html_tokenizer.proofs.Erring.{errs-not, errs-then}
-use Rattle.html_tokenizer.proofs.Rises.{either-no-more}
+use Rattle.html_tokenizer.proofs.Errors.BeforeCharacters.{errs-not, errs-then}
+use Rattle.html_tokenizer.proofs.Errors.Rises.{either-no-more}
 use Rattle.html_tokenizer.proofs.tokenizer.Tokenizer.tell_faulty_tag.Goals as goal
 
 pub returns-in_err-tell_repeats : goal.returns-in_err-tell_repeats

@@ -1,8 +1,8 @@
 use Rattle.std.proofs.Common.{◌≡◌, ◌∙◌}
 use Rattle.std.specs.Prelude.{◌&&◌}
 use Rattle.html_tokenizer_parts.specs.Forbidden.{is_forbidden}
-use Rattle.html_tokenizer.proofs.Erring.{errs-less}
-use Rattle.html_tokenizer.proofs.Rises.{char-no-more}
+use Rattle.html_tokenizer.proofs.Errors.BeforeCharacters.{errs-less}
+use Rattle.html_tokenizer.proofs.Errors.Rises.{char-no-more}
 use Rattle.html_tokenizer.proofs.tokenizer.Tokenizer.tell_forbidden.Goals.{then-self, else-self}
 use Rattle.html_tokenizer.proofs.tokenizer.Tokenizer.tell_forbidden.Goals as goal
 

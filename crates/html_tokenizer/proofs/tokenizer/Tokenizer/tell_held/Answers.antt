@@ -1,5 +1,5 @@
 use Rattle.std.proofs.Common.{◌∙◌, Some, ap, sym}
-use Rattle.html_tokenizer.proofs.EndTextReferences.{closes_where}
+use Rattle.html_tokenizer.proofs.EndOfInput.References.{closes_where}
 use Rattle.html_tokenizer.proofs.tokenizer.Tokenizer.tell_held.Goals as goal
 
 pub returns-in-Some-Held : goal.returns-in-Some-Held

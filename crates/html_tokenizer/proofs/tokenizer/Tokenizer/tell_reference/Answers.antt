@@ -3,8 +3,8 @@ use Rattle.html_tokens.specs.Item.{grave_if}
 use Rattle.html_tokens.specs.declared.token.Token.TheVariants.{CharacterTokens}
 use Rattle.html_tokenizer_parts.specs.CharRefs.{has_fault}
 use Rattle.html_tokenizer.specs.Steps.{owed_for}
-use Rattle.html_tokenizer.proofs.Errors.{tells-erred, tells-failed}
-use Rattle.html_tokenizer.proofs.HeldTextStates.{reference-told}
+use Rattle.html_tokenizer.proofs.Errors.RefusedErrors.{tells-erred, tells-failed}
+use Rattle.html_tokenizer.proofs.HeldReferences.InText.{reference-told}
 use Rattle.html_tokenizer.proofs.tokenizer.Tokenizer.tell_reference.Goals as goal
 
 pub returns-in_err-tell_reference_faults : goal.returns-in_err-tell_reference_faults

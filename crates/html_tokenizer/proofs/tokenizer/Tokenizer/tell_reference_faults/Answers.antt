@@ -1,5 +1,5 @@
-use Rattle.html_tokenizer.proofs.Erring.{errs-not, errs-then}
-use Rattle.html_tokenizer.proofs.Rises.{either-no-more}
+use Rattle.html_tokenizer.proofs.Errors.BeforeCharacters.{errs-not, errs-then}
+use Rattle.html_tokenizer.proofs.Errors.Rises.{either-no-more}
 use Rattle.html_tokenizer.proofs.tokenizer.Tokenizer.tell_reference_faults.Goals as goal
 
 pub returns-in_err-tell_if : goal.returns-in_err-tell_if

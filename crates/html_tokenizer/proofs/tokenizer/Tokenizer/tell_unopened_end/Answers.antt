@@ -1,9 +1,9 @@
 use Rattle.std.proofs.Common.{Some}
 use Rattle.html_tokens.specs.Item.{Slight}
-use Rattle.html_tokenizer.proofs.Errors.{tells-erred, tells-failed, tells-less}
+use Rattle.html_tokenizer.proofs.Errors.RefusedErrors.{tells-erred, tells-failed, tells-less}
 use Rattle.html_tokenizer.proofs.tokenizer.Tokenizer.tell_unopened_end.Goals as goal
 use Rattle.html_tokenizer.specs.Steps.{a_fault, owed_for}
-use Rattle.html_tokenizer.proofs.Rises.{slight-no-more}
+use Rattle.html_tokenizer.proofs.Errors.Rises.{slight-no-more}
 
 pub returns-in_err-tell_error : goal.returns-in_err-tell_error
 returns-in_err-tell_error g c =

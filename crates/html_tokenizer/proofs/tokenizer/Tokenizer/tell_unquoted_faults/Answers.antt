@@ -2,7 +2,7 @@ use Rattle.std.proofs.Common.{◌∙◌, sym, map-id}
 use Rattle.std.proofs.lemmas.Iterator.{YieldsList-from_chars}
 use Rattle.std.proofs.lemmas.Iterator.Consumers.{YieldsList-end}
 use Rattle.html_tokens.specs.Tags.{is_odd_unquoted}
-use Rattle.html_tokenizer.proofs.Erring.{erred-each, errs-behind}
+use Rattle.html_tokenizer.proofs.Errors.BeforeCharacters.{erred-each, errs-behind}
 use Rattle.html_tokenizer.proofs.tokenizer.Tokenizer.tell_unquoted_faults.Goals as goal
 
 pub loop-c-preserved : goal.loop-c-preserved

@@ -1,7 +1,7 @@
 use Rattle.std.proofs.Common.{◌∙◌, sym}
-use Rattle.html_tokenizer.proofs.Erring.{keeps_refused}
-use Rattle.html_tokenizer.proofs.Glue.{keeps_erred}
-use Rattle.html_tokenizer.proofs.AttributeValues.{unquoted-absorbs}
+use Rattle.html_tokenizer.proofs.Errors.BeforeCharacters.{keeps_refused}
+use Rattle.html_tokenizer.proofs.Steps.Keeping.{keeps_erred}
+use Rattle.html_tokenizer.proofs.Attributes.Values.{unquoted-absorbs}
 use Rattle.html_tokenizer.proofs.tokenizer.Tokenizer.unquoted_value_state.Goals as goal
 
 pub returns-in_err-tell_fault : goal.returns-in_err-tell_fault
