@@ -18,7 +18,8 @@ use Rattle.html_tokenizer_parts.specs.declared.held_reference.Ampersand.TheVaria
 use Rattle.html_tokenizer.specs.declared.tokenizer.Tokenizer.{Tokenizer}
 use Rattle.html_tokenizer.specs.Rest.{rows_of, standing, held_at}
 use Rattle.html_tokenizer.specs.Steps.{owed_for, IsAt, more, Falls, Told, Tells, Keeps, reads}
-use Rattle.html_tokenizer_parts.proofs.CharRefs.{fault-within, unknown-slight}
+use Rattle.html_tokenizer_parts.proofs.CharRefs.{unknown-slight}
+use Rattle.html_tokenizer.proofs.HeldReferences.Faults.{fault-within}
 use Rattle.html_tokenizer.proofs.HeldReferences.Ambiguous.{keeps-resolved_unknown}
 use Rattle.html_tokenizer.proofs.Errors.RefusedErrors.{tells-less}
 use Rattle.html_tokenizer.proofs.Steps.Keeping.{at}

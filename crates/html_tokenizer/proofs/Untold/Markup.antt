@@ -23,8 +23,8 @@ use Rattle.html_tokenizer_parts.specs.Keywords.{becomes, may_become, may_declare
 use Rattle.html_tokenizer.specs.Rest.{rows_of, standing, with_identifier, held_at, played}
 use Rattle.html_tokenizer.specs.Untold.{Untold, Front}
 use Rattle.html_tokenizer.proofs.Declarations.Openings.{bogus-declared, nothing-begun}
-use Rattle.html_tokenizer.proofs.Declarations.DoctypeKeywords.{begun-part, name-word, junk-read}
-use Rattle.html_tokenizer_parts.proofs.Keywords.{is_plain, last-plain, part-plain, plain-break, word-plain}
+use Rattle.html_tokenizer.proofs.Declarations.DoctypeKeywords.{name-word, junk-read}
+use Rattle.html_tokenizer_parts.proofs.Keywords.{begun-part, is_plain, last-plain, part-plain, plain-break, word-plain}
 use Rattle.html_tokenizer.proofs.Steps.Readings.{play-is, sum-zero}
 use Rattle.html_tokenizer.proofs.Untold.Completing.{all-pass, by-mark, is_inline, play-inline}
 use Rattle.html_tokenizer.specs.Listeners.{Listener, told_item}
