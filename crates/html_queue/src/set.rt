@@ -15,7 +15,7 @@ impl SmallCharSet {
     fn contains(&self, byte: u8) -> bool
         ensures { result ≡ has self.now.bits byte }
     {
-        byte < 64 && self.bits >> byte & 1 == 1
+        self.bits >> (byte & 63) & 1 == 1 && byte < 64
     }
 
     /// The number of bytes before the first that is in the set.
@@ -25,8 +25,8 @@ impl SmallCharSet {
         ensures at { result < length text.now → has self.now.bits (slice_index text.now result) ≡ true }
     {
         let bytes = text.as_bytes();
-        for (i, byte) in bytes.iter().enumerate() {
-            if self.contains(*byte) {
+        for i in 0..bytes.len() {
+            if self.contains(bytes[i]) {
                 return i;
             }
         }

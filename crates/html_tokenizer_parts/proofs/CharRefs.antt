@@ -291,11 +291,12 @@ unknown-row : (o : Option ReferenceRow) → is_none o ≡ true → slight_if (no
 unknown-row None e = refl
 unknown-row (Some row) e = absurd cc
 
-unknown-by : (b : Bool) (rows : List ReferenceRow) (h : ℕ) (hs : List ℕ) → (not b && is_none (longest rows (h ∷ hs))) ≡ true → fault_of_reference_by b rows h hs ≡ Some Slight
-unknown-by true rows h hs e = absurd cc
-unknown-by false rows h hs e = unknown-row (longest rows (h ∷ hs)) e
+unknown-by : (b ended : Bool) (rows : List ReferenceRow) (h : ℕ) (hs : List ℕ) → (not b && (not ended && is_none (longest rows (h ∷ hs)))) ≡ true → fault_of_reference_by b rows h hs ≡ Some Slight
+unknown-by true ended rows h hs e = absurd cc
+unknown-by false true rows h hs e = absurd cc
+unknown-by false false rows h hs e = unknown-row (longest rows (h ∷ hs)) e
 
 -- an unknown name has a slight fault
 pub unknown-slight : (rows : List ReferenceRow) (cs : List ℕ) (c : ℕ) → is_unknown rows cs c ≡ true → fault_of_reference rows cs ≡ Some Slight
 unknown-slight rows [] c e = refl
-unknown-slight rows (h ∷ hs) c e = unknown-by (nat_eq h 35) rows h hs e
+unknown-slight rows (h ∷ hs) c e = unknown-by (nat_eq h 35) (ends_with nat_eq (h ∷ hs) (59 ∷ [])) rows h hs e

@@ -128,10 +128,10 @@ abbrev pub is_faulty : Bool → List Row → List ℕ → Bool → Bool
 is_faulty in_value rows [] follows = false
 is_faulty in_value rows (h ∷ hs) follows = is_faulty_by (nat_eq h 35) in_value rows h hs follows
 
--- whether what was held, or else c behind it, is or begins a name, and no name of the table stands there
+-- whether what was held, or else c behind it, is or begins a name that no ";" ended, and no name of the table stands there
 abbrev pub is_unknown : List Row → List ℕ → ℕ → Bool
 is_unknown rows [] c = is_ascii_alphanumeric c
-is_unknown rows (h ∷ hs) c = not (nat_eq h 35) && is_none (longest rows (h ∷ hs))
+is_unknown rows (h ∷ hs) c = not (nat_eq h 35) && (not (ends_in_semicolon (h ∷ hs)) && is_none (longest rows (h ∷ hs)))
 
 -- whether a reference has an error: no ";" ends it, or what it names is faulty
 abbrev pub has_fault : ReferenceFaults → Bool

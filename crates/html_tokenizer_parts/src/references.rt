@@ -204,7 +204,8 @@ pub fn decided(table: &References, in_value: bool, held: &HeldReference, follows
     find(table, in_value, held, follows)
 }
 
-/// Whether what was held is a name, or the character behind `&` begins one, and no name of the table stands there.
+/// Whether what was held is a name that no `;` ended, or the character behind `&` begins one, and no name of the table stands
+/// there.
 pub fn is_unknown(table: &References, held: &HeldReference, c: char) -> bool
     ensures { result ≡ CharRefs.is_unknown table.now held.now c }
 {
@@ -212,7 +213,7 @@ pub fn is_unknown(table: &References, held: &HeldReference, c: char) -> bool
     match text.as_bytes().first() {
         None => c.is_ascii_alphanumeric(),
         Some(b'#') => false,
-        Some(_) => table.longest(text).is_none(),
+        Some(_) => !text.as_bytes().ends_with(b";") && table.longest(text).is_none(),
     }
 }
 
