@@ -1,17 +1,17 @@
 -- A name that ends in ";" goes on in no other name, so it is read whatever follows it.
 use Rattle.std.proofs.Common.{◌≡◌, ◌∙◌, ℕ, ◌-◌, ◌<◌, ◌≤◌, Bool, true, false, List, [], ◌∷◌, ◌++◌, length, get_or, take, drop, Option, Some, None, refl, sym, ap, subst, arith, ⊎_elim}
-use Rattle.std.specs.Prelude.{nat_eq, not, ◌&&◌, ◌==◌, IsTrue, Contains}
+use Rattle.std.specs.Prelude.{nat_eq, not, ◌&&◌, ◌==◌, IsTrue, Contains, All}
 use Rattle.std.specs.Char.{is_ascii_alphanumeric}
 use Rattle.std.specs.List.{list_all, starts_with, ends_with}
 use Rattle.std.proofs.lemmas.Bool.{and_parts, and_from, cases_order, cond-true, cond-false, eqb-true, true≢false}
 use Rattle.std.proofs.lemmas.Bool.Decides.{Decides-eqb, nat_tests}
 use Rattle.std.proofs.lemmas.List.{get_or_default}
-use Rattle.std.proofs.lemmas.List.Elements.{All-contains}
+use Rattle.std.proofs.lemmas.List.Elements.{All-contains, All-head, All-tail}
 use Rattle.std.proofs.lemmas.Slice.Eq.{ends_is}
 use Rattle.html_tokens.specs.Reference.{is_text_in_value, named_by, reference_at}
 use Rattle.html_tokens.specs.Table.{values, longest}
 use Rattle.html_tokens.specs.declared.table.ReferenceRow.{ReferenceRow}
-use Rattle.html_references.specs.References.{IsCheckedTable, MatchesLongest, is_reference_name, stem}
+use Rattle.html_references.specs.References.{IsCheckedTable, MatchesLongest, is_front, is_reference_name, stem}
 use Rattle.html_references.proofs.TableLaws.{longest-matches}
 
 -- whether all characters but the last are letters and digits
@@ -129,3 +129,32 @@ whole-read rows c row in_rows e in_value t =
     (at-letters P (λ d u n l. named-read in_value rows row d u n l e) front (59 ∷ []) t
     (subst (λ n. not (length n == 0) ≡ true) short parts.0) (subst (λ n. list_all is_ascii_alphanumeric n ≡ true) short parts.1))
     (whole-longest rows c row in_rows e t)
+
+-- NO NAME GOES ON BEHIND ";"
+
+and-none : (b : Bool) → (b && false) ≡ false
+and-none true = refl
+and-none false = refl
+
+none-begins : (front : List ℕ) (c : ℕ) → starts_with nat_eq [] ((front ++ 59 ∷ []) ++ c ∷ []) ≡ false
+none-begins [] c = refl
+none-begins (x ∷ front) c = refl
+
+letter-no_semicolon : (c : ℕ) → is_ascii_alphanumeric c ≡ true → nat_eq 59 c ≡ false
+letter-no_semicolon c h = grind (arith, nat_tests)
+
+name-stops : (front other : List ℕ) (c : ℕ) → is_alphanumeric_front other ≡ true → starts_with nat_eq other ((front ++ 59 ∷ []) ++ c ∷ []) ≡ false
+name-stops front [] c h = none-begins front c
+name-stops [] (o ∷ []) c h = and-none (nat_eq 59 o)
+name-stops [] (o ∷ d ∷ os) c h = rw (letter-no_semicolon o (and_parts (is_ascii_alphanumeric o) _ h).0) refl
+name-stops (x ∷ front) (o ∷ []) c h = rw (none-begins front c) (and-none (nat_eq x o))
+name-stops (x ∷ front) (o ∷ d ∷ os) c h = rw (name-stops front (d ∷ os) c (and_parts (is_ascii_alphanumeric o) _ h).1) (and-none (nat_eq x o))
+
+rows-stop : (rows : List ReferenceRow) (front : List ℕ) (c : ℕ) → All (λ row. IsTrue (is_reference_name row.name)) rows → is_front rows ((front ++ 59 ∷ []) ++ c ∷ []) ≡ false
+rows-stop [] front c h = refl
+rows-stop (row ∷ rows) front c h =
+    let named : is_reference_name row.name ≡ true = All-head (λ row. IsTrue (is_reference_name row.name)) row rows h in
+    rw (name-stops front row.name c (front-name row.name _ refl named), rows-stop rows front c (All-tail (λ row. IsTrue (is_reference_name row.name)) row rows h)) refl
+
+pub whole-stops : (rows : List ReferenceRow) → IsCheckedTable rows → (held : List ℕ) (c : ℕ) → ends_with nat_eq held (59 ∷ []) ≡ true → is_front rows (held ++ c ∷ []) ≡ false
+whole-stops rows checked held c e = subst (λ text. is_front rows (text ++ c ∷ []) ≡ false) (sym (ends-split held e)) (rows-stop rows (take (length held - 1) held) c checked.names)

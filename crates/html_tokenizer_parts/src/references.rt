@@ -23,7 +23,7 @@ fn is_held(c: char) -> bool
     c.is_ascii_alphanumeric() || c == ';' || c == '#'
 }
 
-/// Whether some name begins with a text and then this character.
+/// Whether some name begins with a text and then this character. Behind `;` none goes on.
 fn name_goes_on(
     alloc: Global,
     table: &References,
@@ -33,7 +33,12 @@ fn name_goes_on(
     ensures is { IfOk result (λ goes_on. goes_on ≡ is_front table.now (held.now ++ c ∷ [])) }
     ensures fault { IfErr result (λ fault. fault ≡ Memory) }
 {
-    let mut longer = Text::from_str(alloc, held.as_str())?;
+    let _rows = table.rows();
+    let text = held.as_str();
+    if text.as_bytes().ends_with(b";") {
+        return Ok(false);
+    }
+    let mut longer = Text::from_str(alloc, text)?;
     longer.push(c)?;
     Ok(table.is_front(longer.as_str()))
 }
