@@ -1,5 +1,5 @@
 -- A sink that pauses behind scripts, and has one state.
-use Rattle.std.specs.Prelude.{◌≡◌, ℕ, Bool, true, cond, codes, refl, Ok}
+use Rattle.std.specs.Prelude.{ℕ, Bool, true, cond, codes, refl, Ok}
 use Rattle.std.specs.Str.{bytes_eq}
 use Rattle.html_tokens.specs.Sink.{Reply, Step, SinkLaws, IsReplyTo, IsTagReply}
 use Rattle.html_tokens.specs.declared.replies.TokenSinkResult.TheVariants.{Continue, Script, RawData}

@@ -1,5 +1,5 @@
 -- The sink that pauses, as what a tokenizer tells tokens to.
-use Rattle.std.specs.Prelude.{ℕ, false, []}
+use Rattle.std.specs.Prelude.{false, []}
 use Rattle.html_tokens.specs.declared.sink.TokenSink.{Ghosts}
 use Rattle.bench_hostile.specs.Pausing.{IsSound, asks_cdata, ended, is_quiet, number, step}
 use Rattle.bench_hostile.specs.declared.sink.Pausing.{Pausing}

@@ -1,5 +1,4 @@
 //! Reading a text to its end, past every pause.
-ghost use Rattle.std.specs.Prelude.{IfOk};
 ghost use Rattle.html_tokenizer.specs.Calls.{IsReadyIf, refusal_of};
 ghost use Rattle.bench_hostile.specs.Read.{pausing};
 

@@ -1,5 +1,4 @@
 //! A forest of a page.
-ghost use Rattle.std.specs.Prelude.{◌≡◌};
 
 use html_forest::Forest;
 use markup::{

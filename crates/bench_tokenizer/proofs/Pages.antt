@@ -1,10 +1,10 @@
 -- Pages that are read in pieces.
-use Rattle.std.proofs.Common.{◌≡◌, ◌∙◌, ℕ, ◌+◌, ◌==◌, ◌≤◌, Bool, true, List, [], ◌++◌, length, take, drop, Ok, sym, ap, subst, arith}
-use Rattle.std.specs.Prelude.{IsUtf8, min}
+use Rattle.std.proofs.Common.{◌≡◌, ◌∙◌, ℕ, ◌+◌, ◌==◌, ◌≤◌, Bool, true, List, [], ◌++◌, length, Ok, sym, ap, subst, arith}
+use Rattle.std.specs.Prelude.{min}
 use Rattle.std.specs.Str.{chars}
-use Rattle.std.proofs.lemmas.List.{nil_from_length, take-append-drop}
+use Rattle.std.proofs.lemmas.List.{nil_from_length}
 use Rattle.std.proofs.lemmas.Bool.{eqb-true}
-use Rattle.std.proofs.lemmas.Str.{chars-append, chars-nil}
+use Rattle.std.proofs.lemmas.Str.{chars-nil}
 use Rattle.html_tokenizer.specs.Calls.{EndGives, owed_for_text, refusal}
 use Rattle.html_tokenizer.specs.Steps.{and_more}
 use Rattle.html_tokenizer.specs.Steps as steps

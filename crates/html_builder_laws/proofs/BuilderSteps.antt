@@ -4,7 +4,7 @@ use Rattle.std.proofs.lemmas.Bool.Decides.{nat_tests}
 use Rattle.markup.specs.Forest.{one_more}
 use Rattle.markup.specs.declared.fault.ParseFault.{ParseFault}
 use Rattle.markup.specs.declared.fault.ParseFault.TheVariants.{Memory}
-use Rattle.html_tokens.specs.Sink.{AfterEnd, Counts, CountsOwn, Gives, InText, OnRefused, fails, tells_failed}
+use Rattle.html_tokens.specs.Sink.{AfterEnd, Counts, CountsOwn, Gives, InText, fails}
 use Rattle.html_tokens.specs.declared.replies.TokenSinkResult.{TokenSinkResult}
 use Rattle.html_tokens.specs.declared.replies.TokenSinkResult.TheVariants as reply
 use Rattle.html_tokens.specs.declared.token.Token.{Token}
@@ -77,9 +77,6 @@ usable-taken node t s new answer h going b e = rw e.0 (subst (λ r. IfOk r (λ p
 
 -- the number of errors
 
-one_more-over : (x : ℕ) → one_more x ≤ one_more (one_more x)
-one_more-over x = grind (arith, nat_tests)
-
 one_more-raises : (x : ℕ) → x ≤ one_more x
 one_more-raises x = grind (arith, nat_tests)
 
@@ -128,15 +125,6 @@ err-counts EOFToken R q fault a b = tt
 pub counts-taken : {H : Type 0} (node : H → ℕ) (t : Token) (s new : State) (r : Result (TokenSinkResult H) ParseFault) → IsTaken node t s new r → Counts (is_quiet (hushed s) t) t r s.forest.errors new.forest.errors
 counts-taken node t s new (Ok answer) e = rw e.0 (came-counts t answer s)
 counts-taken {H} node t s new (Err fault) e = err-counts t (TokenSinkResult H) (is_quiet (hushed s) t) fault s.forest.errors new.forest.errors
-
--- such an answer is no refusal, and tells of no earlier failure
-pub taken-unrefused : {H : Type 0} (r : Result (TokenSinkResult H) ParseFault) (P : Type 0) → IfErr r (λ fault. fault ≡ Memory) → OnRefused r P
-taken-unrefused (Ok answer) P f = tt
-taken-unrefused (Err fault) P f = rw f tt
-
-pub taken-unfailed : {H : Type 0} (r : Result (TokenSinkResult H) ParseFault) → IfErr r (λ fault. fault ≡ Memory) → tells_failed r ≡ false
-taken-unfailed (Ok answer) f = refl
-taken-unfailed (Err fault) f = rw f refl
 
 -- it leaves a usable state, unless it leaves a builder that has failed
 pub sound-taken : {H : Type 0} (node : H → ℕ) (t : Token) (s new : State) (r : Result (TokenSinkResult H) ParseFault) (failed : Bool) → Usable (hushed s) → s.has_ended ≡ false → is_barred s.mode t ≡ false

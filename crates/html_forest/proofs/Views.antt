@@ -2,7 +2,7 @@
 use Rattle.std.proofs.Common.{◌≡◌, ◌<◌, ◌≤◌, ℕ, zero, suc, List, [], ◌∷◌, ◌++◌, Option, true, false, length, subst, sym, ap, ap₂, ◌∙◌, refl, inl, inr, arith, get_or, append_assoc}
 use Rattle.std.proofs.lemmas.Bool.{cases_eq, eq-eqb, ne_eqb}
 use Rattle.markup.specs.Forest as tree
-use Rattle.markup.specs.Forest.{Forest, IsDistinct, IsForest, children_of, data_of, is_among, no_node, node_count, parent_of, without}
+use Rattle.markup.specs.Forest.{Forest, IsDistinct, IsForest, children_of, is_among, no_node, node_count, without}
 use Rattle.markup.proofs.Children.{IsDistinct-without, is_among-append_right, is_among-without_same, is_among-without_other, without-absent}
 use Rattle.html_forest.specs.Links.{Follows, Links, after_in, first_of, link_at, links_at, next_under}
 use Rattle.html_forest.specs.Views.{About, IsKept, about_at, following, forest_of, nodes_from}

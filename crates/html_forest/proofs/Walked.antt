@@ -15,7 +15,7 @@ use Rattle.markup.specs.declared.serializer.SerializeFault.{SerializeFault}
 use Rattle.markup.specs.declared.serializer.SerializeFault.TheVariants.{Memory}
 use Rattle.markup.proofs.WalkCalls.{leaf-calls, node-calls, weight-first}
 use Rattle.markup.proofs.WholeTrees.{trees-first, trees-none}
-use Rattle.html_forest.specs.Walk.{Advances, IsAhead, Meets, calls_ahead, calls_below, calls_in, calls_left, name_in, size_ahead, size_below, size_in, size_left}
+use Rattle.html_forest.specs.Walk.{Advances, IsAhead, Meets, calls_ahead, calls_below, calls_in, calls_left, name_in, size_below, size_in, size_left}
 use Rattle.html_forest.specs.declared.walk.Frame.{Frame}
 
 abbrev frame : Option (Bor QualName) → List ℕ → Frame
@@ -199,10 +199,6 @@ run-append {S = S} step (call ∷ made) rest s m is = by_step (step s call) is (
     by_step (Err fault) is more = absurd cc
 
 module _ {S : Type 0} (step : Step S) (refuses : Refuses S) (f : Forest) where
-  -- nothing was called yet
-  pub ahead-none : (old : S) (calls : List Call) → IsAhead step old calls calls old
-  ahead-none old calls = ([], (refl, refl))
-
   -- a turn more
   pub ahead-more : (old mid new : S) (calls left : List Call) (size : ℕ) (next : Option Frame) (frames : List Frame) → IsAhead step old calls left mid → Advances step refuses f mid left size (Ok next) new frames
       → IsAhead step old calls (calls_ahead f next frames) new
@@ -215,11 +211,6 @@ module _ {S : Type 0} (step : Step S) (refuses : Refuses S) (f : Forest) where
       run-append step before.0 turn.0.0 old mid before.1.1 ∙ turn.0.1.1,
     ),
   )
-
-  pub ahead-less : (mid new : S) (left : List Call) (current : Frame) (before frames : List Frame) (next : Option Frame) → Advances step refuses f mid left (size_left f current before) (Ok next) new frames
-      → size_ahead f next frames < size_left f current before
-  ahead-less mid new left current before frames None turn = omega arith
-  ahead-less mid new left current before frames (Some frame) turn = turn.1
 
   -- a turn at which the walk stopped
   pub ahead-stopped : (old mid new : S) (calls left : List Call) (fault : SerializeFault) → IsAhead step old calls left mid → Stops step refuses mid left fault new → Stops step refuses old calls fault new

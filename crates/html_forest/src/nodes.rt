@@ -1,5 +1,5 @@
 //! Changes of the nodes, one at a time. They know nothing of what makes a forest.
-ghost use Rattle.std.specs.Prelude.{◌≡◌, ◌+◌, ◌<◌, ◌≤◌, ℕ, ◌∷◌, ◌++◌, [], Some, None, OnOk, OnErr, IfOk, IfErr, IfSome, is_some, slice_set, vec_len};
+ghost use Rattle.std.specs.Prelude.{◌≡◌, ◌+◌, ◌<◌, ℕ, ◌∷◌, ◌++◌, [], Some, None, OnOk, OnErr, IfOk, IfErr, IfSome, is_some, slice_set, vec_len};
 ghost use Rattle.std.specs.Vec.{vec_capacity};
 ghost use Rattle.markup.specs.declared.fault.ParseFault.TheVariants.{Memory};
 ghost use Rattle.markup.specs.Forest.{text_of, with_attributes};

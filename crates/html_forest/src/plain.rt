@@ -3,7 +3,6 @@ ghost use Rattle.std.specs.Prelude.{◌≡◌, ◌&&◌, ◌∷◌, ◌++◌, []
 ghost use Rattle.markup.specs.Forest.{children_of};
 ghost use Rattle.markup.specs.Named.{IsTree};
 ghost use Rattle.markup.specs.declared.fault.ParseFault.TheVariants.{Memory};
-ghost use Rattle.html_plain.specs.Elements.{element_of};
 ghost use Rattle.html_plain.specs.Grammar.{is_plain_forest, is_plain_start};
 ghost use Rattle.html_forest.specs.Judging.{AreChildrenTaken, GoesOn, IsAround, IsAscent, IsBehindDoctype, IsBehindText, IsElementTaken, IsTaken, around_of, opens_here, takes_here};
 

@@ -3,14 +3,13 @@ use Rattle.std.proofs.Common.{◌≡◌, ℕ, List, [], ◌++◌, ap, sym, ◌�
 use Rattle.std.specs.Prelude.{Ok}
 use Rattle.std.specs.Io.KnownBytes.{IsAtEnd, prepend_known}
 use Rattle.std.proofs.lemmas.List.{append-nil}
-use Rattle.html_references.specs.References.{IsCheckedTable, IsFirstFault}
+use Rattle.html_references.specs.References.{IsFirstFault}
 use Rattle.html_tokens.specs.declared.table.ReferenceRow.{ReferenceRow}
 use Rattle.html_tokens.specs.declared.table.TableFault.{TableFault}
 use Rattle.html_tokens.specs.declared.table.TableFault.TheVariants as table
 use Rattle.html_input.specs.TableFile.{rows_of}
-use Rattle.html_input.specs.TableFault.{HasBadRow, IsLineFault, IsTableFault, IsTableFile, row_fault_of}
-use Rattle.html_input.specs.declared.table.TableFileFault.{TableFileFault}
-use Rattle.html_input.specs.declared.table.TableFileFault.TheVariants.{NotUtf8, Read, BadLine, Table, Memory}
+use Rattle.html_input.specs.TableFault.{HasBadRow, IsTableFault, row_fault_of}
+use Rattle.html_input.specs.declared.table.TableFileFault.TheVariants.{Memory}
 
 -- bytes that were read to the end of a source are all that it had
 pub record IsAll (bytes whole : List ℕ) (left : Option (List ℕ)) : Type 0 where
@@ -23,22 +22,6 @@ all-read old (Some left) bytes whole moved end told =
     let all : Some (bytes ++ left) ≡ Some whole = sym moved ∙ told in
     let joined : bytes ++ left ≡ whole = cc in
     record { same = sym (append-nil bytes) ∙ ap (λ t. bytes ++ t) (sym end) ∙ joined; taken = ap Some end }
-
--- the table of a file
-pub table-read : (old new : Option (List ℕ)) (bytes whole : List ℕ) (rows : List ReferenceRow) → old ≡ prepend_known bytes new → IsAtEnd new → old ≡ Some whole → IsUtf8 bytes → rows_of bytes ≡ Ok rows → IsCheckedTable rows → IsTableFile whole new rows
-table-read old new bytes whole rows moved end told text lines checked =
-    let all = all-read old new bytes whole moved end told in
-    record { text = subst IsUtf8 all.same text; taken = all.taken; lines = ap rows_of (sym all.same) ∙ lines; checked = checked }
-
--- a fault of the lines of a file
-pub line-fault : (fault : TableFileFault) (old new : Option (List ℕ)) (bytes : List ℕ) → old ≡ prepend_known bytes new → IsAtEnd new → IsUtf8 bytes → IsLineFault bytes fault → IsTableFault old new fault
-line-fault (NotUtf8 at) old new bytes moved end text is = absurd is
-line-fault Read old new bytes moved end text is = absurd is
-line-fault (BadLine number) old new bytes moved end text is = λ whole told.
-    let all = all-read old new bytes whole moved end told in
-    record { text = subst IsUtf8 all.same text; bad = ap rows_of (sym all.same) ∙ is }
-line-fault (Table fault) old new bytes moved end text is = absurd is
-line-fault Memory old new bytes moved end text is = tt
 
 bad-row : (fault : TableFault) (old new : Option (List ℕ)) (bytes : List ℕ) (rows : List ReferenceRow) → old ≡ prepend_known bytes new → IsAtEnd new → IsUtf8 bytes → rows_of bytes ≡ Ok rows → IsFirstFault rows fault → (whole : List ℕ) → old ≡ Some whole → HasBadRow whole fault
 bad-row fault old new bytes rows moved end text lines first whole told =

@@ -11,8 +11,8 @@ use Rattle.html_names.proofs.Runs.{cut-at}
 use Rattle.std.proofs.lemmas.Bool.Decides.{nat_tests}
 use Rattle.html_rules.specs.Choice.{choose}
 use Rattle.html_rules.specs.Encodings.{behind_charset, behind_equals, behind_space, encoding_at, encoding_of}
-use Rattle.html_names.specs.Stops.{behind_character, stops, unquoted_value, up_to}
-use Rattle.html_names.specs.declared.encodings.Stop.TheVariants.{DoubleQuote, SingleQuote, ValueEnd}
+use Rattle.html_names.specs.Stops.{behind_character, stops, unquoted_value}
+use Rattle.html_names.specs.declared.encodings.Stop.TheVariants.{ValueEnd}
 use Rattle.std.specs.Char.{len_utf8}
 use Rattle.std.proofs.Math.Seq.{drop-append_seam}
 use Rattle.std.proofs.lemmas.List.{length-append}
@@ -83,37 +83,6 @@ behind-other w bs u l small h =
     let is = begins-other bs u l w small h in
     rw (is.characters, is.other) refl
 
--- a value in quotes or without, by the first character
-pub encoding-quoted : (cs rest : List ℕ) → behind_character 34 cs ≡ Some rest → encoding_at cs ≡ up_to (stops DoubleQuote) rest
-encoding-quoted [] rest e = absurd cc
-encoding-quoted (c ∷ cs) rest e = by (nat_eq c 34) refl e where
-  by : (b : Bool) → nat_eq c 34 ≡ b → choose b (λ _. Some cs) (λ _. None) ≡ Some rest → encoding_at (c ∷ cs) ≡ up_to (stops DoubleQuote) rest
-  by true is e = let same : cs ≡ rest = cc in let c_is : c ≡ 34 = eqb-true _ _ is in rw (is, c_is, same) refl
-  by false is e = absurd cc
-
-pub encoding-single : (cs rest : List ℕ) → behind_character 34 cs ≡ None → behind_character 39 cs ≡ Some rest → encoding_at cs ≡ up_to (stops SingleQuote) rest
-encoding-single [] rest n e = absurd cc
-encoding-single (c ∷ cs) rest n e = by (nat_eq c 34) (nat_eq c 39) refl refl n e where
-  by : (a b : Bool) → nat_eq c 34 ≡ a → nat_eq c 39 ≡ b → choose a (λ _. Some cs) (λ _. None) ≡ None → choose b (λ _. Some cs) (λ _. None) ≡ Some rest → encoding_at (c ∷ cs) ≡ up_to (stops SingleQuote) rest
-  by true b f is n e = absurd cc
-  by false true f is n e = let same : cs ≡ rest = cc in let c_is : c ≡ 39 = eqb-true _ _ is in rw (c_is, same) refl
-  by false false f is n e = absurd cc
-
-pub encoding-unquoted : (cs : List ℕ) → behind_character 34 cs ≡ None → behind_character 39 cs ≡ None → encoding_at cs ≡ unquoted_value cs
-encoding-unquoted [] n m = refl
-encoding-unquoted (c ∷ cs) n m = by (nat_eq c 34) (nat_eq c 39) refl refl n m where
-  by : (a b : Bool) → nat_eq c 34 ≡ a → nat_eq c 39 ≡ b → choose a (λ _. Some cs) (λ _. None) ≡ None → choose b (λ _. Some cs) (λ _. None) ≡ None → encoding_at (c ∷ cs) ≡ unquoted_value (c ∷ cs)
-  by true b f is n m = absurd cc
-  by false true f is n m = absurd cc
-  by false false f is n m = rw (f, is) refl
-
-pub equals-some : (cs rest : List ℕ) → behind_character 61 cs ≡ Some rest → behind_equals cs ≡ Some (behind_space rest)
-equals-some [] rest e = absurd cc
-equals-some (c ∷ cs) rest e = by (nat_eq c 61) refl e where
-  by : (b : Bool) → nat_eq c 61 ≡ b → choose b (λ _. Some cs) (λ _. None) ≡ Some rest → behind_equals (c ∷ cs) ≡ Some (behind_space rest)
-  by true is e = let same : cs ≡ rest = cc in rw (is, same) refl
-  by false is e = absurd cc
-
 pub equals-none : (cs : List ℕ) → behind_character 61 cs ≡ None → behind_equals cs ≡ None
 equals-none [] e = refl
 equals-none (c ∷ cs) e = by (nat_eq c 61) refl e where
@@ -161,9 +130,6 @@ BeginsWord-begins w bs u h b =
 -- the first character of a text, and what stands behind it
 pub charset-begins : (t : List ℕ) → begins_any_case (codes "charset") t ≡ true → behind_charset t ≡ behind_equals (behind_space (drop 7 t))
 charset-begins t h = rw h refl
-
-pub charset-other : (t : List ℕ) → begins_any_case (codes "charset") t ≡ false → behind_charset t ≡ None
-charset-other t h = rw h refl
 
 pub encoding-found : (c : ℕ) (t value : List ℕ) → behind_charset (c ∷ t) ≡ Some value → encoding_of (c ∷ t) ≡ encoding_at value
 unfolding encoding_of

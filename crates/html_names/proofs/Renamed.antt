@@ -1,5 +1,5 @@
 -- Renames by numbers are those of the names.
-use Rattle.std.proofs.Common.{◌≡◌, ◌∙◌, ℕ, ◌<◌, Bool, true, false, List, [], ◌∷◌, Option, Some, None, length, get_or, map, refl, sym, ap, nat_eq, find, arith}
+use Rattle.std.proofs.Common.{◌≡◌, ◌∙◌, ℕ, ◌<◌, Bool, true, false, List, [], ◌∷◌, length, get_or, map, refl, sym, ap, nat_eq, find, arith}
 use Rattle.std.specs.Prelude.{◌&&◌, IfSome, nat_lt}
 use Rattle.std.specs.Char.{to_ascii_lowercase}
 use Rattle.std.specs.List.{list_all, list_any}
@@ -15,7 +15,6 @@ use Rattle.std.proofs.lemmas.Slice.Eq.{bytes_eq-Decides}
 use Rattle.markup.specs.KnownNames.{IsNameAt, names}
 use Rattle.markup.specs.Namespaces.{name_of, prefix_of}
 use Rattle.markup.specs.declared.names.QualName.{QualName}
-use Rattle.html_rules.specs.Choice.{choose}
 use Rattle.html_rules.specs.Renames.{ForeignName as Written, adjust_attributes, adjust_foreign_attribute, rename_attribute, foreign_attribute_names, foreign_named, mathml_attribute_names, renamed, svg_attribute_names, svg_tag_names, xlink_namespace, xml_namespace, xmlns_namespace}
 use Rattle.html_rules.specs.Names.{Namespace}
 use Rattle.markup.specs.declared.attributes.Attribute.{Attribute}
@@ -26,7 +25,7 @@ use Rattle.html_names.specs.declared.renames.ForeignName.{ForeignName}
 use Rattle.html_names.specs.declared.renames.Rename.{Rename}
 use Rattle.html_names.specs.declared.renames.RenameTable.{RenameTable}
 use Rattle.html_names.specs.declared.renames.RenameTable.TheVariants.{SvgTags, SvgAttributes, MathMlAttributes}
-use Rattle.html_names.specs.declared.renames.TheConstants.{FOREIGN, MATHML_ATTRIBUTES, SVG_ATTRIBUTES, SVG_TAGS}
+use Rattle.html_names.specs.declared.renames.TheConstants.{FOREIGN}
 use Rattle.html_names.proofs.SameNames.{known-same, unknown-known}
 
 -- a pair is of known names, of which the first is the other in lower case

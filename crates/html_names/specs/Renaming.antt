@@ -1,5 +1,5 @@
 -- Renames as pairs of places in the table of known names.
-use Rattle.std.specs.Prelude.{ℕ, List, [], ◌∷◌, Option, Some, None, find, nat_eq, slice_index_or}
+use Rattle.std.specs.Prelude.{ℕ, List, [], Option, Some, None, find, nat_eq, slice_index_or}
 use Rattle.markup.specs.KnownNames.{names}
 use Rattle.markup.specs.Namespaces.{name_of, prefix_of}
 use Rattle.markup.specs.declared.attributes.Attribute.{Attribute}

@@ -1,8 +1,8 @@
 //! The encoding that the content of a `meta` element names (HTML Standard, section 2.6.6, "extracting a character encoding from a meta
 //! element").
-ghost use Rattle.std.specs.Prelude.{◌≡◌, ◌<◌, Some, None, IfSome, IfNone, MatchOption, [], length, take, drop, nat_lt, ◌≤◌, codes};
+ghost use Rattle.std.specs.Prelude.{◌≡◌, ◌<◌, Some, None, MatchOption, [], length, take, drop, nat_lt, ◌≤◌};
 ghost use Rattle.std.specs.Str.{IsCharBoundary, chars};
-ghost use Rattle.html_tokens.specs.Characters.{begins_any_case, run};
+ghost use Rattle.html_tokens.specs.Characters.{run};
 ghost use Rattle.html_rules.specs.Encodings.{is_space, behind_charset, behind_equals, behind_space, encoding_at, encoding_of};
 ghost use Rattle.html_names.specs.Stops.{behind_character, stops, unquoted_value, up_to};
 ghost use Rattle.html_names.specs.Given.{Gives, IsRest};

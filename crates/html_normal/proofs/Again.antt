@@ -1,8 +1,6 @@
 -- Plain documents are read again, and normal bytes are kept.
-use Rattle.std.proofs.Common.{◌≡◌, ◌∙◌, ℕ, true, false, List, refl, sym, ap, Option, Result, Ok, Err}
-use Rattle.std.specs.Io.KnownBytes.{append_known}
+use Rattle.std.proofs.Common.{◌≡◌, ◌∙◌, ℕ, true, false, List, refl, sym, ap, Result, Ok, Err}
 use Rattle.markup.specs.Forest.{Forest}
-use Rattle.markup.specs.declared.quirks.QuirksMode.TheVariants.{NoQuirks}
 use Rattle.html_plain.specs.Grammar.{is_plain_forest}
 use Rattle.html_read_back.specs.States.{Around}
 use Rattle.html_read_back.proofs.Document.{bytes-again}
@@ -11,7 +9,7 @@ use Rattle.html_tokens.specs.Laws.{ReadsEscapes}
 use Rattle.html_tokens.specs.Sink.{Refusal}
 use Rattle.html_tokens.specs.Table.{Row}
 use Rattle.html_normal.specs.Again.{IsNormal}
-use Rattle.html_normal.specs.Document.{IsDocument, document_bytes, document_of, forest_answers}
+use Rattle.html_normal.specs.Document.{IsDocument, document_bytes, forest_answers}
 
 abbrev around : Around
 around = record { scripting = true; answers = forest_answers }

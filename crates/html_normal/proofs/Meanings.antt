@@ -1,5 +1,5 @@
 -- What was read, parsed and written, as one.
-use Rattle.std.proofs.Common.{◌≡◌, ◌∙◌, ℕ, ◌+◌, ◌≤◌, Bool, true, false, cond, List, [], ◌++◌, length, take, arith, rules, sym, ap, subst, Option, Some, None, Result, Ok, Err, inl, inr, IsUtf8, encode_utf8_all}
+use Rattle.std.proofs.Common.{◌≡◌, ◌∙◌, ℕ, ◌+◌, ◌≤◌, Bool, true, false, cond, List, [], ◌++◌, length, take, arith, rules, sym, ap, subst, Option, Some, None, Result, Ok, Err, inr, IsUtf8, encode_utf8_all}
 use Rattle.std.specs.Prelude.{IsErr, IsOk, min}
 use Rattle.std.specs.Io.KnownBytes.{IsAtEnd, append_known, prepend_known}
 use Rattle.std.specs.Str.{chars}
@@ -122,13 +122,6 @@ module _ {K H : Type 0} (Sink : TreeGhosts K H Forest) where
 -- the bytes of what stands in the document
 pub bytes-walked : (f : Forest) → data_of f 0 ≡ Document → bytes_in true (ChildrenOnly None) (walked f 0 (ChildrenOnly None)) ≡ document_bytes f
 bytes-walked f is = ap (λ about. encode_utf8_all (written true default_entry (trees_of f (children_of f (cond (template_of about) 1 0))))) is
-
-pub input-failed : (table : List Row) (fault : NormalFault) (left left' old new : Option (List ℕ)) → new ≡ old → IsInputFault ⊥ left left' fault → IsFailed table left left' old new fault
-input-failed table (NotUtf8 at) left left' old new same is = (same, is)
-input-failed table Read left left' old new same is = (same, is)
-input-failed table Write left left' old new same is = absurd is
-input-failed table Memory left left' old new same is = inl same
-input-failed table Refused left left' old new same is = is
 
 abbrev report_with : Bool → QuirksMode → ℕ → Report
 report_with plain mode errors = record { plain = plain; quirks = mode; errors = errors }

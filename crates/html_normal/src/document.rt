@@ -1,5 +1,5 @@
 //! The document of what a reader has.
-ghost use Rattle.std.specs.Prelude.{◌≡◌, ℕ, List, Some, false, IfOk, IfErr, OnOk};
+ghost use Rattle.std.specs.Prelude.{◌≡◌, ℕ, List, Some, IfOk, IfErr, OnOk};
 ghost use Rattle.markup.specs.TreeLaws.{with_errors};
 ghost use Rattle.html_normal.specs.Document.{default_opts, default_setting, forest_answers};
 ghost use Rattle.html_tree_builder.specs.States.{setting_of};

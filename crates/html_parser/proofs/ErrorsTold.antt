@@ -5,7 +5,7 @@ use Rattle.markup.specs.declared.fault.ParseFault.{ParseFault}
 use Rattle.markup.specs.declared.tree_sink.TreeSink.{Ghosts as TreeGhosts}
 use Rattle.html_builder_laws.specs.Usable.{Usable}
 use Rattle.html_rules.specs.State.{hushed}
-use Rattle.html_tokens.specs.Notes.{noting, noting_cdata, noting_end, noting_error, without_notes}
+use Rattle.html_tokens.specs.Notes.{noting_error, without_notes}
 use Rattle.html_tokens.specs.Reading.{erred_by}
 use Rattle.html_tokenizer.specs.Calls.{IsReadyIf}
 use Rattle.html_tokenizer.specs.Rest.{coming, fault_behind, pending, rest}

@@ -8,7 +8,7 @@ use Rattle.html_tokens.specs.Notes.{Notes, errors_of, no_notes, was_quiet}
 use Rattle.html_tokens.specs.Sink.{Refusal, Reply, one_more}
 use Rattle.html_tokenizer.specs.Calls.{owed_for_text}
 use Rattle.html_tokenizer.specs.Rest.{coming}
-use Rattle.html_tokenizer.specs.Steps.{Owed, Rises, more, nothing_owed, together}
+use Rattle.html_tokenizer.specs.Steps.{Owed, Rises, more, together}
 use Rattle.html_tokenizer.specs.declared.tokenizer.Tokenizer.{Tokenizer}
 use Rattle.html_tokenizer.proofs.Errors.Rises.{IsNoMore, more-sum, none-no-more, rises-besides, rises-less, rises-same}
 use Rattle.html_parser.specs.Read.{RisesTo, owed_in}

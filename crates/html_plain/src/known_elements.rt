@@ -1,5 +1,5 @@
 //! The plain element of each known name.
-ghost use Rattle.std.specs.Prelude.{◌≡◌, ◌<◌, [], length, slice_index_or, is_none};
+ghost use Rattle.std.specs.Prelude.{◌≡◌, ◌<◌, [], length, slice_index_or};
 ghost use Rattle.markup.specs.KnownNames.{names};
 ghost use Rattle.html_plain.specs.Elements.{local_element};
 ghost use Rattle.html_plain.specs.declared.known_elements.TheConstants.{ELEMENTS};

@@ -4,7 +4,7 @@ use Rattle.std.proofs.lemmas.Bool.{cond_both}
 use Rattle.markup.specs.Escape.{end_tag, escape, start_tag, written_doctype}
 use Rattle.std.specs.Str.{chars}
 use Rattle.markup.specs.Forest as forest
-use Rattle.markup.specs.Forest.{Forest, children_of, data_if, empty_forest, joined_text, node_count, previous_at, put_new, put_text, text_of as text_in}
+use Rattle.markup.specs.Forest.{Forest, data_if, empty_forest, joined_text, node_count, previous_at, put_new, put_text, text_of as text_in}
 use Rattle.markup.specs.Forest.Place.{Last}
 use Rattle.markup.specs.Trees.{Trees, Nothing, Text, Comment, ProcessingInstruction, Doctype, Element, written}
 use Rattle.markup.specs.declared.attributes.Attribute.{Attribute}

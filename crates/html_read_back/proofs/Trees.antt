@@ -25,7 +25,6 @@ use Rattle.html_read_back.proofs.Forms.{form, nothing-in_break}
 use Rattle.html_read_back.specs.Laws.{ReadsElementInPart, ReadsInFlow, ReadsInPart, element_text}
 use Rattle.html_read_back.specs.Places.{AreBelow, Fits, IsGood, IsRooted}
 use Rattle.html_read_back.specs.Runs as runs
-use Rattle.html_read_back.specs.Runs.{Reads}
 use Rattle.html_read_back.specs.States.{Around, Home, Part, OfTable, OfBodies, OfRow, element_node, opened, part_element}
 use Rattle.html_read_back.proofs.Entries.{below-more, drops-none, drops-then}
 use Rattle.html_read_back.proofs.Flow.{fits-after, text-flows}

@@ -1,6 +1,6 @@
 -- A turn of the adoption agency leaves the stack such that any element may come next, unless a template leaves.
 use Rattle.std.proofs.Common.{◌≡◌, ◌∙◌, ℕ, suc, ◌+◌, ◌<◌, ◌≤◌, Bool, true, false, List, [], ◌∷◌, ◌++◌, Option, Some, None, refl, sym, ap, subst, true≢false, arith, inl, inr, ◌⊎◌}
-use Rattle.std.specs.Prelude.{◌||◌, ◌&&◌, not, nat_eq}
+use Rattle.std.specs.Prelude.{◌||◌, not, nat_eq}
 use Rattle.std.proofs.lemmas.Bool.{and_parts, eq-eqb}
 use Rattle.std.proofs.lemmas.List.{append_assoc}
 use Rattle.html_rules.specs.Adoption.{furthest_block, opened_after, opened_before, or_first}
@@ -131,9 +131,6 @@ exchanged (a ∷ ls) old new is w =
       by false false n true false t en eg ek o = absurd (true≢false (sym (up eg) ∙ ek))
 
 -- behind the block: the formatting element, which is no template, gives way to copies
-
-no_head : (a b : Bool) → (a && b) ≡ true → (a ≡ true → b ≡ true → ⊥) → ⊥
-no_head a b h f = let parts = and_parts a b h in f parts.0 parts.1
 
 taken-over : (new block x : Open) (copies es : List Open) → IsPlain new → ArePlain copies → stand_well (block ∷ x ∷ es) ≡ true → is_in set.Template x ≡ false → IsExchange (block ∷ x ∷ es) (new ∷ block ∷ (copies ++ es))
 taken-over new block x copies es plain all w t =

@@ -185,9 +185,6 @@ module _ (g : ℕ → ℕ) (commutes : Commutes g) where
 
   -- formatting elements
 
-  list_current-louder : (tag : Tag) → IsLoud (list_current tag)
-  list_current-louder tag s = refl
-
   pub insert_element_for-louder : (tag : Tag) → IsLoud (insert_element_for tag)
   insert_element_for-louder tag = insert_element-louder Html tag.name tag.attrs tag.had_duplicate_attributes
 

@@ -1,5 +1,5 @@
 //! What the serializer keeps of the elements that have begun.
-ghost use Rattle.std.specs.Prelude.{◌≡◌, ◌∷◌, [], IfOk, OnOk, OnErr};
+ghost use Rattle.std.specs.Prelude.{◌≡◌, ◌∷◌, [], OnOk, OnErr};
 ghost use Rattle.markup.specs.Trees.{default_entry};
 
 use std::alloc::{AllocError, Global};
@@ -50,7 +50,7 @@ impl Model for Entries {
 }
 
 impl Entries {
-    ghost use Rattle.std.specs.Prelude.{List, Option, Some, None, IfSome, IfNone};
+    ghost use Rattle.std.specs.Prelude.{List, Option};
     ghost use Rattle.html_serialize.specs.Serializing.{first_of, rest_of};
 
     pub(crate) fn new(alloc: Global) -> Entries

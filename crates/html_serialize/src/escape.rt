@@ -1,9 +1,9 @@
 //! Escaping a string (HTML Standard, section 13.3).
-ghost use Rattle.std.specs.Prelude.{◌≡◌, ◌≤◌, ◌<◌, ℕ, suc, true, false, encode_utf8_all, length, slice_index, cond, nat_eq, IfOk};
+ghost use Rattle.std.specs.Prelude.{◌≡◌, ◌≤◌, ◌<◌, suc, true, false, encode_utf8_all, length, slice_index, IfOk};
 ghost use Rattle.std.specs.Str.{chars};
 ghost use Rattle.memchr.specs.Find.{IsFirstByte};
 ghost use Rattle.markup.specs.Escape.{escape_in};
-ghost use Rattle.html_serialize.specs.Bytes.{IsNext, escape_bytes, is_lead, is_markup, is_other, is_replaced, mode_of, place_behind, reference_of, written_through};
+ghost use Rattle.html_serialize.specs.Bytes.{IsNext, escape_bytes, is_lead, is_markup, is_other, mode_of, place_behind, reference_of, written_through};
 ghost use Rattle.html_serialize.specs.Puts.{Puts, told_by};
 
 use crate::put::put;

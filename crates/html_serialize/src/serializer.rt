@@ -1,5 +1,5 @@
 //! The serializer.
-ghost use Rattle.std.specs.Prelude.{◌≡◌, ◌≤◌, ℕ, List, ◌∷◌, [], IfOk, IfErr};
+ghost use Rattle.std.specs.Prelude.{◌≡◌, ◌∷◌, [], IfOk, IfErr};
 ghost use Rattle.markup.specs.declared.serializer.SerializeFault.TheVariants.{Memory};
 ghost use Rattle.markup.specs.Calls.{calls_of};
 ghost use Rattle.markup.specs.Trees.{Trees};

@@ -2,7 +2,6 @@
 use Rattle.std.proofs.Common.{◌≡◌, ◌∙◌, ℕ, ◌<◌, ◌≤◌, Bool, true, false, List, [], ◌∷◌, ◌++◌, Some, refl, sym, ap, subst, codes, arith, map, reverse, take, drop, length, get_or, suc}
 use Rattle.std.specs.Prelude.{◌||◌, ◌&&◌, cond}
 use Rattle.std.specs.Str.{bytes_eq}
-use Rattle.std.proofs.lemmas.Slice.Eq.{bytes_eq-Decides}
 use Rattle.std.proofs.lemmas.Grind.{reverse_onto}
 use Rattle.std.proofs.lemmas.List.{map-append, reverse-append, take-append-drop}
 use Rattle.markup.specs.Forest.{Forest, IsLoose, IsNode, IsParent, IsPlace, node_count, parent_at, parent_of, place_before, place_near}
@@ -14,7 +13,7 @@ use Rattle.markup.specs.declared.attributes.Attribute.{Attribute}
 use Rattle.markup.proofs.Forests.{IsMade-create_element, IsParent-place}
 use Rattle.markup.proofs.PutTexts.{IsParent-document, IsParent-element, element-IsNode}
 use Rattle.markup.proofs.Trees.{IsPlace-before, IsPlace-near}
-use Rattle.html_rules.specs.Names.{Namespace, Html, MathMl, Svg, Other, element_name_of, flags_of, is_html, is_mathml, mathml_namespace, namespace_of, svg_namespace, uri_of}
+use Rattle.html_rules.specs.Names.{Namespace, Html, MathMl, Svg, Other, element_name_of, flags_of, is_html, is_mathml, mathml_namespace, namespace_of, svg_namespace}
 use Rattle.html_rules.specs.Places.{create_root, insert_element, open_element, place_for, put_element}
 use Rattle.html_rules.specs.Sets.{is_among, mathml_names_of, names_in, names_of, svg_names_of}
 use Rattle.html_rules.specs.Stack.{number_from, root_number}
@@ -53,16 +52,6 @@ annotation-flag MathMl name = or_false (bytes_eq name (codes "annotation-xml"))
 annotation-flag Svg name = refl
 annotation-flag (Other uri) name = refl
 
--- a namespace is written as it was
-by-uri : (uri : List ℕ) (a b c : Bool) → bytes_eq uri html_namespace ≡ a → bytes_eq uri mathml_namespace ≡ b → bytes_eq uri svg_namespace ≡ c → uri_of (cond a Html (cond b MathMl (cond c Svg (Other uri)))) ≡ uri
-by-uri uri true b c e f g = sym ((bytes_eq-Decides uri html_namespace).0 e)
-by-uri uri false true c e f g = sym ((bytes_eq-Decides uri mathml_namespace).0 f)
-by-uri uri false false true e f g = sym ((bytes_eq-Decides uri svg_namespace).0 g)
-by-uri uri false false false e f g = refl
-
-pub uri-back : (uri : List ℕ) → uri_of (namespace_of uri) ≡ uri
-uri-back uri = by-uri uri (bytes_eq uri html_namespace) (bytes_eq uri mathml_namespace) (bytes_eq uri svg_namespace) refl refl refl
-
 own-by : (uri : List ℕ) (a b c : Bool) → bytes_eq uri html_namespace ≡ a → IsOwn (cond a Html (cond b MathMl (cond c Svg (Other uri))))
 own-by uri true b c e = tt
 own-by uri false true c e = tt
@@ -72,19 +61,9 @@ own-by uri false false false e = e
 pub own-of : (uri : List ℕ) → IsOwn (namespace_of uri)
 own-of uri = own-by uri (bytes_eq uri html_namespace) (bytes_eq uri mathml_namespace) (bytes_eq uri svg_namespace) refl
 
-is_html-by : (uri : List ℕ) (a b c : Bool) → is_html (cond a Html (cond b MathMl (cond c Svg (Other uri)))) ≡ a
-is_html-by uri true b c = refl
-is_html-by uri false true c = refl
-is_html-by uri false false true = refl
-is_html-by uri false false false = refl
-
 pub html-back : namespace_of (name_of KnownNamespace.Html) ≡ Html
 unfolding name_of html_namespace
 html-back = refl
-
--- the flag of a template, by the name as it is written
-pub flag-name : (uri local : List ℕ) → (is_html (namespace_of uri) && bytes_eq local (codes "template")) ≡ (bytes_eq uri html_namespace && bytes_eq local (codes "template"))
-flag-name uri local = ap (λ b. b && bytes_eq local (codes "template")) (is_html-by uri (bytes_eq uri html_namespace) (bytes_eq uri mathml_namespace) (bytes_eq uri svg_namespace))
 
 html-name : (namespace : Namespace) (name : List ℕ) → IsOwn namespace → (is_html namespace && bytes_eq name (codes "template")) ≡ is_html_name (Some (element_name_of namespace name)) (codes "template")
 unfolding html_namespace mathml_namespace svg_namespace

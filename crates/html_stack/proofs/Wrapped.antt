@@ -1,13 +1,13 @@
 -- New elements that take a node as their child, or the children of one.
 use Rattle.std.proofs.Common.{◌≡◌, ◌∙◌, ℕ, ◌<◌, Bool, true, false, List, [], ◌∷◌, Some, None, refl, ap, subst, arith, inl, inr}
-use Rattle.markup.specs.Forest.{Above, Forest, IsForest, IsLoose, IsNode, IsParent, above_of, children_of, data_of, element_name, holds_children, is_among, is_contents, node_count, parent_of, remove, reparent_children}
+use Rattle.markup.specs.Forest.{Above, Forest, IsLoose, IsNode, IsParent, above_of, children_of, data_of, element_name, holds_children, is_among, is_contents, node_count, parent_of, remove, reparent_children}
 use Rattle.markup.specs.Named.{IsTree}
 use Rattle.markup.proofs.Forests.{IsMade-create_element, IsRemoved-remove}
 use Rattle.markup.proofs.PutTexts.{IsParent-element, element-IsNode}
 use Rattle.markup.proofs.Reparented.{IsReparented-reparent_children}
 use Rattle.markup.proofs.Trees.{IsTree-remove, IsTree-reparent_children}
 use Rattle.html_rules_laws.proofs.AdoptionTurn.{child-not_above, only-itself}
-use Rattle.markup.proofs.Walks.{Above-IsNode, Above-child, Above-less, Above-moved, Above-moved_free}
+use Rattle.markup.proofs.Walks.{Above-IsNode, Above-less, Above-moved, Above-moved_free}
 use Rattle.markup.specs.declared.names.QualName.{QualName}
 use Rattle.html_rules.specs.Names.{Html, element_name_of, flags_of, namespace_of}
 use Rattle.html_rules.specs.State.{Entry, Element, Marker, Open}

@@ -1,11 +1,10 @@
 //! Elements of foreign content (HTML Standard, section 13.2.6.5).
-ghost use Rattle.std.specs.Prelude.{◌≡◌, ◌≤◌, ℕ, IfErr, IfOk, IfSome, MatchOption, None, OnErr, OnOk, Some};
+ghost use Rattle.std.specs.Prelude.{◌≡◌, ◌≤◌, ℕ, IfErr, IfOk, IfSome, MatchOption, None, OnOk, Some};
 ghost use Rattle.markup.specs.Forest.{IsNode, node_count};
 ghost use Rattle.markup.specs.declared.fault.ParseFault.TheVariants.{Memory};
-ghost use Rattle.html_rules.specs.ForeignContent.{ends_foreign, enter_foreign, foreign_start};
+ghost use Rattle.html_rules.specs.ForeignContent.{enter_foreign, foreign_start};
 ghost use Rattle.html_rules.specs.Names.{namespace_of};
 ghost use Rattle.html_rules.specs.Renames.{adjust_attributes};
-ghost use Rattle.html_rules.specs.Stack.{left_from};
 ghost use Rattle.html_rules.specs.State.{State, adjusted_by};
 ghost use Rattle.html_rules_laws.specs.Soundness.{IsStanding};
 ghost use Rattle.html_stack.specs.Inserting.{IsFor, IsNew, context_of};

@@ -1,5 +1,5 @@
 //! The stack of open elements, the list of active formatting elements and the stack of template insertion modes.
-ghost use Rattle.std.specs.Prelude.{◌≡◌, [], ◌∷◌, IfOk, IfErr, OnOk, OnErr, MatchOption, ◌<◌, length, reverse, take};
+ghost use Rattle.std.specs.Prelude.{◌≡◌, [], ◌∷◌, IfErr, OnOk, OnErr, MatchOption, ◌<◌, length, reverse, take};
 ghost use Rattle.markup.specs.declared.fault.ParseFault.TheVariants.{Memory};
 
 use crate::active_formatting_iter::ActiveFormattingIter;

@@ -1,5 +1,5 @@
 //! Walks from the current node back. Elements are lent as they lie, the root first.
-ghost use Rattle.std.specs.Prelude.{◌≡◌, ◌<◌, ◌≤◌, [], ℕ, MatchOption, None, Some, length, slice_index_or, take, not, ◌||◌};
+ghost use Rattle.std.specs.Prelude.{◌≡◌, ◌<◌, ◌≤◌, [], ℕ, MatchOption, None, Some, length, slice_index_or, take};
 ghost use Rattle.std.specs.List.{list_all};
 ghost use Rattle.markup.specs.KnownNames.{names};
 ghost use Rattle.html_rules.specs.Formatting.{behind_marker};

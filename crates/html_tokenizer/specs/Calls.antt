@@ -1,5 +1,5 @@
 -- What the calls of a tokenizer leave: what is still to come of its sink, for each further text.
-use Rattle.std.specs.Prelude.{◌≡◌, ℕ, ◌+◌, ◌<◌, ◌≤◌, min, Bool, true, false, if◌then◌else◌, nat_eq, ◌&&◌, not, is_none, List, [], ◌∷◌, ◌++◌, length, Option, Some, None, Result, Ok, Err, IsOk}
+use Rattle.std.specs.Prelude.{◌≡◌, ℕ, ◌+◌, ◌<◌, ◌≤◌, Bool, true, false, ◌&&◌, not, is_none, List, [], ◌∷◌, ◌++◌, length, Option, Some, None, Result, Ok, Err}
 use Rattle.markup.specs.declared.fault.ParseFault.{ParseFault}
 use Rattle.markup.specs.declared.fault.ParseFault.TheVariants as fault
 use Rattle.markup.specs.declared.tokenizer_result.TokenizerResult.{TokenizerResult}
@@ -18,7 +18,7 @@ use Rattle.html_tokens.specs.Item.{Place}
 use Rattle.html_tokens.specs.NormalText.{normal_text}
 use Rattle.html_tokens.specs.Table.{Row}
 use Rattle.html_tokens.specs.TextState.{is_text_state}
-use Rattle.html_tokens.specs.Notes.{Notes, noting, noting_error, noting_cdata, noting_end}
+use Rattle.html_tokens.specs.Notes.{Notes, noting, noting_end}
 use Rattle.html_tokens.specs.Reading.{◌>>=◌, line_number, first_place, first_stand}
 use Rattle.html_tokens.specs.Sink.{Reply, Refusal}
 use Rattle.html_tokenizer_parts.specs.CharRefs.{BeginsReference, fits_in}
@@ -34,7 +34,7 @@ use Rattle.html_queue.specs.declared.set.SmallCharSet.{SmallCharSet}
 use Rattle.html_tokenizer.specs.Rest.{rest, rows_of, standing, coming}
 use Rattle.html_tokenizer.specs.Untold.{Untold}
 use Rattle.html_tokenizer_parts.specs.Words.{BeginsEnd, FittingEnd}
-use Rattle.html_tokenizer.specs.Steps.{Read, FailsOver, IsAt, PausesAt, Owed, nothing_owed, owed_for_each, together, more, paused_by, noted_by, Rises, now, Stays, Fell, Fails, FailsAmong, Replied, reads}
+use Rattle.html_tokenizer.specs.Steps.{Read, FailsOver, IsAt, Owed, nothing_owed, owed_for_each, together, more, paused_by, Rises, now, Stays, Fell, Fails, FailsAmong, Replied, reads}
 pub use Rattle.html_tokenizer_parts.specs.Refusals.{refused_by, refusal, Refuses}
 use Rattle.html_tokenizer.specs.Listeners.{listening}
 

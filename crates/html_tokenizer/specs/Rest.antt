@@ -1,7 +1,5 @@
 -- What a tokenizer still makes of its sink, for each further text.
-use Rattle.std.specs.Prelude.{ℕ, Bool, List, [], ◌∷◌, ◌++◌, codes, Option, Some, None, Result}
-use Rattle.html_tokens.specs.Notes.{NotedStep}
-use Rattle.html_tokens.specs.declared.states.RawKind.{RawKind}
+use Rattle.std.specs.Prelude.{ℕ, List, [], ◌∷◌, ◌++◌, codes, Option, Some, None, Result}
 use Rattle.html_tokens.specs.declared.states.RawKind.TheVariants as raw
 use Rattle.html_tokens.specs.declared.states.ScriptEscapeKind.TheVariants as script
 use Rattle.html_tokens.specs.declared.states.DoctypeIdKind.{DoctypeIdKind}
@@ -14,8 +12,7 @@ use Rattle.html_tokens.specs.Comments.{comment_at, comment_after, bogus_comment_
 use Rattle.html_tokens.specs.Doctypes.{doctype_at, doctype_behind, doctype_name_after, after_name, after_public_keyword, after_system_keyword, public_after, system_after, after_public, after_system, junk_after}
 use Rattle.html_tokens.specs.Item.{Fault, Slight, slight_if, Place, InData, InRaw, InPlaintext, InCdata, InTag, Stand, Item}
 use Rattle.html_tokens.specs.NormalText.{newlines_behind, without_mark}
-use Rattle.html_tokens.specs.RawText.{kind_behind}
-use Rattle.html_tokens.specs.Reading.{erred_by, reading, play}
+use Rattle.html_tokens.specs.Reading.{erred_by}
 use Rattle.html_tokens.specs.Sink.{Refusal}
 use Rattle.html_tokens.specs.Table.{Row}
 use Rattle.html_tokens.specs.Tags.{name_after, attribute_after, equals_at, value_at, unquoted_after, quoted_after, lacks_space}

@@ -13,8 +13,8 @@ use Rattle.html_tokens.specs.declared.token.Token.{Token}
 use Rattle.html_tokens.specs.declared.token.Token.TheVariants.{TagToken, ParseError, EOFToken}
 use Rattle.html_tokens.specs.declared.sink.TokenSink.{Ghosts}
 use Rattle.html_tokens.specs.Item.{Fault, Grave, Slight, grave_if, InData, Stand, Item}
-use Rattle.html_tokens.specs.Notes.{Notes, one_if, noting, noting_error, noting_cdata, noting_end}
-use Rattle.html_tokens.specs.Reading.{◌>>=◌, line_break, line_number, next_stand, play, reading}
+use Rattle.html_tokens.specs.Notes.{Notes, one_if, noting}
+use Rattle.html_tokens.specs.Reading.{◌>>=◌, line_break, line_number, next_stand}
 use Rattle.html_tokens.specs.Sink.{Reply, Refusal, InText, AfterEnd, Unfit}
 use Rattle.html_tokens.specs.Table.{Row}
 use Rattle.html_tokens.specs.Tags.{behind_tag, is_faulty_tag}

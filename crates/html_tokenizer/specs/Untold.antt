@@ -4,8 +4,7 @@ use Rattle.html_tokens.specs.declared.states.RawKind.{RawKind}
 use Rattle.html_tokens.specs.declared.states.State.{State}
 use Rattle.html_tokens.specs.declared.token.Token.{Token}
 use Rattle.html_tokens.specs.declared.token.Token.TheVariants.{TagToken, CommentToken, DoctypeToken}
-use Rattle.html_tokens.specs.Item.{Fault, Place, InRaw, InTag, Item}
-use Rattle.html_tokens.specs.Notes.{NotedStep}
+use Rattle.html_tokens.specs.Item.{Place, InRaw, InTag, Item}
 use Rattle.html_tokens.specs.RawText.{is_letters, ends_at_tag}
 use Rattle.html_tokenizer.specs.declared.tokenizer.Tokenizer.{Tokenizer}
 use Rattle.html_tokenizer.specs.Rest.{read_at, played, held_at}

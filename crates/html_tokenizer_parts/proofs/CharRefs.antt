@@ -8,7 +8,7 @@ use Rattle.std.proofs.lemmas.Bool.{and_parts, true≢false}
 use Rattle.std.proofs.lemmas.List.{take-append-le, drop-append-le}
 use Rattle.std.proofs.lemmas.List.Elements.{All-tail}
 use Rattle.html_tokens.specs.Characters.{run, run_by}
-use Rattle.html_tokens.specs.Item.{Fault, Grave, Slight, grave_if, slight_if}
+use Rattle.html_tokens.specs.Item.{Fault, Grave, Slight, slight_if}
 use Rattle.html_tokens.specs.Reference.{goes_on_at, digits_at, ends_in_semicolon as has_semicolon, fault_of_number, fault_of_reference, fault_of_reference_by, is_no_character, is_text_in_value, named_row, named_by, number, numbered_reference, numeric, numeric_by, reference_at, reference_by, semicolon}
 use Rattle.html_tokens.specs.Table.{longest}
 use Rattle.html_tokens.specs.declared.table.ReferenceRow.{ReferenceRow}

@@ -8,7 +8,7 @@ use Rattle.std.proofs.Math.Utf8.{encodes, encode}
 use Rattle.std.proofs.lemmas.Bool.{and_from, eqb-true}
 use Rattle.std.proofs.lemmas.Str.{encodes-chars, encode_ascii, char_from_byte}
 use Rattle.html_tokens.specs.RawText.{is_fitting_end}
-use Rattle.html_tokenizer_parts.specs.Words.{BeginsEnd, BeginsName, FittingEnd, begins_any_case, begins_end, ends_raw_text, has_next, same_any_case}
+use Rattle.html_tokenizer_parts.specs.Words.{BeginsEnd, BeginsName, begins_any_case, begins_end, ends_raw_text, has_next, same_any_case}
 use Rattle.html_tokenizer_parts.proofs.RawKinds.{next-shift, unfit-empty}
 use Rattle.html_tokenizer_parts.proofs.Words.{and_parts, letter-ascii, letter-of, self-eq}
 

@@ -1,6 +1,6 @@
 //! What a reference that was held stands for (HTML Standard, sections 13.2.5.72 to 13.2.5.80).
 ghost use Rattle.std.specs.Prelude.{◌≡◌, ◌≤◌, ◌&&◌, not, ◌∷◌, [], ◌++◌, IfErr, IfOk, IfSome, IsTrue, OnOk, length, true};
-ghost use Rattle.std.specs.Option.{is_some, option_map};
+ghost use Rattle.std.specs.Option.{option_map};
 ghost use Rattle.std.specs.List.{list_all};
 ghost use Rattle.std.specs.Str.{chars};
 ghost use Rattle.html_tokens.specs.Reference.{goes_on_at};

@@ -1,9 +1,7 @@
 -- What holds of the definitions whatever the text is.
 use Rattle.std.specs.Prelude.{◌≡◌, ℕ, ◌+◌, ◌≤◌, Bool, nat_eq, List, [], ◌∷◌, ◌++◌, length, drop, codes, Option, Some, Result, IfOk, IfSome, false, true, not, ◌&&◌}
-use Rattle.std.specs.List.{list_all, list_any}
-use Rattle.std.specs.Str.{bytes_eq}
+use Rattle.std.specs.List.{list_all}
 pub use Rattle.markup.specs.Attributes.{are_distinct}
-use Rattle.markup.specs.declared.attributes.Attribute.{Attribute}
 use Rattle.html_tokens.specs.declared.tags.Tag.{Tag}
 use Rattle.html_tokens.specs.Characters.{lowered}
 use Rattle.html_tokens.specs.Tags.{attribute, has_attribute, with_attribute}

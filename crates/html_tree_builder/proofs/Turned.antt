@@ -7,7 +7,7 @@ use Rattle.html_rules.specs.Rules.{Finished, first_fit, most_modes, rows, turn, 
 use Rattle.html_rules.specs.State.{State}
 use Rattle.html_rules.specs.Table.{Row}
 use Rattle.html_rules.specs.declared.insertion_mode.InsertionMode.{InsertionMode}
-use Rattle.html_tree_builder.specs.Turning.{MayTakeRow, MayTurn, MayUse}
+use Rattle.html_tree_builder.specs.Turning.{MayTakeRow, MayUse}
 
 -- no mode's rules are left
 pub used-none : (n : ℕ) (m : InsertionMode) (t : Token) (s : State) → n ≡ 0 → turn_of s (Finished false) ≡ using_rules_for n m t s
@@ -32,9 +32,6 @@ may-use-row n m t s r some is may =
 pub turned-foreign : (t : Token) (s : State) (r : Row) → true ≡ is_foreign s t → r ≡ first_fit in_foreign_content t s → turn_by_row (using_rules_for most_modes) r t s ≡ turn t s
 unfolding turn
 turned-foreign t s r f is = rw (is, ← f) refl
-
-pub may-foreign : (t : Token) (s : State) (r : Row) → true ≡ is_foreign s t → r ≡ first_fit in_foreign_content t s → MayTurn t s → MayTakeRow (MayUse most_modes) (using_rules_for most_modes) r t s
-may-foreign t s r f is may = subst (λ r. MayTakeRow (MayUse most_modes) (using_rules_for most_modes) r t s) (sym is) (may.foreign (sym f))
 
 -- the rules of the mode
 pub turned-mode : (t : Token) (s : State) → false ≡ is_foreign s t → using_rules_for most_modes s.mode t s ≡ turn t s

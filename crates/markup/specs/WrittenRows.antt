@@ -5,7 +5,7 @@ use Rattle.std.specs.List.{list_all}
 use Rattle.std.specs.Str.{bytes_eq}
 use Rattle.markup.specs.Escape.{escape, escape_value, start_tag}
 use Rattle.markup.specs.Forest as forest
-use Rattle.markup.specs.Forest.{Forest, create_element, empty_forest, put, put_new, put_text, with_node}
+use Rattle.markup.specs.Forest.{Forest, create_element, empty_forest, put, put_new, put_text}
 use Rattle.markup.specs.Forest.Place.{Last}
 use Rattle.markup.specs.Namespaces.{name_of}
 use Rattle.markup.specs.Trees.{Trees, Nothing, Text, Comment, ProcessingInstruction, Doctype, Element, default_entry, first_entry, inner_of, raw_names, trees_of, void_names, written}

@@ -1,5 +1,5 @@
 //! The interface of who writes a tree, and of what is written.
-ghost use Rattle.std.specs.Prelude.{◌≡◌, ℕ, List, [], Bool, IfOk, IfErr};
+ghost use Rattle.std.specs.Prelude.{◌≡◌, ℕ, List, [], IfOk, IfErr};
 ghost use Rattle.markup.specs.declared.attributes.Attribute.{Attribute};
 
 use crate::attributes::Attribute;

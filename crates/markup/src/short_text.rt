@@ -1,5 +1,5 @@
 //! A text of few bytes, which lie in the value itself.
-ghost use Rattle.std.specs.Prelude.{◌≡◌, ◌+◌, ◌<◌, ◌≤◌, ◌==◌, ◌++◌, ◌∷◌, [], length, nat_le};
+ghost use Rattle.std.specs.Prelude.{◌≡◌, ◌+◌, ◌<◌, ◌≤◌, ◌++◌, ◌∷◌, [], length, nat_le};
 ghost use Rattle.std.specs.Str.{IsUtf8};
 
 use std::marker::Model;

@@ -7,9 +7,7 @@ use Rattle.markup.specs.Forest.{Forest}
 use Rattle.markup.specs.TreeLaws.{with_errors}
 use Rattle.markup.specs.declared.attributes.Attribute.{Attribute}
 use Rattle.html_tokens.specs.declared.tags.Tag.{Tag}
-use Rattle.html_tokens.specs.declared.token.Token.{Token}
-use Rattle.html_tokens.specs.declared.token.Token.TheVariants.{TagToken}
-use Rattle.html_rules.specs.Actions.{append_in_body, for_tag, frameset_not_ok_unless_white, push_head, remove_from_stack_if, set_foster_parenting, tell_text}
+use Rattle.html_rules.specs.Actions.{append_in_body, frameset_not_ok_unless_white, remove_from_stack_if, set_foster_parenting, tell_text}
 use Rattle.html_rules.specs.Adoption.{adopt_from, adopt_listed, adopt_open, adoption_agency, adoption_turn, adoption_turns, close_misnested, error_if_not_current, furthest_block, is_number, opened_after, unlist}
 use Rattle.html_rules.specs.Choice.{choose}
 use Rattle.html_rules.specs.ForeignContent.{ForeignEnd, Dropped, AsInMode, Closed, close_foreign_by, enter_foreign, foreign_start_at}
@@ -169,10 +167,6 @@ pub unopened-framed : (o : Option ℕ) → Frames (remove_from_stack_if o)
 unopened-framed None s = same s
 unopened-framed (Some n) s = remove-framed n s
 
-pub push_head-framed : (o : Option ℕ) → Frames (push_head o)
-push_head-framed None s = same s
-push_head-framed (Some n) s = other s _ _ _ _
-
 pub enter-framed : (namespace : Namespace) (tag : Tag) → Frames (enter_foreign namespace tag)
 unfolding enter_foreign
 enter-framed namespace tag s = either tag.self_closing s _ _ (put_element-framed namespace tag.name _ tag.had_duplicate_attributes s) (insert_element-framed namespace tag.name _ tag.had_duplicate_attributes s)
@@ -202,10 +196,6 @@ unfolding frameset_not_ok_unless_white
 in_body-framed text s =
     let made : State = reconstruct_active_formatting_elements s in
     after s (frameset_not_ok_unless_white text made) _ (after s made _ (reconstruct-framed s) (record { framed = λ e. (and_parts made.frameset_ok (is_white text) e).0; form = refl })) (append_text-framed text (frameset_not_ok_unless_white text made))
-
-pub for_tag-framed : (step : Tag → State → State) (t : Token) → ((tag : Tag) → Frames (step tag)) → Frames (for_tag step t)
-for_tag-framed step (TagToken tag) h s = h tag s
-for_tag-framed step t h s = same s
 
 pub tell-framed : (text : List ℕ) → Frames (tell_text text)
 unfolding set_foster_parenting

@@ -88,10 +88,6 @@ record IsAgain (n : ℕ) (q : State) : Type 0 where
 like-pushed : (n : ℕ) (q : State) → IsLike q (push_head (Some n) q)
 like-pushed n q = record { context = refl; modes = refl; framed = λ e. e; form = refl; names = λ n name e. e }
 
-like-removed : (n : ℕ) (q r : State) → IsLike q r → IsLike q (remove_from_stack n r)
-unfolding remove_from_stack
-like-removed n q r h = record { context = h.context; modes = h.modes; framed = h.framed; form = h.form; names = h.names }
-
 calm-again : (a : Action) → calm a ≡ true → (kind : Kind) (t : Token) → is_of kind t ≡ true → (n : ℕ) (q : State) → IsAgain n q → IsNested (remove_from_stack n (act a t (push_head (Some n) q)))
 unfolding remove_from_stack
 calm-again a h kind t k n q w =

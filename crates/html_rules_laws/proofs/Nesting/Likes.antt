@@ -69,10 +69,6 @@ like-nested s r like same fits h = record {
   form = rw like.form (form-kept s.form_elem s.forest r.forest like.names h.form);
 }
 
-pub like-mode : (m : InsertionMode) (s r : State) → IsLike s r → IsLike s (set_mode m r)
-unfolding set_mode
-like-mode m s r h = record { context = h.context; modes = h.modes; framed = h.framed; form = h.form; names = h.names }
-
 pub like-act : (kind : Kind) (a : Action) → tame_in kind a ≡ true → is_plain_action a ≡ true → (t : Token) → is_of kind t ≡ true → (s : State) → are_formatting s.active_formatting ≡ true → Standing s → IsFramed s (act a t s) → IsLike s (act a t s)
 like-act kind a tame plain t k s listed standing kept =
     let aside = act-aside kind a tame t s in

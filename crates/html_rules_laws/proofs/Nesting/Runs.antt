@@ -45,11 +45,6 @@ use Rattle.html_rules_laws.proofs.Nesting.Smooth.{Guard, NoGuard, Current, Token
 use Rattle.html_rules_laws.proofs.Nesting.Stacks.{IsLoose, freed-base, freed-nested, freed-templates, takes-top}
 use Rattle.html_rules_laws.proofs.Bools.{both, no, not_true, or_by}
 
--- parts of tables on what is open
-abbrev is_cell_part : Part → Bool
-is_cell_part Cell = true
-is_cell_part p = false
-
 abbrev pub may_insert : Part → At → Bool
 may_insert TablePart v = true
 may_insert p v = is_inner p && (v.exact && may_stand Flow p v.base)
@@ -120,9 +115,6 @@ record IsUnder (g : Ground) (q : Part) (ok : Part → Bool) : Type 0 where
   takes : takes g q ≡ true
   fits : ok q ≡ true
   solid : is_loose q ≡ false
-
-or-then : (b : Bool) → (not true || b) ≡ true → b ≡ true
-or-then b h = h
 
 pops-under : (g : Ground) (p q : Part) (ok : Part → Bool) → pops_to p ok ≡ true → may_stand g p q ≡ true → IsUnder g q ok
 pops-under g p q ok h m = by p q inner each.0 each.1.0 each.1.1.0 each.1.1.1.0 each.1.1.1.1 m where

@@ -305,10 +305,6 @@ frames-solid Root h = refl
 frames-solid Frames h = refl
 frames-solid p h = no h
 
-root-solid : (p : Part) → is_root p ≡ true → is_loose p ≡ false
-root-solid Root h = refl
-root-solid p h = no h
-
 document-ground : (g : Ground) → is_document g ≡ true → not (is_flow g) ≡ true
 document-ground Document h = refl
 document-ground InFrames h = no h

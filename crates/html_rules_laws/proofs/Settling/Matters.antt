@@ -112,9 +112,6 @@ pays-but_root these h x k e = root_by these h x.namespace x.name k e
 
 -- an element that pays is popped
 
-PaysBy : (Open → Bool) → Type 0
-PaysBy p = (x : Open) → p x ≡ true → pays x ≡ true
-
 paid : (b : Bool) (n : ℕ) → b ≡ true → n < choose b (λ _. suc n) (λ _. n)
 paid true n h = omega arith
 paid false n h = absurd (true≢false (sym h))

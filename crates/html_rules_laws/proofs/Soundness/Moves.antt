@@ -190,10 +190,6 @@ topped-choose : (tag : Tag) (q x y : State) (b : Bool) → Topped tag q x → To
 topped-choose tag q x y true h k = h
 topped-choose tag q x y false h k = k
 
-inserted-topped : (tag : Tag) (q : State) → Topped tag q (insert_element_for tag q)
-unfolding insert_element
-inserted-topped tag q = record { number = node_count q.forest; elements = refl; entries = refl }
-
 pub template-topped : (tag : Tag) (q : State) → Topped tag q (insert_template tag q)
 unfolding insert_template insert_element open_element pop
 template-topped tag q =

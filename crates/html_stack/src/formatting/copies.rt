@@ -1,11 +1,11 @@
 //! The walk of the adoption agency: elements between the formatting element and the furthest block are replaced by copies (HTML Standard,
 //! section 13.2.6.4.7).
-ghost use Rattle.std.specs.Prelude.{◌≡◌, ◌≤◌, [], ℕ, List, IfErr, IfOk, OnErr, OnOk};
+ghost use Rattle.std.specs.Prelude.{◌≡◌, ◌≤◌, [], IfErr, IfOk, OnErr, OnOk};
 ghost use Rattle.markup.specs.Forest.{IsParent, node_count};
 ghost use Rattle.markup.specs.Named.{IsTree};
 ghost use Rattle.markup.specs.declared.fault.ParseFault.TheVariants.{Memory};
 ghost use Rattle.html_rules.specs.Adoption.{copy_if, listed_as, walk};
-ghost use Rattle.html_rules_laws.specs.Soundness.{AreListed, IsOpened, IsStanding};
+ghost use Rattle.html_rules_laws.specs.Soundness.{AreListed, IsOpened};
 ghost use Rattle.html_stack.specs.Adopting.{IsMovable, KeepsStanding, adopted, walk_of, wrapped};
 ghost use Rattle.html_stack.specs.Inserting.{IsNew, LeavesStanding};
 ghost use Rattle.html_stack.specs.Stacks.{entries_of, open_of, opens_of};

@@ -1,5 +1,5 @@
 //! Elements of a vector change places, and some leave it. Nothing here takes memory.
-ghost use Rattle.std.specs.Prelude.{◌≡◌, ◌++◌, ◌∷◌, ◌+◌, ◌<◌, ◌≤◌, length, take, drop, reverse, slice_index_or, slice_range, vec_len};
+ghost use Rattle.std.specs.Prelude.{◌≡◌, ◌++◌, ◌∷◌, ◌+◌, ◌<◌, ◌≤◌, length, take, drop, reverse, slice_index_or, slice_range};
 
 /// What stands at a place comes to a later one, behind all between.
 pub(crate) fn move_up<T>(items: &mut [T], from: usize, to: usize)

@@ -1,6 +1,5 @@
 //! Where a node is in the list and among the open elements. Both are lent as they lie, the oldest first.
-ghost use Rattle.std.specs.Prelude.{◌≡◌, ◌≤◌, false, length, drop, not, MatchOption, None};
-ghost use Rattle.std.specs.List.{list_any};
+ghost use Rattle.std.specs.Prelude.{◌≡◌, false, MatchOption, None};
 ghost use Rattle.html_rules.specs.Adoption.{furthest_block, is_number};
 ghost use Rattle.html_rules.specs.Formatting.{is_listed, last_named, stands_for};
 ghost use Rattle.html_rules.specs.Stack.{is_open};

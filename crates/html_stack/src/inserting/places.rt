@@ -1,6 +1,6 @@
 //! Where nodes are put (HTML Standard, section 13.2.6.1, "the appropriate place for inserting a node").
-ghost use Rattle.std.specs.Prelude.{◌≡◌, ◌≤◌, ℕ, length, IfErr, OnErr, OnOk, Some};
-ghost use Rattle.markup.specs.Forest.{Forest, IsNode, IsParent, MayPut, node_count, parent_at, put_child};
+ghost use Rattle.std.specs.Prelude.{◌≡◌, ◌≤◌, IfErr, OnErr, OnOk, Some};
+ghost use Rattle.markup.specs.Forest.{Forest, IsParent, MayPut, node_count, parent_at, put_child};
 ghost use Rattle.markup.specs.Named.{IsTree};
 ghost use Rattle.markup.specs.declared.fault.ParseFault.TheVariants.{Memory};
 ghost use Rattle.html_rules.specs.Places.{foster_place, inside, place_for};

@@ -1,11 +1,10 @@
 -- How an attribute is read, character by character.
 use Rattle.std.proofs.Common.{◌≡◌, ◌∙◌, ℕ, suc, ◌+◌, Bool, true, false, nat_eq, List, [], ◌∷◌, ◌++◌, take, drop, refl, sym, ap, append-nil, append_assoc}
 use Rattle.std.specs.Prelude.{codes, ◌||◌}
-use Rattle.html_tokens.specs.Notes.{NotedStep}
 use Rattle.html_tokens.specs.declared.tags.Tag.{Tag}
 use Rattle.html_tokens.specs.Characters.{is_white_space, ends_attribute_name, ends_word, lowered, all_lowered, shown, run, white, begins, is_null}
-use Rattle.html_tokens.specs.Item.{Fault, InTag, Stand, moved, behind, behind_all, silent, marked, slight_if}
-use Rattle.html_tokens.specs.Reading.{line_break, reading, play, erred_by}
+use Rattle.html_tokens.specs.Item.{InTag, Stand, moved, behind, behind_all, silent, marked, slight_if}
+use Rattle.html_tokens.specs.Reading.{line_break, erred_by}
 use Rattle.html_tokens.specs.Table.{Row}
 use Rattle.html_tokens.specs.Tags.{with_attribute, attribute_after, equals_by, equals_at, value_at, opening, opened_by, value_from, quote_at, quoted_after, unquoted_after, no_value, lacks_space, is_odd_in_name, is_odd_unquoted}
 use Rattle.html_tokenizer.proofs.Steps.Readings.{play-is, play-nothing, Absorbing, marked-both, play-odd}

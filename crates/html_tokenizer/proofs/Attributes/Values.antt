@@ -12,7 +12,7 @@ use Rattle.html_tokens.specs.declared.states.State.TheVariants as state
 use Rattle.html_tokens.specs.declared.sink.TokenSink.{Ghosts}
 use Rattle.html_tokens.specs.Characters.{is_white_space, ends_word, ends_tag_name, shown, is_null}
 use Rattle.html_tokens.specs.Item.{Slight, slight_if, InData, InTag}
-use Rattle.html_tokens.specs.Notes.{Notes, noting, noting_error, noting_cdata, noting_end}
+use Rattle.html_tokens.specs.Notes.{Notes, noting_error}
 use Rattle.html_tokens.specs.Reading.{erred_by, line_break}
 use Rattle.html_tokens.specs.Tags.{opening, opened_by, Other, quoted_after, unquoted_after, no_value, is_odd_unquoted}
 use Rattle.html_tokenizer_parts.specs.declared.held_reference.Ampersand.{Ampersand}

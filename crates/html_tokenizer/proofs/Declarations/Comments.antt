@@ -12,7 +12,7 @@ use Rattle.html_tokens.specs.declared.sink.TokenSink.{Ghosts}
 use Rattle.html_tokens.specs.Characters.{shown, begins}
 use Rattle.html_tokens.specs.Comments.{comment_end, comment_by, empty_by, comment_at, comment_after, bogus_by, bogus_comment_after}
 use Rattle.html_tokens.specs.Item.{Stand, Item, InData, behind, told_as, Fault, Grave, Slight}
-use Rattle.html_tokens.specs.Notes.{Notes, noting, noting_error, noting_cdata, noting_end}
+use Rattle.html_tokens.specs.Notes.{Notes, noting}
 use Rattle.html_tokens.specs.Reading.{line_number, line_break, line_breaks}
 use Rattle.html_tokens.specs.Sink.{◌>>=◌, SinkLaws}
 use Rattle.html_tokenizer.specs.declared.tokenizer.Tokenizer.{Tokenizer}

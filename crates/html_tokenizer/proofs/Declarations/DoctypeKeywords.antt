@@ -1,8 +1,7 @@
 -- What stands behind a doctype's name, and what the machine makes of it.
-use Rattle.std.proofs.Common.{◌≡◌, ◌∙◌, ℕ, ◌+◌, length, Bool, true, false, ◌||◌, nat_eq, List, [], ◌∷◌, ◌++◌, drop, Result, refl, sym, ap, arith, append_assoc}
-use Rattle.std.specs.Prelude.{◌==◌, codes}
+use Rattle.std.proofs.Common.{◌≡◌, ◌∙◌, ℕ, ◌+◌, length, Bool, true, false, ◌||◌, nat_eq, List, [], ◌∷◌, ◌++◌, drop, Result, refl, sym, ap, append_assoc}
+use Rattle.std.specs.Prelude.{codes}
 use Rattle.std.specs.List.{list_all}
-use Rattle.std.proofs.lemmas.Bool.{eqb-true}
 use Rattle.markup.specs.declared.fault.ParseFault.{ParseFault}
 use Rattle.html_tokens.specs.declared.replies.ProcessResult.{ProcessResult}
 use Rattle.html_tokens.specs.declared.replies.ProcessResult.TheVariants as flow
@@ -27,8 +26,7 @@ use Rattle.html_tokenizer.proofs.Declarations.Openings.{behind-word, play-plain}
 use Rattle.html_tokenizer.proofs.Declarations.Doctypes.{DoctypeSays, at-mark, skip-white, stop-white}
 use Rattle.html_tokenizer.proofs.Steps.TokenEnds.{behind-any}
 use Rattle.html_tokenizer.proofs.Steps.Keeping.{took, keeps_silent, no-break}
-use Rattle.html_tokenizer_parts.proofs.Keywords.{begun-part, never, or_parts, is_plain, part-plain, word-plain, last-plain, plain-break, plain-mark, plain-white, spelt-begins, spelt-length, word-apart, word-stops, junk-behind, word-other}
-use Rattle.html_tokenizer_parts.proofs.Words.{and_parts}
+use Rattle.html_tokenizer_parts.proofs.Keywords.{begun-part, never, or_parts, is_plain, part-plain, word-plain, last-plain, plain-break, spelt-begins, spelt-length, word-apart, word-stops, junk-behind}
 
 -- WHERE A KEYWORD BEGINS
 

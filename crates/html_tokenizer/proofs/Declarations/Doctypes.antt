@@ -16,7 +16,7 @@ use Rattle.html_tokens.specs.declared.sink.TokenSink.{Ghosts}
 use Rattle.html_tokens.specs.Characters.{shown, has_null, lowered, all_lowered, is_white_space, ends_word, run, white}
 use Rattle.html_tokens.specs.Doctypes.{no_doctype, forced, given, given_more, junk_by, closed_by, identifier_end, identifier, shown_all, Opening, Quote, doctype_at, doctype_behind, doctype_name_after, after_name, after_public_keyword, after_system_keyword, name_by, doctype_name_at, keyword_at, public_at, system_at, behind_public, behind_system, public_by, system_by, second_by, opening, Close, Junk, public_after, system_after, after_public, after_system, junk_after}
 use Rattle.html_tokens.specs.Item.{Stand, Item, InData, behind, behind_all, marked, Fault, grave_if, and_slight, and_slight_if}
-use Rattle.html_tokens.specs.Notes.{Notes, noting, noting_error, noting_cdata, noting_end}
+use Rattle.html_tokens.specs.Notes.{Notes, noting}
 use Rattle.html_tokens.specs.Reading.{line_number, line_break}
 use Rattle.html_tokens.specs.Sink.{◌>>=◌, SinkLaws}
 use Rattle.html_tokenizer_parts.specs.declared.error_code.ErrorCode.{ErrorCode}

@@ -11,7 +11,7 @@ use Rattle.html_tokens.specs.Comments.{comment_at, bogus_comment_after}
 use Rattle.html_tokens.specs.Doctypes.{doctype_at}
 use Rattle.html_tokens.specs.Item.{Stand, Item, InData, InCdata, moved, behind, behind_all, silent}
 use Rattle.html_tokens.specs.Items.{declaration_at, declaration_by}
-use Rattle.html_tokens.specs.Notes.{Notes, noting, noting_error, noting_cdata, noting_end}
+use Rattle.html_tokens.specs.Notes.{Notes}
 use Rattle.html_tokens.specs.Reading.{line_break}
 use Rattle.html_tokens.specs.Sink.{SinkLaws}
 use Rattle.html_tokenizer_parts.specs.declared.keyword.Word.{Word}

@@ -13,7 +13,7 @@ use Rattle.html_tokens.specs.declared.token.Token.TheVariants.{CharacterTokens}
 use Rattle.html_tokens.specs.Characters.{begins_by, begins_name}
 use Rattle.html_tokens.specs.Item.{InCdata, InData, InRaw, character, Grave, Slight, grave_if, slight_if, is_escaped_kind}
 use Rattle.html_tokens.specs.Items.{item}
-use Rattle.html_tokens.specs.Notes.{Notes, noting, noting_error, noting_cdata, noting_end}
+use Rattle.html_tokens.specs.Notes.{Notes, noting, noting_error}
 use Rattle.html_tokens.specs.RawText.{is_letters, is_fitting_end, ends_at_tag, kind_behind}
 use Rattle.html_tokens.specs.Reading.{◌>>=◌, line_number, reading_from, erred_by}
 use Rattle.html_tokens.specs.Sink.{SinkLaws}

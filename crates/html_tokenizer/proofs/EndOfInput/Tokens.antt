@@ -6,7 +6,7 @@ use Rattle.html_tokens.specs.declared.states.State.{State}
 use Rattle.html_tokens.specs.declared.token.Token.{Token}
 use Rattle.html_tokens.specs.declared.sink.TokenSink.{Ghosts}
 use Rattle.html_tokens.specs.Item.{Item, InData, told_as, Fault}
-use Rattle.html_tokens.specs.Notes.{Notes, noted, noting, noting_error, noting_cdata, noting_end, heard}
+use Rattle.html_tokens.specs.Notes.{Notes, noted, noting, noting_error, heard}
 use Rattle.html_tokens.specs.Reading.{erred_by, line_number, line_breaks, reading_from}
 use Rattle.html_tokens.specs.Sink.{◌>>=◌, SinkLaws}
 use Rattle.html_tokenizer.specs.Calls.{at_end, Closes}

@@ -15,7 +15,7 @@ use Rattle.html_tokens.specs.declared.sink.TokenSink.{Ghosts}
 use Rattle.html_tokens.specs.Item.{InData, Stand, Item, fault_at_end, Fault, Grave, Slight, slight_if}
 use Rattle.html_tokens.specs.Items.{item}
 use Rattle.html_tokens.specs.Notes.{Notes, noted, noting, noting_error, noting_cdata, noting_end, errors_of, no_notes}
-use Rattle.html_tokens.specs.Reading.{◌>>=◌, next_stand, said, line_number, line_breaks, reading_from, reading, play, erred_by}
+use Rattle.html_tokens.specs.Reading.{◌>>=◌, next_stand, said, line_number, line_breaks, reading_from, erred_by}
 use Rattle.html_tokens.specs.Sink.{Step, Reply, Refusal}
 use Rattle.html_tokens.specs.Table.{Row}
 use Rattle.html_tokenizer_parts.specs.declared.held_reference.Ampersand.{Ampersand}

@@ -10,7 +10,7 @@ use Rattle.html_tokens.specs.declared.token.Token.{Token}
 use Rattle.html_tokens.specs.declared.token.Token.TheVariants.{ParseError}
 use Rattle.html_tokenizer.specs.Calls.{owed_for_text}
 use Rattle.html_tokenizer_parts.specs.Forbidden.{is_forbidden}
-use Rattle.html_tokenizer.specs.Steps.{IsNoTag, Owed, a_fault, nothing_owed, owed_for, owed_for_each, how_many, and_heard, together, Rises, and_more, more}
+use Rattle.html_tokenizer.specs.Steps.{IsNoTag, Owed, nothing_owed, owed_for, owed_for_each, how_many, and_heard, together, Rises, and_more, more}
 
 capped : (a b c m n : ℕ) → min (a + m) 0xffff_ffff_ffff_ffff ≤ b → min (b + n) 0xffff_ffff_ffff_ffff ≤ c → min (a + (n + m)) 0xffff_ffff_ffff_ffff ≤ c
 capped a b c m n h k = omega arith
@@ -152,10 +152,6 @@ or-no-more true true = either-no-more true true
 or-no-more true false = either-no-more true false
 or-no-more false true = either-no-more false true
 or-no-more false false = either-no-more false false
-
--- two faults say no less than one
-pub again-no-more : IsNoMore a_fault (together a_fault a_fault)
-again-no-more = either-no-more true true
 
 -- where these are not told a text owes nothing on its own
 pub text-no-more : (t : List ℕ) (owed : Owed) → IsNoMore (together owed (owed_for_text false t)) owed

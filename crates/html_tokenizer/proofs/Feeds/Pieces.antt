@@ -8,7 +8,7 @@ use Rattle.markup.specs.declared.tokenizer_result.TokenizerResult.TheVariants as
 use Rattle.html_queue.specs.Queue.{Queue, Takes}
 use Rattle.html_tokens.specs.declared.replies.ProcessResult.{ProcessResult}
 use Rattle.html_tokens.specs.declared.replies.ProcessResult.TheVariants as flow
-use Rattle.html_tokens.specs.Notes.{Notes, noting, noting_error, noting_cdata, noting_end}
+use Rattle.html_tokens.specs.Notes.{Notes, noting_error}
 use Rattle.html_tokens.specs.Reading.{erred_by}
 use Rattle.html_tokens.specs.Sink.{Reply}
 use Rattle.html_tokenizer_parts.specs.CharRefs.{fits_in}
@@ -26,7 +26,7 @@ use Rattle.html_tokenizer.specs.Steps.{Owed, PausesAt, paused_by, more, noted_by
 use Rattle.html_tokenizer.proofs.Errors.Rises.{more-more, text-no-more, none-no-more, rises-same, rises-less, rises-besides}
 use Rattle.std.specs.Prelude.{if◌then◌else◌}
 use Rattle.html_tokenizer_parts.proofs.InputChars.{takes-more}
-use Rattle.html_tokenizer.proofs.Steps.Keeping.{held-other, fails-along, fails-before, stays-same, stays-then, fell-behind, fell-same}
+use Rattle.html_tokenizer.proofs.Steps.Keeping.{held-other, fails-along, fails-before, stays-same, stays-then, fell-behind}
 use Rattle.html_tokenizer.specs.Stops.{stops_of}
 use Rattle.html_queue.specs.declared.set.SmallCharSet.{SmallCharSet}
 use Rattle.html_tokens.specs.declared.states.State.{State}

@@ -1,5 +1,5 @@
 -- The input moves on by a front that was taken at once.
-use Rattle.std.proofs.Common.{◌≡◌, ◌∙◌, ℕ, ◌-◌, ◌<◌, ◌≤◌, false, List, [], ◌++◌, length, take, Result, Ok, refl, sym, ap, subst, arith, length-append}
+use Rattle.std.proofs.Common.{◌≡◌, ◌∙◌, ℕ, ◌-◌, ◌<◌, false, List, [], ◌++◌, length, take, Result, Ok, refl, sym, ap, subst, arith, length-append}
 use Rattle.std.specs.Result.{IsErrAnd}
 use Rattle.std.specs.Str.{IsCharBoundary, IsUtf8, chars}
 use Rattle.std.proofs.lemmas.Result.{err_from_is_err_and}
@@ -82,7 +82,3 @@ module _ {K H : Type 0} (Sink : Ghosts K H) where
         fell = fell-same Sink old.sink new.sink same ready.sound;
         fails = λ notes t. tt;
       })
-
-  -- no more is left than there was
-  pub front-within : (old new : Tokenizer K) (text rest : List ℕ) → TakesFront Sink old new text rest → length rest ≤ length text
-  front-within old new text rest front = omega (arith, ap length front.whole, length-append front.front rest)

@@ -1,8 +1,7 @@
 -- References that are held from the front of a text at once.
 use Rattle.std.proofs.Common.{◌≡◌, ◌∙◌, ℕ, ◌<◌, true, false, nat_eq, Bool, List, [], ◌∷◌, ◌++◌, length, Some, refl, sym, ap, subst, arith, append_assoc, length-append}
-use Rattle.std.specs.Prelude.{All, ◌&&◌}
 use Rattle.std.specs.List.{list_all}
-use Rattle.std.specs.Str.{IsAscii, IsUtf8, chars}
+use Rattle.std.specs.Str.{IsUtf8, chars}
 use Rattle.std.proofs.lemmas.Bool.{and_parts}
 use Rattle.std.proofs.lemmas.Bool.Decides.{nat_tests}
 use Rattle.std.proofs.lemmas.List.Elements.{All-cons, All-nil}
@@ -10,7 +9,7 @@ use Rattle.std.proofs.lemmas.Str.{chars-append, IsUtf8-append, IsUtf8-from_ascii
 use Rattle.html_tokens.specs.declared.sink.TokenSink.{Ghosts}
 use Rattle.html_tokens.specs.declared.states.State.TheVariants as state
 use Rattle.html_tokenizer.specs.Calls.{TookRun}
-use Rattle.html_tokenizer_parts.specs.CharRefs.{is_held, is_held_front, may_hold}
+use Rattle.html_tokenizer_parts.specs.CharRefs.{is_held, is_held_front}
 use Rattle.html_tokenizer.specs.Fronts.{HoldsName, IsReferenceAt, ReadsTags, TakesFront}
 use Rattle.html_tokenizer_parts.specs.Input.{IsUnbroken}
 use Rattle.html_tokenizer.specs.Rest.{rows_of}

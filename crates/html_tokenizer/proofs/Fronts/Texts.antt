@@ -1,5 +1,5 @@
 -- Texts that are cut behind characters of ASCII.
-use Rattle.std.proofs.Common.{◌≡◌, ◌∙◌, ℕ, zero, suc, ◌<◌, Bool, true, false, List, [], ◌∷◌, ◌++◌, length, drop, get_or, refl, sym, ap, arith}
+use Rattle.std.proofs.Common.{◌≡◌, ◌∙◌, ℕ, zero, suc, ◌<◌, Bool, true, false, List, [], ◌∷◌, ◌++◌, length, get_or, refl, sym, ap, arith}
 use Rattle.std.specs.Prelude.{encode_utf8_all, ◌==◌, not}
 use Rattle.std.specs.Char.{is_ascii_alphabetic}
 use Rattle.std.specs.Str.{IsAscii, IsCharBoundary, IsUtf8, chars}
@@ -49,11 +49,6 @@ letter-low b e = grind (arith, nat_tests, e)
 pub letter-chars : (bs : List ℕ) → 0 < length bs → is_ascii_alphabetic (get_or bs 0 0) ≡ true → BeginsWithLetter (chars bs)
 letter-chars [] some e = absurd (omega (arith, some))
 letter-chars (b ∷ bs) some e = record { first = b; more = chars bs; split = chars-cons b bs (letter-low b e); letter = e }
-
--- a text is its first character and what follows it
-pub front-split : (bs rest : List ℕ) (b : ℕ) → 0 < length bs → get_or bs 0 0 ≡ b → rest ≡ drop 1 bs → bs ≡ b ∷ rest
-front-split [] rest b some is e = absurd (omega (arith, some))
-front-split (x ∷ bs) rest b some is e = rw (is, e) refl
 
 -- the same of what stands before a tag's name, and the name
 pub mark-utf8 : (kind : TagKind) (name : List ℕ) → IsUtf8 name → IsUtf8 (mark kind ++ name)

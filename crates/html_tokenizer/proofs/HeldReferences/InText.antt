@@ -9,7 +9,7 @@ use Rattle.html_tokens.specs.declared.states.State.TheVariants as state
 use Rattle.html_tokens.specs.declared.token.Token.TheVariants.{CharacterTokens}
 use Rattle.html_tokens.specs.declared.sink.TokenSink.{Ghosts}
 use Rattle.html_tokens.specs.Item.{grave_if, InData, InRaw}
-use Rattle.html_tokens.specs.Notes.{Notes, noting, noting_error, noting_cdata, noting_end}
+use Rattle.html_tokens.specs.Notes.{Notes, noting}
 use Rattle.html_tokens.specs.Reading.{◌>>=◌, line_number}
 use Rattle.html_tokens.specs.Reference.{Reference, fault_of_reference}
 use Rattle.html_tokens.specs.Sink.{SinkLaws}

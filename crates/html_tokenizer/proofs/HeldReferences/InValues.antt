@@ -9,7 +9,7 @@ use Rattle.html_tokens.specs.declared.states.AttrValueKind.TheVariants as value
 use Rattle.html_tokens.specs.declared.states.State.TheVariants as state
 use Rattle.html_tokens.specs.declared.sink.TokenSink.{Ghosts}
 use Rattle.html_tokens.specs.Item.{Slight, grave_if, slight_if, InData}
-use Rattle.html_tokens.specs.Notes.{Notes, noting, noting_error, noting_cdata, noting_end}
+use Rattle.html_tokens.specs.Notes.{Notes}
 use Rattle.html_tokens.specs.Reference.{Reference, fault_of_reference, goes_on_at, reference_at}
 use Rattle.html_tokens.specs.Table.{Row}
 use Rattle.html_tokenizer_parts.specs.CharRefs.{IsDecided, decided, is_faulty, is_held, is_unknown, may_hold, resolved, resolved_by}

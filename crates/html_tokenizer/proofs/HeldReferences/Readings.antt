@@ -5,11 +5,10 @@ use Rattle.std.specs.List.{list_all}
 use Rattle.std.proofs.lemmas.Bool.{and_parts}
 use Rattle.std.proofs.lemmas.Bool.Decides.{nat_tests}
 use Rattle.std.proofs.lemmas.List.{take-append-le, drop-append-le}
-use Rattle.html_tokens.specs.Notes.{NotedStep}
 use Rattle.html_tokens.specs.declared.token.Token.TheVariants.{CharacterTokens}
 use Rattle.html_tokens.specs.Item.{Fault, Stand, told_as, character, reference_item}
 use Rattle.html_tokens.specs.Items.{item}
-use Rattle.html_tokens.specs.Reading.{◌>>=◌, erred_by, line_number, line_breaks, reading}
+use Rattle.html_tokens.specs.Reading.{◌>>=◌, erred_by, line_number, line_breaks}
 use Rattle.html_tokens.specs.Reference.{Reference, fault_of_reference, reference_at}
 use Rattle.html_tokens.specs.Table.{Row}
 use Rattle.html_tokenizer_parts.specs.CharRefs.{IsDecided, decided, is_held, resolved, resolved_by}

@@ -4,11 +4,10 @@ use Rattle.std.specs.Prelude.{IfSome, is_some, ◌||◌}
 use Rattle.std.specs.List.{list_all}
 use Rattle.std.proofs.lemmas.Bool.{and_parts}
 use Rattle.std.proofs.lemmas.Bool.Decides.{nat_tests}
-use Rattle.html_tokens.specs.Notes.{NotedStep}
 use Rattle.html_tokens.specs.declared.tags.Tag.{Tag}
 use Rattle.html_tokens.specs.Characters.{ends_word, is_null}
-use Rattle.html_tokens.specs.Item.{Fault, slight_if, InTag, Item, Stand, behind, behind_all, marked, moved, silent}
-use Rattle.html_tokens.specs.Reading.{erred_by, play}
+use Rattle.html_tokens.specs.Item.{slight_if, InTag, Item, Stand, behind, behind_all, marked, moved, silent}
+use Rattle.html_tokens.specs.Reading.{erred_by}
 use Rattle.html_tokens.specs.Reference.{Reference, fault_of_reference, reference_at}
 use Rattle.html_tokens.specs.Table.{Row}
 use Rattle.html_tokens.specs.Tags.{Value, is_odd_unquoted, later, quote_at, quoted_after, reference_chars, reference_len, unquoted_after, value_from, with_attribute}

@@ -1,5 +1,5 @@
 -- The fitting end tag of raw text.
-use Rattle.std.proofs.Common.{◌≡◌, ◌∙◌, ℕ, ◌+◌, Bool, true, false, nat_eq, List, [], ◌∷◌, ◌++◌, map, Option, Result, refl, sym, ap, arith, append_assoc, append-nil}
+use Rattle.std.proofs.Common.{◌≡◌, ◌∙◌, ℕ, ◌+◌, true, false, nat_eq, List, [], ◌∷◌, ◌++◌, map, Option, Result, refl, sym, ap, arith, append_assoc, append-nil}
 use Rattle.std.specs.Char.{is_ascii_alphabetic, to_ascii_lowercase}
 use Rattle.std.specs.List.{list_all}
 use Rattle.std.proofs.lemmas.Bool.Decides.{nat_tests}
@@ -12,10 +12,10 @@ use Rattle.html_tokens.specs.declared.tags.Tag.{Tag}
 use Rattle.html_tokens.specs.declared.tags.TagKind.TheVariants.{EndTag}
 use Rattle.html_tokens.specs.declared.sink.TokenSink.{Ghosts}
 use Rattle.html_tokens.specs.Characters.{lowered}
-use Rattle.html_tokens.specs.Notes.{NotedStep, Notes, noting, noting_error, noting_cdata, noting_end}
-use Rattle.html_tokens.specs.Item.{Fault, slight_if, InRaw, Stand, behind}
+use Rattle.html_tokens.specs.Notes.{Notes}
+use Rattle.html_tokens.specs.Item.{slight_if, InRaw, Stand, behind}
 use Rattle.html_tokens.specs.RawText.{is_fitting_end, ends_at_tag}
-use Rattle.html_tokens.specs.Reading.{erred_by, line_break, reading, play}
+use Rattle.html_tokens.specs.Reading.{erred_by, line_break}
 use Rattle.html_tokens.specs.Table.{Row}
 use Rattle.html_tokens.specs.Tags.{named, name_after}
 use Rattle.html_tokenizer.specs.declared.tokenizer.Tokenizer.{Tokenizer}

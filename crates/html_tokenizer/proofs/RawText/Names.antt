@@ -13,7 +13,7 @@ use Rattle.html_tokens.specs.declared.states.ScriptEscapeKind.TheVariants as scr
 use Rattle.html_tokens.specs.declared.states.State.TheVariants as state
 use Rattle.html_tokens.specs.declared.token.Token.TheVariants.{CharacterTokens}
 use Rattle.html_tokens.specs.declared.sink.TokenSink.{Ghosts}
-use Rattle.html_tokens.specs.Notes.{Notes, noting, noting_error, noting_cdata, noting_end}
+use Rattle.html_tokens.specs.Notes.{Notes, noting}
 use Rattle.html_tokens.specs.Item.{InRaw, character}
 use Rattle.html_tokens.specs.Items.{item}
 use Rattle.html_tokens.specs.RawText.{is_fitting_end, ends_at_tag, kind_behind}

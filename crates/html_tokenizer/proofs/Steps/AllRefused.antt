@@ -1,7 +1,7 @@
 -- Where a sink refuses every token, all that is still to come is refused.
-use Rattle.std.proofs.Common.{ℕ, Bool, List, ◌∷◌, ◌++◌, take, drop}
+use Rattle.std.proofs.Common.{ℕ, List, ◌∷◌, ◌++◌, take, drop}
 use Rattle.std.specs.Prelude.{IsErr, ◌+◌}
-use Rattle.html_tokens.specs.Notes.{Notes, NotedStep, noting, noting_error, noting_cdata, noting_end}
+use Rattle.html_tokens.specs.Notes.{Notes, noting_error}
 use Rattle.html_tokens.specs.declared.sink.TokenSink.{Ghosts}
 use Rattle.html_tokens.specs.declared.token.Token.{Token}
 use Rattle.html_tokens.specs.declared.states.RawKind.TheVariants as raw
@@ -16,7 +16,7 @@ use Rattle.html_tokens.specs.Tags.{name_after, attribute_after, equals_at, value
 use Rattle.html_tokenizer.specs.declared.tokenizer.Tokenizer.{Tokenizer}
 use Rattle.html_tokenizer.specs.Rest.{fault_behind, pending, rows_of, standing, held_at}
 use Rattle.html_tokens.specs.Item.{Fault, slight_if, InData, Item}
-use Rattle.html_tokens.specs.Reading.{erred_by, next_stand, line_breaks, reading, play}
+use Rattle.html_tokens.specs.Reading.{erred_by, next_stand, line_breaks}
 use Rattle.html_tokens.specs.Table.{Row}
 use Rattle.html_tokenizer.proofs.Steps.RefusedReadings.{AllRefused, erred-refused, said-refused, reading-refused, noting-errs, noting-refused}
 use Rattle.html_tokenizer.specs.Steps.{now}

@@ -10,8 +10,8 @@ use Rattle.html_tokens.specs.declared.replies.ProcessResult.TheVariants as flow
 use Rattle.html_tokens.specs.declared.states.State.{State}
 use Rattle.html_tokens.specs.declared.token.Token.{Token}
 use Rattle.html_tokens.specs.declared.token.Token.TheVariants.{TagToken}
-use Rattle.html_tokens.specs.Item.{Fault, Slight, grave_if, slight_if, InData}
-use Rattle.html_tokens.specs.Notes.{Notes, NotedStep, heard, noted, noting, noting_error, noting_cdata, noting_end}
+use Rattle.html_tokens.specs.Item.{Slight, grave_if, slight_if, InData}
+use Rattle.html_tokens.specs.Notes.{Notes, heard, noted, noting, noting_error}
 use Rattle.html_tokens.specs.Reading.{◌>>=◌, erred_by, line_break, line_number, next_stand}
 use Rattle.html_tokens.specs.Sink.{Reply, Refusal}
 use Rattle.html_tokens.specs.Tags.{behind_tag, is_faulty_tag}

@@ -1,7 +1,6 @@
 -- A reading depends on how many line breaks were read only by the lines that it tells.
-use Rattle.std.proofs.Common.{◌≡◌, ◌∙◌, ℕ, zero, suc, ◌+◌, ◌-◌, Bool, List, [], ◌∷◌, ◌++◌, take, drop, Option, Some, None, Ok, refl, sym, ap, arith}
+use Rattle.std.proofs.Common.{◌≡◌, ◌∙◌, ℕ, zero, suc, ◌+◌, ◌-◌, List, [], ◌∷◌, ◌++◌, take, drop, Option, Some, None, Ok, refl, sym, ap, arith}
 use Rattle.std.specs.Prelude.{min}
-use Rattle.html_tokens.specs.Notes.{NotedStep}
 use Rattle.html_tokens.specs.declared.states.RawKind.TheVariants as raw
 use Rattle.html_tokens.specs.declared.states.ScriptEscapeKind.TheVariants as script
 use Rattle.html_tokens.specs.declared.states.DoctypeIdKind.TheVariants as id
@@ -15,7 +14,7 @@ use Rattle.html_tokens.specs.Doctypes.{doctype_at, doctype_behind, doctype_name_
 use Rattle.html_tokens.specs.Tags.{name_after, attribute_after, equals_at, value_at, unquoted_after, quoted_after}
 use Rattle.html_tokens.specs.Item.{Fault, InData, Stand, Item, fault_at_end}
 use Rattle.html_tokens.specs.Items.{item}
-use Rattle.html_tokens.specs.Reading.{◌>>=◌, next_stand, erred_by, said, line_number, line_breaks, reading_from, reading, play}
+use Rattle.html_tokens.specs.Reading.{◌>>=◌, next_stand, erred_by, said, line_number, line_breaks, reading_from}
 use Rattle.html_tokens.specs.Table.{Row}
 use Rattle.html_tokens.proofs.Readings.{bind_same}
 use Rattle.html_tokenizer.specs.declared.tokenizer.Tokenizer.{Tokenizer}

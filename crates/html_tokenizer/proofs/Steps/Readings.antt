@@ -1,13 +1,12 @@
 -- How a reading goes on by one character.
 use Rattle.std.proofs.Common.{◌≡◌, ◌∙◌, ℕ, ◌+◌, Bool, false, nat_eq, List, [], ◌∷◌, ◌++◌, take, drop, Result, Ok, Err, refl, sym, ap, arith, append-nil, true, Option, Some, None}
 use Rattle.std.specs.Prelude.{IfOk, is_some, ◌||◌}
-use Rattle.html_tokens.specs.Notes.{NotedStep}
 use Rattle.html_tokens.specs.declared.replies.TokenSinkResult.TheVariants.{Continue}
 use Rattle.html_tokens.specs.declared.token.Token.{Token}
 use Rattle.html_tokens.specs.declared.token.Token.TheVariants.{CharacterTokens}
 use Rattle.html_tokens.specs.Item.{Fault, Stand, Item, behind, character, told_as, silent, Slight, slight_if, and_slight, and_slight_if, marked}
 use Rattle.html_tokens.specs.Items.{item}
-use Rattle.html_tokens.specs.Reading.{◌>>=◌, next_stand, erred_by, said, line_number, line_break, line_breaks, reading, play}
+use Rattle.html_tokens.specs.Reading.{◌>>=◌, next_stand, erred_by, said, line_number, line_break, line_breaks}
 use Rattle.html_tokens.specs.Sink.{Reply, Refusal}
 use Rattle.html_tokens.specs.Table.{Row}
 use Rattle.html_tokens.proofs.Readings.{reading-item}

@@ -1,11 +1,10 @@
 -- How a reading goes on by one character that is no line break, and by a run of text.
 use Rattle.std.proofs.Common.{◌≡◌, ◌∙◌, ℕ, ◌+◌, Bool, false, nat_eq, List, [], ◌∷◌, ◌++◌, Result, Ok, Err, refl, ap, Option}
-use Rattle.html_tokens.specs.Notes.{NotedStep}
 use Rattle.html_tokens.specs.declared.token.Token.{Token}
 use Rattle.html_tokens.specs.declared.token.Token.TheVariants.{CharacterTokens}
 use Rattle.html_tokens.specs.Item.{Fault, Stand, told_as, character}
 use Rattle.html_tokens.specs.Items.{item}
-use Rattle.html_tokens.specs.Reading.{◌>>=◌, erred_by, line_number, line_break, reading}
+use Rattle.html_tokens.specs.Reading.{◌>>=◌, erred_by, line_number, line_break}
 use Rattle.html_tokens.specs.Table.{Row}
 use Rattle.html_tokens.proofs.Readings.{bind_where}
 use Rattle.std.proofs.lemmas.Result.{IfOk-weaker}

@@ -8,7 +8,7 @@ use Rattle.html_tokens.specs.declared.replies.ProcessResult.TheVariants as flow
 use Rattle.html_tokens.specs.declared.states.State.{State}
 use Rattle.html_tokens.specs.declared.token.Token.{Token}
 use Rattle.html_tokens.specs.declared.sink.TokenSink.{Ghosts}
-use Rattle.html_tokens.specs.Notes.{Notes, noting, noting_error, noting_cdata, noting_end}
+use Rattle.html_tokens.specs.Notes.{Notes, noting_error}
 use Rattle.html_tokens.specs.Reading.{erred_by, line_break, line_number}
 use Rattle.html_tokens.specs.Sink.{Refusal}
 use Rattle.html_tokenizer_parts.specs.CharRefs.{fits_in, may_hold}

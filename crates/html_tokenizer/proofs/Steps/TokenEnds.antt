@@ -10,7 +10,7 @@ use Rattle.html_tokens.specs.declared.states.State.TheVariants as state
 use Rattle.html_tokens.specs.declared.token.Token.{Token}
 use Rattle.html_tokens.specs.declared.sink.TokenSink.{Ghosts}
 use Rattle.html_tokens.specs.Item.{Item, InData, behind, told_as, Fault, Slight}
-use Rattle.html_tokens.specs.Notes.{Notes, noting, noting_error, noting_cdata, noting_end}
+use Rattle.html_tokens.specs.Notes.{Notes, noting}
 use Rattle.html_tokens.specs.Reading.{line_number, line_break, line_breaks}
 use Rattle.html_tokens.specs.Sink.{◌>>=◌, SinkLaws}
 use Rattle.html_tokenizer.specs.declared.tokenizer.Tokenizer.{Tokenizer}

@@ -13,7 +13,7 @@ use Rattle.html_tokens.specs.declared.sink.TokenSink.{Ghosts}
 use Rattle.html_tokens.specs.Comments.{bogus_comment_after}
 use Rattle.html_tokens.specs.Item.{Stand, Item, InData, behind, behind_all, Slight, Grave, unopened}
 use Rattle.html_tokens.specs.Items.{item, opening, Opening, Letter, Slash, Mark, Question, Close, Other, open_by, end_at, end_by}
-use Rattle.html_tokens.specs.Notes.{Notes, noting, noting_error, noting_cdata, noting_end}
+use Rattle.html_tokens.specs.Notes.{Notes, noting, noting_error}
 use Rattle.html_tokens.specs.Reading.{line_number}
 use Rattle.html_tokens.specs.Sink.{◌>>=◌, SinkLaws}
 use Rattle.html_tokens.specs.Tags.{named, name_after}

@@ -1,12 +1,11 @@
 -- How a tag is read, character by character.
 use Rattle.std.proofs.Common.{◌≡◌, ◌∙◌, ℕ, suc, ◌+◌, Bool, true, false, nat_eq, List, [], ◌∷◌, ◌++◌, take, drop, refl, ap, append-nil, append_assoc, sym}
 use Rattle.std.specs.Prelude.{codes, ◌||◌}
-use Rattle.html_tokens.specs.Notes.{NotedStep}
 use Rattle.html_tokens.specs.declared.tags.Tag.{Tag}
 use Rattle.html_tokens.specs.declared.token.Token.TheVariants.{TagToken}
 use Rattle.html_tokens.specs.Characters.{is_white_space, ends_tag_name, ends_attribute_name, lowered, all_lowered, run, white, begins, is_null, has_null}
-use Rattle.html_tokens.specs.Item.{Fault, Place, InTag, Stand, moved, behind, behind_all, silent, told_as, grave_if, Slight, slight_if, marked}
-use Rattle.html_tokens.specs.Reading.{◌>>=◌, next_stand, line_number, line_break, reading, play, erred_by}
+use Rattle.html_tokens.specs.Item.{Place, InTag, Stand, moved, behind, behind_all, silent, told_as, grave_if, Slight, slight_if, marked}
+use Rattle.html_tokens.specs.Reading.{◌>>=◌, next_stand, line_number, line_break, erred_by}
 use Rattle.html_tokens.specs.Table.{Row}
 use Rattle.html_tokens.specs.Tags.{name_after, attribute_after, behind_tag, Opening, Quote, Close, Other, opening, opened_by, opened_at, equals_by, is_faulty_tag, is_odd_in_name, is_odd_first}
 use Rattle.html_tokenizer.proofs.Steps.Readings.{sum-zero, play-nothing, reading-is, Absorbing, marked-both, play-odd, reading-odd}

@@ -1,18 +1,16 @@
 -- A tokenizer that stands in text with nothing held reads what comes from there.
-use Rattle.std.proofs.Common.{◌≡◌, ◌∙◌, ℕ, Bool, true, false, List, [], ◌++◌, Option, Some, None, refl, ap}
+use Rattle.std.proofs.Common.{◌≡◌, ◌∙◌, ℕ, true, false, List, Option, Some, None, refl}
 use Rattle.std.specs.Prelude.{is_none}
 use Rattle.html_tokens.specs.declared.options.TokenizerOpts.{TokenizerOpts}
 use Rattle.html_tokens.specs.declared.states.State.{State}
 use Rattle.html_tokens.specs.declared.states.State.TheVariants as state
 use Rattle.html_tokens.specs.declared.sink.TokenSink.{Ghosts}
-use Rattle.html_tokens.specs.Notes.{NotedStep, noting, noting_error, noting_cdata, noting_end}
-use Rattle.html_tokens.specs.Reading.{first_place, reading}
+use Rattle.html_tokens.specs.Reading.{first_place}
 use Rattle.html_tokens.specs.TextState.{is_text_state}
 use Rattle.html_tokenizer.specs.Calls.{IsNew, ReadsAt}
 use Rattle.html_tokenizer_parts.specs.declared.held_reference.Ampersand.{Ampersand}
 use Rattle.html_tokenizer.specs.declared.tokenizer.Tokenizer.{Tokenizer}
 use Rattle.html_tokenizer.specs.Rest.{rows_of, standing, coming, held_at}
-use Rattle.html_tokens.specs.Item.{Fault}
 use Rattle.html_tokenizer.proofs.Steps.Keeping.{now-at}
 use Rattle.html_tokenizer.specs.Listeners.{Listener, listening, told_text}
 

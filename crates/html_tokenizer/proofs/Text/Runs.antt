@@ -21,11 +21,11 @@ use Rattle.html_tokens.specs.declared.states.State.TheVariants as state
 use Rattle.html_tokens.specs.declared.token.Token.TheVariants.{CharacterTokens}
 use Rattle.html_tokens.specs.declared.sink.TokenSink.{Ghosts}
 use Rattle.html_tokens.specs.Characters.{ends_attribute_name, ends_word, lowered, shown}
-use Rattle.html_tokens.specs.Item.{Fault, Place, InData, InPlaintext, InRaw, Stand, character}
+use Rattle.html_tokens.specs.Item.{Place, InData, InPlaintext, InRaw, Stand, character}
 use Rattle.html_tokens.specs.Items.{item}
-use Rattle.html_tokens.specs.Notes.{NotedStep, Notes, noting, noting_error, noting_cdata, noting_end}
+use Rattle.html_tokens.specs.Notes.{Notes, noting}
 use Rattle.html_tokens.specs.RawText.{has_references, kind_behind}
-use Rattle.html_tokens.specs.Reading.{◌>>=◌, line_number, reading}
+use Rattle.html_tokens.specs.Reading.{◌>>=◌, line_number}
 use Rattle.html_tokens.specs.Sink.{SinkLaws}
 use Rattle.html_tokens.specs.Table.{Row}
 use Rattle.html_tokens.specs.Tags.{is_odd_unquoted}

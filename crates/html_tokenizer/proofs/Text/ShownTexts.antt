@@ -5,8 +5,8 @@ use Rattle.html_tokens.specs.declared.token.Token.TheVariants.{CharacterTokens}
 use Rattle.html_tokens.specs.Characters.{shown}
 use Rattle.html_tokens.specs.Item.{grave_if, Stand, character, shown_character}
 use Rattle.html_tokens.specs.Items.{item}
-use Rattle.html_tokens.specs.Notes.{Notes, noting, noting_error, noting_cdata, noting_end}
-use Rattle.html_tokens.specs.Reading.{◌>>=◌, line_number, line_break, reading}
+use Rattle.html_tokens.specs.Notes.{Notes, noting}
+use Rattle.html_tokens.specs.Reading.{◌>>=◌, line_number, line_break}
 use Rattle.html_tokens.specs.Sink.{Step, SinkLaws}
 use Rattle.html_tokens.specs.Table.{Row}
 use Rattle.html_tokenizer.specs.Steps.{owed_for, more}

@@ -8,7 +8,6 @@ use Rattle.html_tokens.specs.declared.states.State.TheVariants as state
 use Rattle.html_tokens.specs.declared.token.Token.TheVariants.{CharacterTokens, NullCharacterToken}
 use Rattle.html_tokens.specs.declared.sink.TokenSink.{Ghosts}
 use Rattle.html_tokens.specs.Characters.{shown}
-use Rattle.html_tokens.specs.Notes.{noting, noting_error, noting_cdata, noting_end}
 use Rattle.html_tokens.specs.Item.{Grave, grave_if, InData, InPlaintext}
 use Rattle.html_tokens.specs.Reading.{line_number, line_break}
 use Rattle.html_tokens.specs.Sink.{SinkLaws}

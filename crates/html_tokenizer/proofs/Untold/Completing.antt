@@ -2,10 +2,8 @@
 use Rattle.std.proofs.Common.{◌≡◌, ◌∙◌, ℕ, length, Bool, true, false, nat_eq, List, [], ◌∷◌, ◌++◌, refl, ap, lit<}
 use Rattle.std.specs.Prelude.{codes, not}
 use Rattle.std.specs.List.{list_all}
-use Rattle.html_tokens.specs.Notes.{NotedStep}
 use Rattle.html_tokens.specs.declared.states.State.{State}
-use Rattle.html_tokens.specs.Item.{Fault, Item, behind_all}
-use Rattle.html_tokens.specs.Reading.{play}
+use Rattle.html_tokens.specs.Item.{Item, behind_all}
 use Rattle.html_tokens.specs.Table.{Row}
 use Rattle.html_tokenizer.specs.declared.tokenizer.Tokenizer.{Tokenizer}
 use Rattle.html_tokenizer.specs.Rest.{held_at, played}

@@ -2,7 +2,6 @@
 use Rattle.std.proofs.Common.{◌≡◌, ◌∙◌, ℕ, length, Bool, true, false, List, [], ◌∷◌, ◌++◌, Some, refl, ap, lit<}
 use Rattle.std.specs.Prelude.{codes}
 use Rattle.std.specs.List.{list_all}
-use Rattle.html_tokens.specs.Notes.{NotedStep}
 use Rattle.html_tokens.specs.declared.states.DoctypeIdKind.{DoctypeIdKind}
 use Rattle.html_tokens.specs.declared.states.DoctypeIdKind.TheVariants as id
 use Rattle.html_tokens.specs.declared.states.State.{State}
@@ -11,9 +10,8 @@ use Rattle.html_tokens.specs.declared.token.Doctype.{Doctype}
 use Rattle.html_tokens.specs.declared.token.Token.TheVariants.{CommentToken}
 use Rattle.html_tokens.specs.Comments.{comment_end, comment_after}
 use Rattle.html_tokens.specs.Doctypes.{after_name, forced, given, given_more, no_doctype}
-use Rattle.html_tokens.specs.Item.{Fault, Grave, Slight, InData, Stand, Item, behind_all, told_as}
+use Rattle.html_tokens.specs.Item.{Grave, Slight, InData, Stand, Item, behind_all, told_as}
 use Rattle.html_tokens.specs.Items.{declaration_at}
-use Rattle.html_tokens.specs.Reading.{play}
 use Rattle.html_tokens.specs.Table.{Row}
 use Rattle.html_tokens.proofs.Readings.{reading-item}
 use Rattle.html_tokenizer_parts.specs.declared.keyword.Word.{Word}

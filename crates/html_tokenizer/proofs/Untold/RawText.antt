@@ -3,7 +3,6 @@ use Rattle.std.proofs.Common.{◌≡◌, ◌∙◌, ℕ, zero, suc, ◌<◌, len
 use Rattle.std.specs.Char.{is_ascii_alphabetic, to_ascii_lowercase}
 use Rattle.std.specs.List.{list_all}
 use Rattle.std.proofs.lemmas.Bool.{eqb-true}
-use Rattle.html_tokens.specs.Notes.{NotedStep}
 use Rattle.html_tokens.specs.declared.states.RawKind.{RawKind}
 use Rattle.html_tokens.specs.declared.states.RawKind.TheVariants as raw
 use Rattle.html_tokens.specs.declared.states.ScriptEscapeKind.TheVariants as script
@@ -12,9 +11,8 @@ use Rattle.html_tokens.specs.declared.states.State.TheVariants as state
 use Rattle.html_tokens.specs.declared.tags.Tag.{Tag}
 use Rattle.html_tokens.specs.declared.tags.TagKind.TheVariants.{EndTag}
 use Rattle.html_tokens.specs.Characters.{ends_tag_name, has_null, all_lowered, run}
-use Rattle.html_tokens.specs.Item.{Fault, InData, InRaw, InTag, Stand, Item, moved, behind, behind_all, marked, silent}
+use Rattle.html_tokens.specs.Item.{InData, InRaw, InTag, Stand, Item, moved, behind, behind_all, marked, silent}
 use Rattle.html_tokens.specs.RawText.{is_letters, is_fitting_end, ends_at_tag}
-use Rattle.html_tokens.specs.Reading.{play, reading}
 use Rattle.html_tokens.specs.Table.{Row}
 use Rattle.html_tokens.specs.Tags.{named, name_after, tag_end}
 use Rattle.html_tokenizer.specs.declared.tokenizer.Tokenizer.{Tokenizer}

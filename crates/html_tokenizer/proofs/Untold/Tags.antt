@@ -1,13 +1,12 @@
 -- A tag whose front is held ends at a ">", behind a value's end where one is read.
-use Rattle.std.proofs.Common.{◌≡◌, ◌∙◌, ℕ, ◌+◌, Bool, true, nat_eq, List, [], ◌∷◌, ◌++◌, refl, sym, lit<}
+use Rattle.std.proofs.Common.{◌≡◌, ◌∙◌, ℕ, ◌+◌, true, nat_eq, List, [], ◌∷◌, ◌++◌, refl, sym, lit<}
 use Rattle.std.specs.Prelude.{codes}
-use Rattle.html_tokens.specs.Notes.{NotedStep}
 use Rattle.html_tokens.specs.declared.states.AttrValueKind.{AttrValueKind}
 use Rattle.html_tokens.specs.declared.states.AttrValueKind.TheVariants as value
 use Rattle.html_tokens.specs.declared.states.State.TheVariants as state
 use Rattle.html_tokens.specs.declared.tags.Tag.{Tag}
-use Rattle.html_tokens.specs.Item.{Fault, InData, InTag, Stand, moved, silent}
-use Rattle.html_tokens.specs.Reading.{line_break, play, reading}
+use Rattle.html_tokens.specs.Item.{InData, InTag, Stand, moved, silent}
+use Rattle.html_tokens.specs.Reading.{line_break}
 use Rattle.html_tokens.specs.Table.{Row}
 use Rattle.html_tokens.specs.Tags.{tag_end, value_from, with_attribute}
 use Rattle.html_tokens.proofs.Readings.{reading-item}

@@ -1,12 +1,12 @@
 //! Modes, flags and pointers (HTML Standard, section 13.2.4).
-ghost use Rattle.std.specs.Prelude.{◌≡◌, OnOk, IfErr, true, false};
+ghost use Rattle.std.specs.Prelude.{◌≡◌, OnOk, IfErr, false};
 ghost use Rattle.std.specs.Str.{chars};
 ghost use Rattle.markup.specs.declared.fault.ParseFault.TheVariants.{Memory};
-ghost use Rattle.html_rules.specs.Actions.{back_to_original, forget_form_elem, frameset_not_ok, frameset_not_ok_unless_white, keep_mode, pop_template_mode, push_template_mode, set_foster_parenting, set_form_elem, set_head_elem, set_ignore_lf, set_mode, set_quirks_mode, set_template_mode};
+ghost use Rattle.html_rules.specs.Actions.{back_to_original, forget_form_elem, frameset_not_ok, frameset_not_ok_unless_white, keep_mode, pop_template_mode, push_template_mode, set_foster_parenting, set_ignore_lf, set_mode, set_quirks_mode, set_template_mode};
 ghost use Rattle.html_stack.specs.Modes.{IsContext};
 ghost use Rattle.html_rules.specs.Reset.{reset_insertion_mode};
 ghost use Rattle.html_rules.specs.State.{Answers};
-ghost use Rattle.html_tree_builder.specs.States.{Building, Stands, state_of};
+ghost use Rattle.html_tree_builder.specs.States.{state_of};
 ghost use Rattle.markup.specs.Forest.{Forest};
 
 use crate::construction::Construction;

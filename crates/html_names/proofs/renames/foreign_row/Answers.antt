@@ -1,6 +1,3 @@
-use Rattle.std.proofs.Common.{◌∙◌, subst, sym}
-use Rattle.std.specs.Prelude.{List, ℕ}
-use Rattle.markup.specs.KnownNames.{IsNameAt}
 use Rattle.html_names.proofs.Renamed.{foreign-known, foreign-unknown, row-within}
 use Rattle.html_names.proofs.renames.foreign_row.Goals as goal
 

@@ -1,6 +1,5 @@
-use Rattle.std.proofs.Common.{◌≡◌, ◌∙◌, ℕ, List, [], get_or, ap}
+use Rattle.std.proofs.Common.{◌∙◌, ℕ, List, [], get_or, ap}
 use Rattle.markup.specs.KnownNames.{names}
-use Rattle.std.specs.Str.{chars}
 use Rattle.html_names.proofs.Renamed.{name-text}
 use Rattle.html_names.proofs.renames.known_text.Goals as goal
 use denote.Bor.{Bor}

@@ -1,7 +1,7 @@
 use Rattle.std.proofs.Common.{◌≡◌, ◌∙◌, [], ap, get_or, sym}
 use Rattle.markup.specs.KnownNames.{names}
 use Rattle.html_rules.specs.Renames.{renamed}
-use Rattle.html_names.specs.Renaming.{names_of, renamed_place, table_of}
+use Rattle.html_names.specs.Renaming.{names_of}
 use Rattle.html_names.proofs.HeldNames.{ok-map}
 use Rattle.html_names.proofs.Renamed.{table-known, table-within}
 use Rattle.html_names.proofs.renames.renamed_known.Goals as goal

@@ -1,5 +1,4 @@
 use Rattle.std.proofs.Common.{ap}
-use Rattle.html_parser.specs.declared.parser.Parser.{Parser}
 use Rattle.html_parser_tests.proofs.Ready.{ready-told}
 use Rattle.html_parser_tests.proofs.calls.tell_error.Goals as goal
 

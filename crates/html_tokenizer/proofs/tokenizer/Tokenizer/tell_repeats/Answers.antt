@@ -1,6 +1,4 @@
-use Rattle.html_tokenizer.specs.Steps.{a_fault}
-use Rattle.html_tokenizer.proofs.Errors.BeforeCharacters.{errs-behind, errs-not, errs-then}
-use Rattle.html_tokenizer.proofs.Errors.Rises.{again-no-more}
+use Rattle.html_tokenizer.proofs.Errors.BeforeCharacters.{errs-behind, errs-not}
 use Rattle.html_tokenizer.proofs.tokenizer.Tokenizer.tell_repeats.Goals as goal
 
 pub returns-in_err-tell_error : goal.returns-in_err-tell_error

@@ -1,4 +1,4 @@
-use Rattle.std.proofs.Common.{◌≡◌, ◌∙◌, ℕ, Bool, true, false, List, Option, Some, None, refl, sym, rules}
+use Rattle.std.proofs.Common.{◌≡◌, ◌∙◌, Bool, true, false, List, Option, Some, None, refl, sym, rules}
 use Rattle.std.specs.Prelude.{◌&&◌, not, is_none}
 use Rattle.html_tokens.specs.TextState.{is_text_state}
 use Rattle.html_tokens.specs.declared.states.State.{State}
