@@ -15,6 +15,7 @@ use markup::{ParseFault, Text, TokenizerResult};
 
 impl<Sink: TokenSink> Tokenizer<Sink> {
     /// Takes a run of text, and goes on.
+    #[inline(always)]
     fn take_text(&mut self, run: Text) -> Result<ProcessResult<Sink::Handle>, ParseFault>
         requires run { IsRunAt self.old run }
         requires sound { Sink.is_sound (Sink.view self.old.sink) }

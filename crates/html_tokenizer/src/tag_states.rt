@@ -130,6 +130,7 @@ impl<Sink: TokenSink> Tokenizer<Sink> {
     }
 
     /// Hands out the tag that was read.
+    #[inline(always)]
     pub(crate) fn emit_tag(&mut self) -> Result<ProcessResult<Sink::Handle>, ParseFault>
         requires fresh { self.old.char_ref ≡ None }
         requires sound { Sink.is_sound (Sink.view self.old.sink) }

@@ -78,6 +78,7 @@ pub(crate) fn value_stops(kind: AttrValueKind) -> SmallCharSet
 
 impl<Sink: TokenSink> Tokenizer<Sink> {
     /// The characters at which a run of plain text ends, where such runs are read.
+    #[inline(always)]
     pub(crate) fn stops(&self) -> Option<SmallCharSet>
         ensures exact { result ≡ stops.stops_of self.now.stream.exact_errors self.now.char_ref self.now.state }
         ensures breaks { IfSome result HasBreaks }
@@ -102,6 +103,7 @@ impl<Sink: TokenSink> Tokenizer<Sink> {
     }
 
     /// Takes a run of characters of which none is a stop.
+    #[inline(always)]
     pub(crate) fn take_run(&mut self, run: Text) -> Result<(), ParseFault>
         requires run { IsRunAt self.old run }
         requires sound { Sink.is_sound (Sink.view self.old.sink) }

@@ -44,6 +44,7 @@ impl Stream {
     }
 
     /// Takes the next character of the input. `None` where no character is left.
+    #[inline(always)]
     pub fn next_char(&mut self, input: &mut BufferQueue) -> Option<char>
         ensures { Nexts self.old self.new input.old input.new result }
     {
