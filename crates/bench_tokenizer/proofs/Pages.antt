@@ -11,6 +11,7 @@ use Rattle.html_tokenizer.specs.Steps as steps
 use Rattle.html_tokenizer.specs.declared.tokenizer.Tokenizer.{Tokenizer}
 use Rattle.html_tokenizer.proofs.Errors.Rises.{more-sum}
 use Rattle.html_tokens.specs.Notes.{errors_of, was_quiet}
+use Rattle.html_tokens.specs.Table.{Row}
 use Rattle.bench_tokenizer.specs.Counts.{counted_by, counting}
 use Rattle.bench_tokenizer.specs.Readings.{HasRead, Reads, Begins, IsCounted, page_reading, page_owes, noted, owed_behind, to_come}
 use Rattle.bench_tokenizer.specs.declared.counts.Counts.{Counts}
@@ -31,12 +32,12 @@ still-told : (owed m n : ℕ) → min owed 0xffff_ffff_ffff_ffff ≤ m → m ≤
 still-told owed m n h k = omega arith
 
 -- a tokenizer that begins has read nothing of a page
-pub begun : (page : List ℕ) (k : Tokenizer Counts) → Begins k → HasRead page k page
-begun page k begins = record { owed = steps.nothing_owed; told = omega arith; same = sym (begins.same page); takes = begins.takes }
+pub begun : (table : List Row) (page : List ℕ) (k : Tokenizer Counts) → Begins table k → HasRead table page k page
+begun table page k begins = record { owed = steps.nothing_owed; told = omega arith; same = sym (begins.same page); takes = begins.takes }
 
 -- behind a text that a tokenizer read, what follows that text is the rest of the page
-pub read-on : (page text behind : List ℕ) (old new : Tokenizer Counts) → HasRead page old (text ++ behind) → Reads old new text → HasRead page new behind
-read-on page text behind old new read reads = record {
+pub read-on : (table : List Row) (page text behind : List ℕ) (old new : Tokenizer Counts) → HasRead table page old (text ++ behind) → Reads old new text → HasRead table page new behind
+read-on table page text behind old new read reads = record {
   owed = owed_behind reads.owed read.owed;
   told = told-all read.owed.faults reads.owed.faults old.sink.errors new.sink.errors read.told (told-fewer old.sink.errors reads.owed.faults (owed_for_text old.stream.exact_errors reads.came).faults new.sink.errors reads.rises.enough);
   same = read.same ∙ reads.same read.owed behind;
@@ -44,17 +45,17 @@ read-on page text behind old new read reads = record {
 }
 
 -- where nothing of a page is left and the end is told, the numbers are those of the page
-pub whole-page : (k new : Tokenizer Counts) (page : List ℕ) (rest : List ℕ) → HasRead page k (chars rest) → rest ≡ []
-    → EndGives counting (refusal k.stream) k new (Ok tt) → IsCounted page new.sink
-whole-page k new page rest read none gives =
+pub whole-page : (table : List Row) (k new : Tokenizer Counts) (page : List ℕ) (rest : List ℕ) → HasRead table page k (chars rest) → rest ≡ []
+    → EndGives counting (refusal k.stream) k new (Ok tt) → IsCounted table page new.sink
+whole-page table k new page rest read none gives =
     let has_ended = rw read.takes.begun at gives in
     let owed = owed_behind has_ended.owed read.owed in
     let told = still-told (and_more has_ended.owed.faults read.owed.faults) has_ended.told.errors new.sink.errors (told-all read.owed.faults has_ended.owed.faults k.sink.errors has_ended.told.errors read.told has_ended.rises.enough) has_ended.kept in
-    let whole : page_reading page ≡ Ok (counted_by new.sink, noted owed) =
+    let whole : page_reading table page ≡ Ok (counted_by new.sink, noted owed) =
     read.same ∙ ap (λ r. to_come k read.owed (chars r)) none ∙ ap (to_come k read.owed) chars-nil ∙ has_ended.same (noted read.owed) in
-    let is_owed : errors_of (page_reading page) ≡ owed.faults = ap errors_of whole in
-    let is_heard : was_quiet (page_reading page) ≡ owed.is_quiet = ap was_quiet whole in
+    let is_owed : errors_of (page_reading table page) ≡ owed.faults = ap errors_of whole in
+    let is_heard : was_quiet (page_reading table page) ≡ owed.is_quiet = ap was_quiet whole in
     record {
-      read = whole ∙ (ap (λ n. Ok (counted_by new.sink, record { pauses = []; errors = n; is_quiet = owed.is_quiet })) (sym is_owed) ∙ ap (λ q. Ok (counted_by new.sink, record { pauses = []; errors = page_owes page; is_quiet = q })) (sym is_heard));
+      read = whole ∙ (ap (λ n. Ok (counted_by new.sink, record { pauses = []; errors = n; is_quiet = owed.is_quiet })) (sym is_owed) ∙ ap (λ q. Ok (counted_by new.sink, record { pauses = []; errors = page_owes table page; is_quiet = q })) (sym is_heard));
       told = subst (λ n. min n 0xffff_ffff_ffff_ffff ≤ new.sink.errors) (sym is_owed) told;
     }

@@ -4,7 +4,7 @@ use Rattle.html_tokens.specs.Notes.{Notes, no_notes, noted_reading, errors_of, w
 use Rattle.html_tokens.specs.NormalText.{normal_text}
 use Rattle.html_tokens.specs.Reading.{first_stand}
 use Rattle.html_tokens.specs.Sink.{Refusal}
-use Rattle.html_references.specs.References.{five_rows}
+use Rattle.html_tokens.specs.Table.{Row}
 use Rattle.html_tokenizer.specs.Calls.{IsReady, refusal, owed_for_text}
 use Rattle.html_tokenizer.specs.Calls as calls
 use Rattle.html_tokenizer.specs.Steps.{Owed, Rises, together, and_more}
@@ -17,18 +17,18 @@ use Rattle.bench_tokenizer.specs.declared.counts.Counts.{Counts}
 abbrev pub nothing : Counted
 nothing = record { characters = 0; tags = 0; attributes = 0; comments = 0; has_ended = false }
 
--- what the definitions make of a whole page, with the five names of references that a written text needs
-abbrev pub page_reading : List ℕ → Result (Counted × Notes ℕ) (Refusal × ℕ)
-page_reading page = noted_reading step is_quiet asks_cdata ended five_rows (first_stand None None) 0 (nothing, no_notes) (normal_text true page)
+-- what the definitions make of a whole page, with this table of references
+abbrev pub page_reading : List Row → List ℕ → Result (Counted × Notes ℕ) (Refusal × ℕ)
+page_reading table page = noted_reading step is_quiet asks_cdata ended table (first_stand None None) 0 (nothing, no_notes) (normal_text true page)
 
 -- how many errors a page owes
-abbrev pub page_owes : List ℕ → ℕ
-page_owes page = errors_of (page_reading page)
+abbrev pub page_owes : List Row → List ℕ → ℕ
+page_owes table page = errors_of (page_reading table page)
 
 -- What is counted of a page is what the definitions make of it: no pause, and an error at least for each faulty item, up to u64::MAX.
-pub record IsCounted (page : List ℕ) (counts : Counts) : Type 0 where
-  pub read : page_reading page ≡ Ok (counted_by counts, record { pauses = []; errors = page_owes page; is_quiet = was_quiet (page_reading page) })
-  pub told : min (page_owes page) 0xffff_ffff_ffff_ffff ≤ counts.errors
+pub record IsCounted (table : List Row) (page : List ℕ) (counts : Counts) : Type 0 where
+  pub read : page_reading table page ≡ Ok (counted_by counts, record { pauses = []; errors = page_owes table page; is_quiet = was_quiet (page_reading table page) })
+  pub told : min (page_owes table page) 0xffff_ffff_ffff_ffff ≤ counts.errors
 
 -- what is owed, noted with no pause
 abbrev pub noted : Owed → Notes ℕ
@@ -57,13 +57,13 @@ pub record Reads (old new : Tokenizer Counts) (text : List ℕ) : Type 0 where
   pub takes : Takes new
 
 -- A page was read up to this rest, and owed this before it.
-pub record HasRead (page : List ℕ) (k : Tokenizer Counts) (rest : List ℕ) : Type 0 where
+pub record HasRead (table : List Row) (page : List ℕ) (k : Tokenizer Counts) (rest : List ℕ) : Type 0 where
   pub owed : Owed
   pub told : min owed.faults 0xffff_ffff_ffff_ffff ≤ k.sink.errors
-  pub same : page_reading page ≡ to_come k owed rest
+  pub same : page_reading table page ≡ to_come k owed rest
   pub takes : Takes k
 
 -- A tokenizer at the front of its input: what is to come is the reading of all the text.
-pub record Begins (k : Tokenizer Counts) : Type 0 where
-  pub same : (t : List ℕ) → to_come k steps.nothing_owed t ≡ page_reading t
+pub record Begins (table : List Row) (k : Tokenizer Counts) : Type 0 where
+  pub same : (t : List ℕ) → to_come k steps.nothing_owed t ≡ page_reading table t
   pub takes : Takes k

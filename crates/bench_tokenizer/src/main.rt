@@ -1,4 +1,5 @@
-//! Measures how fast a tokenizer reads a page: `bench_tokenizer [BYTES]`.
+//! Measures how fast a tokenizer reads a page: `bench_tokenizer [BYTES]` one that it makes, with the five names of references that a
+//! written text needs, or `bench_tokenizer PAGE TABLE` that of a file, with the table of references of another.
 //!
 //! Standard output gets what was counted, standard error how long it took.
 #![tactic(auto)]
@@ -8,39 +9,76 @@ mod read;
 
 use anyhow::{Context, Result, bail};
 use bench_pages::page_of;
+use devices::StdSource;
+use html_input::read_table;
+use html_tokenizer::References;
 use std::alloc::Global;
 use std::env;
-use std::rt::{Clock, Env};
+use std::fs::{self, File};
+use std::rt::Clock;
 use std::time::Instant;
 
 const DEFAULT_BYTES: usize = 50_000_000;
 
-fn main(rt: HostRuntime) -> Result<()> {
-    let bytes = wanted_bytes(&rt)?;
+/// What is read.
+#[derive(Drop)]
+struct Input {
+    page: String,
+    table: References,
+}
+
+/// A page of so many bytes, with the five names of references that a written text needs.
+fn made_input(rt: &HostRuntime, bytes: usize) -> Result<Input> {
     let Ok(page) = page_of(rt.alloc(), bytes) else {
         bail!("no memory");
     };
-    measure(&rt, rt.alloc(), page.as_str(), false)?;
-    measure(&rt, rt.alloc(), page.as_str(), true)
+    let Ok(table) = References::five(rt.alloc()) else {
+        bail!("no memory");
+    };
+    Ok(Input { page, table })
 }
 
-fn wanted_bytes<R: Env + Alloc>(rt: &R) -> Result<usize> {
-    let mut arguments = env::args(rt)?;
-    let _program = arguments.next();
-    match arguments.next() {
-        Some(argument) => argument.as_str().parse().context("the number of bytes"),
-        None => Ok(DEFAULT_BYTES),
+/// The page and the table of references in files of these names.
+fn input_of_files(rt: &HostRuntime, page: &str, table: &str) -> Result<Input> {
+    let page = fs::read_to_string(rt, page)?;
+    let file = File::open(rt, table)?;
+    let Ok(table) = read_table(rt.alloc(), &mut StdSource::new(file)) else {
+        bail!("no table of references");
+    };
+    Ok(Input { page, table })
+}
+
+fn input_of(rt: &HostRuntime, words: &[String]) -> Result<Input> {
+    match words {
+        [] => made_input(rt, DEFAULT_BYTES),
+        [bytes] => made_input(rt, bytes.as_str().parse().context("the number of bytes")?),
+        [page, table] => input_of_files(rt, page.as_str(), table.as_str()),
+        _ => bail!("bench_tokenizer [BYTES], or bench_tokenizer PAGE TABLE"),
     }
+}
+
+fn main(rt: HostRuntime) -> Result<()> {
+    let mut words = Vec::new(rt.alloc());
+    for word in env::args(&rt)?.skip(1) {
+        words.push(word)?;
+    }
+    let input = input_of(&rt, words.as_slice())?;
+    measure(&rt, rt.alloc(), &input, false)?;
+    measure(&rt, rt.alloc(), &input, true)
 }
 
 fn measure<R: Clock + Print + Eprint>(
     rt: &R,
     alloc: Global,
-    page: &str,
+    input: &Input,
     exact_errors: bool,
 ) -> Result<()> {
+    let page = input.page.as_str();
+    let Ok(table) = input.table.copy(alloc) else {
+        bail!("no memory");
+    };
     let start = Instant::now(rt)?;
-    let Ok(counts) = read::read(alloc, page, exact_errors) else {
+    let Ok(counts) = read::read(alloc, page, table, exact_errors) else {
         bail!("the page was not read");
     };
     let seconds = start.elapsed(rt)?.as_secs_f64();

@@ -10,18 +10,15 @@ use html_tokenizer::{BufferQueue, References, Tokenizer, TokenizerOpts};
 use markup::{ParseFault, TokenizerResult};
 use std::alloc::Global;
 
-/// A tokenizer at the front of its input, with the five names of references that a written text needs.
-fn tokenizer_of(alloc: Global, exact_errors: bool) -> Result<Tokenizer<Counts>, ParseFault>
-    ensures { IfOk result Begins }
+/// A tokenizer at the front of its input.
+fn tokenizer_of(alloc: Global, table: References, exact_errors: bool) -> Tokenizer<Counts>
+    ensures { Begins table result }
 {
-    let Ok(table) = References::five(alloc) else {
-        return Err(ParseFault::Memory);
-    };
     let opts = TokenizerOpts {
         exact_errors,
         ..TokenizerOpts::default()
     };
-    Ok(Tokenizer::new(alloc, Counts::new(), opts, table))
+    Tokenizer::new(alloc, Counts::new(), opts, table)
 }
 
 /// Has a tokenizer read a text. Its sink asks for no pause.
@@ -43,10 +40,15 @@ fn feed_text(
 }
 
 /// Reads a page in pieces to its end, and counts what it says.
-pub(crate) fn read(alloc: Global, page: &str, exact_errors: bool) -> Result<Counts, ParseFault>
-    ensures { IfOk result (λ counts. IsCounted (chars page.now) counts) }
+pub(crate) fn read(
+    alloc: Global,
+    page: &str,
+    table: References,
+    exact_errors: bool,
+) -> Result<Counts, ParseFault>
+    ensures { IfOk result (λ counts. IsCounted table (chars page.now) counts) }
 {
-    let mut tokenizer = tokenizer_of(alloc, exact_errors)?;
+    let mut tokenizer = tokenizer_of(alloc, table, exact_errors);
     let mut input = BufferQueue::new();
     let mut rest = page;
     while !rest.is_empty() {
