@@ -1,7 +1,9 @@
 //! A sink that counts what it is told.
 ghost use Rattle.std.specs.Prelude.{◌≡◌, true, false, length};
 ghost use Rattle.std.specs.Str.{chars};
+ghost use Rattle.html_tokens.specs.Notes.{one_if};
 ghost use Rattle.html_tokens.specs.Sink.{numbered};
+ghost use Rattle.bench_tokenizer.specs.FirstBytes.{is_first};
 ghost use Rattle.bench_tokenizer.specs.Counts.{Counted, IsWithin, counted_by, counted, error_counted, step, ended, asks_cdata, number, has_failed, errors_ended, is_quiet, counts_laws, reply_to};
 
 use html_tokenizer::states::RawKind;
@@ -27,11 +29,25 @@ pub(crate) struct Counts {
     pub(crate) errors: u64,
 }
 
-// How many characters a text has.
+// 1 for the first byte of a character, and else 0.
+fn one_if_first(byte: u8) -> usize
+    ensures { result ≡ one_if (is_first byte) }
+{
+    if byte < 128 || byte >= 192 { 1 } else { 0 }
+}
+
+// How many characters a text has: as many as bytes that are the first of one.
 fn characters(text: &str) -> usize
     ensures { result ≡ length (chars text.now) }
 {
-    text.chars().count()
+    let bytes = text.as_bytes();
+    let mut count = 0;
+    let mut at = 0;
+    while at < bytes.len() {
+        count += one_if_first(bytes[at]);
+        at += 1;
+    }
+    count
 }
 
 impl Counts {
