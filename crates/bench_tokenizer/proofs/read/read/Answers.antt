@@ -5,7 +5,7 @@ use Rattle.bench_tokenizer.specs.Readings.{HasRead, Reads}
 use Rattle.bench_tokenizer.proofs.read.read.Goals as goal
 
 pub loop-rest-init : goal.loop-rest-init
-loop-rest-init c = (search rules, begun c.args.table (chars c.args.page.now) c.in_ok-tokenizer.tokenizer (search rules), search rules)
+loop-rest-init c = (search rules, begun c.args.table (chars c.args.page.now) c.tokenizer_of-tokenizer.result c.tokenizer_of-tokenizer.ensures, search rules)
 
 pub loop-rest-preserved : goal.loop-rest-preserved
 loop-rest-preserved c =
