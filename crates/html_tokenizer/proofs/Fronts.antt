@@ -1,5 +1,6 @@
 -- What is taken from the front of the input at once.
 pub mod Attributes
+pub mod Lines
 pub mod Moves
 pub mod References
 pub mod Runs

@@ -1,7 +1,6 @@
 -- What the calls of a tokenizer leave: what is still to come of its sink, for each further text.
-use Rattle.std.specs.Prelude.{◌≡◌, ℕ, ◌+◌, ◌<◌, ◌≤◌, Bool, true, false, ◌&&◌, not, is_none, List, [], ◌∷◌, ◌++◌, length, Option, Some, None, Result, Ok, Err}
+use Rattle.std.specs.Prelude.{◌≡◌, ℕ, ◌<◌, ◌≤◌, Bool, true, false, ◌&&◌, not, is_none, List, [], ◌∷◌, ◌++◌, length, Option, Some, None, Result, Ok, Err}
 use Rattle.markup.specs.declared.fault.ParseFault.{ParseFault}
-use Rattle.markup.specs.declared.fault.ParseFault.TheVariants as fault
 use Rattle.markup.specs.declared.tokenizer_result.TokenizerResult.{TokenizerResult}
 use Rattle.markup.specs.declared.tokenizer_result.TokenizerResult.TheVariants.{Done, Script, EncodingIndicator}
 use Rattle.html_queue.specs.Queue.{Queue, Takes}

@@ -1,10 +1,12 @@
 -- What is taken of tags and references from the front of a text at once.
-use Rattle.std.specs.Prelude.{◌≡◌, ℕ, Bool, true, false, List, [], ◌∷◌, ◌++◌, All, Some, map}
+use Rattle.std.specs.Prelude.{◌≡◌, ℕ, Bool, true, false, nat_eq, List, [], ◌∷◌, ◌++◌, All, Some, Result, Ok, Err, map}
 use Rattle.std.specs.Char.{is_ascii_alphabetic, to_ascii_lowercase}
 use Rattle.std.specs.List.{list_all}
 use Rattle.std.specs.Str.{IsUtf8, chars}
+use Rattle.markup.specs.declared.fault.ParseFault.{ParseFault}
 use Rattle.html_queue.specs.Set.{has}
 use Rattle.html_queue.specs.declared.set.SmallCharSet.{SmallCharSet}
+use Rattle.html_tokens.specs.declared.replies.ProcessResult.TheVariants as flow
 use Rattle.html_tokens.specs.declared.sink.TokenSink.{Ghosts}
 use Rattle.html_tokens.specs.declared.states.AttrValueKind.TheVariants as value
 use Rattle.html_tokens.specs.declared.states.State.{State}
@@ -17,10 +19,10 @@ use Rattle.html_tokenizer_parts.specs.CharRefs.{is_held, is_held_front}
 use Rattle.html_tokenizer_parts.specs.declared.held_reference.Ampersand.TheVariants.{Held}
 use Rattle.html_tokenizer.specs.declared.tokenizer.Tokenizer.{Tokenizer}
 use Rattle.html_tokenizer.specs.Rest.{rows_of}
-use Rattle.html_tokenizer.specs.Steps.{IsAt}
+use Rattle.html_tokenizer.specs.Steps.{FailsOver, IsAt, Read}
 use Rattle.html_tokenizer.specs.Stops.{with_breaks}
 pub use Rattle.html_tokenizer.specs.Stops.{attribute_stops}
-use Rattle.html_tokenizer_parts.specs.Input.{IsUnbroken}
+use Rattle.html_tokenizer_parts.specs.Input.{IsUnbroken, counted}
 
 -- the characters at which a tag's name is taken no further at once
 abbrev pub name_stops : SmallCharSet
@@ -122,7 +124,33 @@ pub record ReadsTags {K : Type 0} (k : Tokenizer K) : Type 0 where
   pub plain : k.stream.exact_errors ≡ false
   pub unmarked : k.stream.discard_bom ≡ false
 
+-- a character of data that stands for itself: any but NUL, a carriage return, "&" and "<"
+abbrev pub IsOfLine : ℕ → Type 0
+IsOfLine c = (nat_eq c 0 ≡ false) × (nat_eq c 13 ≡ false) × (nat_eq c 38 ≡ false) × (nat_eq c 60 ≡ false)
+
+-- a text of such characters, line feeds among them
+abbrev pub AreLines : List ℕ → Type 0
+AreLines cs = All IsOfLine cs
+
+-- a number of line breaks behind the characters of a text
+abbrev pub counted_all : ℕ → List ℕ → ℕ
+counted_all breaks [] = breaks
+counted_all breaks (c ∷ t) = counted_all (counted breaks c) t
+
+-- the bytes of a text are those of lines, and what follows them; behind the lines so many line breaks were read, and so many before
+pub record HasLines (text rest : List ℕ) (before behind : ℕ) : Type 0 where
+  pub front : List ℕ
+  pub whole : text ≡ front ++ rest
+  pub utf8 : IsUtf8 front
+  pub lines : AreLines (chars front)
+  pub counts : behind ≡ counted_all before (chars front)
+
 module _ {K H : Type 0} (Sink : Ghosts K H) where
+  -- Lines were told, and their line breaks counted.
+  abbrev pub KeepsLines : Tokenizer K → Tokenizer K → List ℕ → Result (Unit {0}) ParseFault → Type 0
+  KeepsLines old new lines (Ok x) = Read Sink lines (λ owed. owed) new.stream.breaks (record old.stream { breaks = counted_all old.stream.breaks lines }) old new flow.Continue
+  KeepsLines old new lines (Err fault) = FailsOver Sink lines old new.sink fault
+
   -- Of a text's bytes a front was taken, with no line end in it.
   pub record TakesFront (old new : Tokenizer K) (text rest : List ℕ) : Type 0 where
     pub front : List ℕ

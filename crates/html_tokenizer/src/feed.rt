@@ -4,6 +4,7 @@ ghost use Rattle.html_tokenizer.specs.Calls.{IsReady, KeepsText, Moves, Runs};
 ghost use Rattle.html_tokenizer.specs.Fronts.{IsInTag, ReadsTags};
 ghost use Rattle.html_tokenizer.specs.Stops.{IsRunAt, IsStoppedBy};
 
+use crate::front_lines::behind_lines;
 use crate::front_references::reference_of;
 use crate::front_tags::opening_of;
 use crate::text_runs::data_stops;
@@ -81,6 +82,31 @@ impl<Sink: TokenSink> Tokenizer<Sink> {
         }
     }
 
+    /// Takes the lines of data at the front of the input, or else the next character.
+    #[inline(always)]
+    fn move_by_lines(
+        &mut self,
+        input: &mut BufferQueue,
+    ) -> Result<ProcessResult<Sink::Handle>, ParseFault>
+        requires ready { IsReady Sink.TokenSink self.old }
+        requires tags { ReadsTags self.old }
+        ensures { Moves Sink.TokenSink self.old self.new input.old input.new result }
+    {
+        if self.stream.ignore_lf {
+            return self.move_by_run(data_stops(), input);
+        }
+        let text = input.as_str();
+        let (rest, breaks) = behind_lines(text, self.stream.breaks);
+        let width = text.len() - rest.len();
+        if width == 0 {
+            return self.move_by_one(input);
+        }
+        let lines = Text::from_str(self.stream.alloc, &text[..width])?;
+        input.skip(width);
+        self.tell_lines(lines, breaks)?;
+        Ok(ProcessResult::Continue)
+    }
+
     /// Holds a reference by name from the front of the input at once, or else takes what comes next.
     fn move_by_reference(
         &mut self,
@@ -92,7 +118,7 @@ impl<Sink: TokenSink> Tokenizer<Sink> {
     {
         let text = input.as_str();
         let Some((name, rest)) = reference_of(text) else {
-            return self.move_by_run(data_stops(), input);
+            return self.move_by_lines(input);
         };
         let holds = self.hold_name(name)?;
         if !holds {

@@ -13,6 +13,7 @@ mod end_markup_states;
 mod end_states;
 mod feed;
 mod front_attributes;
+mod front_lines;
 mod front_references;
 mod front_tags;
 pub mod laws;

@@ -37,14 +37,20 @@ module _ {T : Type 0} (sound : T → Type 0) (to : Listener T) (rows : List Row)
       reading-char sound to rows laws st next b s h c c t l e
       ∙ ap (λ n. to.step s (CharacterTokens (c ∷ [])) l >>= λ p. told_text to rows next n p.0 t) (no-break b c unbroken)
 
-  -- text, and then one character more of it
+  -- text, and then one character more of it, behind which so many line breaks were read
+  pub told-then : (st next : Stand) (b d : ℕ) (s : T) → sound s → (a : List ℕ) (c : ℕ) (t : List ℕ) (l : ℕ)
+      → ((s : T) → sound s → told_text to rows st b s (c ∷ t) ≡ (to.step s (CharacterTokens (c ∷ [])) l >>= λ p. told_text to rows next d p.0 t))
+      → (to.step s (CharacterTokens a) l >>= λ p. told_text to rows st b p.0 (c ∷ t)) ≡ (to.step s (CharacterTokens (a ++ c ∷ [])) l >>= λ p. told_text to rows next d p.0 t)
+  told-then st next b d s h a c t l each =
+      bind_where (to.step s (CharacterTokens a) l) _ _ (IfOk-weaker (to.step s (CharacterTokens a) l) _ _ (λ p ok. each p.0 ok) (laws.keeps s h (CharacterTokens a) l))
+      ∙ bind-again (to.step s (CharacterTokens a) l) (λ p. to.step p.0 (CharacterTokens (c ∷ [])) l) (λ p. told_text to rows next d p.0 t)
+      ∙ ap (λ r. r >>= λ p. told_text to rows next d p.0 t) (laws.pieces s h a (c ∷ []) l l l)
+
+  -- the same of a character that is no line break
   pub told-more : (st next : Stand) (b : ℕ) (s : T) → sound s → (a : List ℕ) (c : ℕ) (t : List ℕ) (l : ℕ)
       → ((s : T) → sound s → told_text to rows st b s (c ∷ t) ≡ (to.step s (CharacterTokens (c ∷ [])) l >>= λ p. told_text to rows next b p.0 t))
       → (to.step s (CharacterTokens a) l >>= λ p. told_text to rows st b p.0 (c ∷ t)) ≡ (to.step s (CharacterTokens (a ++ c ∷ [])) l >>= λ p. told_text to rows next b p.0 t)
-  told-more st next b s h a c t l each =
-      bind_where (to.step s (CharacterTokens a) l) _ _ (IfOk-weaker (to.step s (CharacterTokens a) l) _ _ (λ p ok. each p.0 ok) (laws.keeps s h (CharacterTokens a) l))
-      ∙ bind-again (to.step s (CharacterTokens a) l) (λ p. to.step p.0 (CharacterTokens (c ∷ [])) l) (λ p. told_text to rows next b p.0 t)
-      ∙ ap (λ r. r >>= λ p. told_text to rows next b p.0 t) (laws.pieces s h a (c ∷ []) l l l)
+  told-more st next b s h a c t l each = told-then st next b b s h a c t l each
 
   -- two characters that are read as text, and are no line breaks
   pub reading-two : (st mid next : Stand) (b : ℕ) (s : T) → sound s → (c d : ℕ) (t : List ℕ) (l : ℕ) → nat_eq c 10 ≡ false → nat_eq d 10 ≡ false

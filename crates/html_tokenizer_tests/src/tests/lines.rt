@@ -49,6 +49,7 @@ fn each_line_end_counts_once(rt: HostRuntime) -> Result<(), Fail> {
 const LINES: &[(&str, &[u64])] = &[
     ("<a>\r\n<b>\r\n</b>\r\n</a>\r\n", &[1, 2, 3, 4, 5]),
     ("\r\r\n\n<a>", &[4, 4]),
+    ("a\nb\n\nc<i>\n\nd\n</i>e\n", &[4, 7, 8]),
     ("<!--a\nb\r\nc--><a\nb=\r\"c\r\nd\"\n>", &[3, 7, 7]),
     ("<!--a\n", &[2, 2]),
     ("<!doctype\nhtml\r>\r\n</a\n>", &[3, 5, 5]),
