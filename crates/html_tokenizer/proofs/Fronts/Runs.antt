@@ -10,9 +10,9 @@ use Rattle.html_queue.proofs.Taking.{filled}
 use Rattle.html_tokens.specs.declared.replies.ProcessResult.{ProcessResult}
 use Rattle.html_tokens.specs.declared.sink.TokenSink.{Ghosts}
 use Rattle.html_tokenizer.specs.Calls.{ComesAsRunAt, Passes, owed_for_text}
-use Rattle.html_tokenizer.specs.Fronts.{IsInTag, Lacks, ReadsTags, after_name, after_value, in_name, in_value}
+use Rattle.html_tokenizer.specs.Fronts.{IsInTag, Lacks, after_name, after_value, in_name, in_value}
 use Rattle.html_tokenizer.specs.Steps.{Keeps, Rises}
-use Rattle.html_tokenizer.specs.Stops.{IsRunAt, IsStoppedBy, data_stops}
+use Rattle.html_tokenizer.specs.Stops.{IsRunAt, IsStoppedBy}
 use Rattle.html_tokenizer_parts.specs.declared.stream.Stream.{Stream}
 use Rattle.html_tokenizer.specs.declared.tokenizer.Tokenizer.{Tokenizer}
 use Rattle.html_tokenizer.proofs.Fronts.Tags.{lacks-breaks}
@@ -37,10 +37,6 @@ run-filled : (bytes : List ℕ) (empty : Bool) → IsUtf8 bytes → empty ≡ (l
 run-filled bytes empty utf8 e f = filled (chars bytes) bytes (encodes-chars bytes utf8) (some-of (length bytes) (sym e ∙ f))
 
 module _ {K : Type 0} where
-  -- where a machine in data is stopped
-  pub data-stopped : (k : Tokenizer K) (set : SmallCharSet) → ReadsTags k → set ≡ data_stops → IsStoppedBy set k
-  data-stopped k set reads is = rw (is, reads.plain, reads.at.fresh, reads.at.state) (record { are = refl; breaks = (refl, refl, refl) })
-
   pub run-at : (k : Tokenizer K) (set : SmallCharSet) (bytes made : List ℕ) (empty : Bool) → IsStoppedBy set k → IsUtf8 bytes → made ≡ chars bytes → empty ≡ (length bytes == 0) → empty ≡ false → Lacks set (chars bytes) → IsRunAt k made
   run-at k set bytes made empty stopped utf8 is e f lacks = rw is (record { stops = set; are = stopped.are; filled = run-filled bytes empty utf8 e f; lacking = lacks })
 

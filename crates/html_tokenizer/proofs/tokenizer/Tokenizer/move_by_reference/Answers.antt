@@ -1,6 +1,5 @@
 use Rattle.std.proofs.Common.{refl}
 use Rattle.html_tokenizer.proofs.Fronts.Moves.{heeding, moved-front, not-fronted, skip-cut}
-use Rattle.html_tokenizer.proofs.Fronts.Runs.{data-stopped}
 use Rattle.html_tokenizer.proofs.Fronts.References.{reference-shorter, reference-taken}
 use Rattle.html_tokenizer.proofs.tokenizer.Tokenizer.move_by_reference.Goals as goal
 
@@ -22,6 +21,3 @@ pub returns-in_err-holds : goal.returns-in_err-holds
 returns-in_err-holds g c =
     let m = g.Sink.TokenSink in
     not-fronted m c.args.self.now c.hold_name.new.self c.args.input.now _ _ c.hold_name.ensures.sink c.in_err-holds.ensures.fault c.requires.ready c.from_residual.ensures.1
-
-pub move_by_run-requires-clause-stops : goal.move_by_run-requires-clause-stops
-move_by_run-requires-clause-stops g c = data-stopped c.args.self.now _ c.requires.tags c.data_stops.ensures
