@@ -172,6 +172,48 @@ fn feed_piece<S: TokenSink>(
     feed_all(tokenizer, input)
 }
 
+/// Feeds these pieces, one behind the other.
+fn feed_pieces<S: TokenSink>(
+    tokenizer: &mut Tokenizer<S>,
+    pieces: Vec<String>,
+) -> Result<(), ParseFault>
+    requires { IsReadyIf S.TokenSink (refusal tokenizer.old.stream) tokenizer.old }
+    ensures { IsReadyIf S.TokenSink (refusal tokenizer.new.stream) tokenizer.new }
+{
+    let mut input = BufferQueue::new();
+    for piece in pieces {
+        feed_piece(tokenizer, &mut input, piece)?;
+    }
+    Ok(())
+}
+
+/// The same, and the end.
+fn feed_to_end<S: TokenSink>(
+    tokenizer: &mut Tokenizer<S>,
+    pieces: Vec<String>,
+) -> Result<(), ParseFault>
+    requires { IsReadyIf S.TokenSink (refusal tokenizer.old.stream) tokenizer.old }
+    ensures { IsReadyIf S.TokenSink (refusal tokenizer.new.stream) tokenizer.new }
+{
+    feed_pieces(tokenizer, pieces)?;
+    tokenizer.end()
+}
+
+/// What takes the tokens. Tokenizers are let go of here alone, since each place that lets one go takes long to prove.
+fn sink_of<S: TokenSink + Drop>(tokenizer: Tokenizer<S>) -> S {
+    tokenizer.sink
+}
+
+/// The same, where a call was not refused.
+fn sink_if<S: TokenSink + Drop>(
+    tokenizer: Tokenizer<S>,
+    answer: Result<(), ParseFault>,
+) -> Result<S, ParseFault> {
+    let sink = sink_of(tokenizer);
+    answer?;
+    Ok(sink)
+}
+
 /// Reads these pieces and their end, and hands out the sink.
 fn read_over<S: TokenSink + Drop>(
     alloc: Global,
@@ -182,12 +224,8 @@ fn read_over<S: TokenSink + Drop>(
     requires { S.is_sound (S.view sink) }
 {
     let mut tokenizer = tokenizer_over(alloc, sink, setting)?;
-    let mut input = BufferQueue::new();
-    for piece in pieces {
-        feed_piece(&mut tokenizer, &mut input, piece)?;
-    }
-    tokenizer.end()?;
-    Ok(tokenizer.sink)
+    let answer = feed_to_end(&mut tokenizer, pieces);
+    sink_if(tokenizer, answer)
 }
 
 /// What a list is told of these pieces and their end.

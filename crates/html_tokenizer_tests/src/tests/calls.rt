@@ -1,31 +1,30 @@
 //! What the calls answer before, at and behind the end of the input.
 
-ghost use Rattle.std.specs.Prelude.{IfOk};
 ghost use Rattle.html_tokenizer.specs.Calls.{IsReadyIf, refusal};
 
 use super::words::in_words;
-use super::{PAGE, Setting, Table, feed_piece, list_of, tokenizer_over};
+use super::{
+    PAGE, Setting, Table, feed_piece, feed_pieces, list_of, sink_if, sink_of, tokenizer_over,
+};
 use html_tokenizer::{BufferQueue, State, TokenSink, Tokenizer};
 use html_tokens::states::RawKind;
 use markup::ParseFault;
 use std::alloc::Global;
 use std::process::Abort;
 use std::test::Fail;
-use text_pieces::in_two;
+use text_pieces::{as_given, in_two};
 
-/// A tokenizer of a page that was fed a text.
-fn behind<S: TokenSink + Drop>(
+/// Feeds a text.
+fn feed_text<S: TokenSink>(
     alloc: Global,
-    sink: S,
+    tokenizer: &mut Tokenizer<S>,
     text: &str,
-) -> Result<Tokenizer<S>, ParseFault>
-    requires { S.is_sound (S.view sink) }
-    ensures { IfOk result (λ k. IsReadyIf S.TokenSink (refusal k.stream) k) }
+) -> Result<(), ParseFault>
+    requires { IsReadyIf S.TokenSink (refusal tokenizer.old.stream) tokenizer.old }
+    ensures { IsReadyIf S.TokenSink (refusal tokenizer.new.stream) tokenizer.new }
 {
-    let mut tokenizer = tokenizer_over(alloc, sink, PAGE)?;
     let mut input = BufferQueue::new();
-    feed_piece(&mut tokenizer, &mut input, String::from_str(alloc, text)?)?;
-    Ok(tokenizer)
+    feed_piece(tokenizer, &mut input, String::from_str(alloc, text)?)
 }
 
 // Texts, and whether nothing is pending behind them.
@@ -71,7 +70,23 @@ const PENDING: &[(&str, bool)] = &[
     ("<plaintext>&</plaintext", true),
 ];
 
-/// Sees whether nothing is pending behind a text.
+/// Feeds a text, and sees whether nothing is pending behind it.
+fn feed_pending<S: TokenSink>(
+    rt: &impl Abort,
+    alloc: Global,
+    tokenizer: &mut Tokenizer<S>,
+    row: (&str, bool),
+) -> Result<(), ParseFault>
+    requires { IsReadyIf S.TokenSink (refusal tokenizer.old.stream) tokenizer.old }
+{
+    let (text, nothing_pending) = row;
+    feed_text(alloc, tokenizer, text)?;
+    assert_eq!(rt; tokenizer.nothing_pending(), nothing_pending, "{text}");
+    assert!(rt; !tokenizer.has_ended(), "{text}");
+    Ok(())
+}
+
+/// The same of a tokenizer over this sink.
 fn assert_pending<S: TokenSink + Drop>(
     rt: &impl Abort,
     alloc: Global,
@@ -80,10 +95,9 @@ fn assert_pending<S: TokenSink + Drop>(
 ) -> Result<(), ParseFault>
     requires { S.is_sound (S.view sink) }
 {
-    let (text, nothing_pending) = row;
-    let tokenizer = behind(alloc, sink, text)?;
-    assert_eq!(rt; tokenizer.nothing_pending(), nothing_pending, "{text}");
-    assert!(rt; !tokenizer.has_ended(), "{text}");
+    let mut tokenizer = tokenizer_over(alloc, sink, PAGE)?;
+    let answer = feed_pending(rt, alloc, &mut tokenizer, row);
+    sink_if(tokenizer, answer)?;
     Ok(())
 }
 
@@ -106,6 +120,7 @@ fn assert_at_start<S: TokenSink + Drop>(
 {
     let tokenizer = tokenizer_over(alloc, sink, setting)?;
     assert!(rt; tokenizer.nothing_pending() && !tokenizer.has_ended());
+    sink_of(tokenizer);
     Ok(())
 }
 
@@ -143,10 +158,10 @@ const TOLD: &[(&str, &str, &str)] = &[
 /// Sees what a text tells before the end.
 fn assert_told(rt: &impl Abort, alloc: Global, row: (&str, &str, &str)) -> Result<(), ParseFault> {
     let (text, told, behind_them) = row;
-    let tokenizer = behind(alloc, list_of(alloc, PAGE), text)?;
-    let words = in_words(alloc, &tokenizer.sink)?;
+    let sink = fed(alloc, list_of(alloc, PAGE), PAGE, as_given(alloc, &[text])?)?;
+    let words = in_words(alloc, &sink)?;
     assert_eq!(rt; words.as_str(), told, "{text}");
-    assert_eq!(rt; tokenizer.sink.text.as_str(), behind_them, "{text}");
+    assert_eq!(rt; sink.text.as_str(), behind_them, "{text}");
     Ok(())
 }
 
@@ -170,21 +185,18 @@ const TOLD_IN_TITLES: &[(&str, &str)] = &[
     ("</title</t", "</title"),
 ];
 
-/// A tokenizer that was fed these pieces.
+/// A sink behind these pieces, before the end.
 fn fed<S: TokenSink + Drop>(
     alloc: Global,
     sink: S,
     setting: Setting,
     pieces: Vec<String>,
-) -> Result<Tokenizer<S>, ParseFault>
+) -> Result<S, ParseFault>
     requires { S.is_sound (S.view sink) }
 {
     let mut tokenizer = tokenizer_over(alloc, sink, setting)?;
-    let mut input = BufferQueue::new();
-    for piece in pieces {
-        feed_piece(&mut tokenizer, &mut input, piece)?;
-    }
-    Ok(tokenizer)
+    let answer = feed_pieces(&mut tokenizer, pieces);
+    sink_if(tokenizer, answer)
 }
 
 /// Sees what text these pieces tell before the end.
@@ -195,8 +207,8 @@ fn assert_text(
     pieces: Vec<String>,
     told: &str,
 ) -> Result<(), ParseFault> {
-    let tokenizer = fed(alloc, list_of(alloc, setting), setting, pieces)?;
-    assert_eq!(rt; tokenizer.sink.text.as_str(), told);
+    let sink = fed(alloc, list_of(alloc, setting), setting, pieces)?;
+    assert_eq!(rt; sink.text.as_str(), told);
     Ok(())
 }
 
@@ -275,7 +287,24 @@ fn assert_ended<S: TokenSink>(
     assert!(rt; matches!(tokenizer.end(), Err(ParseFault::Ended)));
 }
 
-/// Ends a text, sees that each call behind that is refused, and hands out the sink.
+/// Feeds a text and the end, and sees that each call behind that is refused.
+fn feed_refused_behind<S: TokenSink>(
+    rt: &impl Abort,
+    alloc: Global,
+    tokenizer: &mut Tokenizer<S>,
+    text: &str,
+    input: &mut BufferQueue,
+) -> Result<(), ParseFault>
+    requires { IsReadyIf S.TokenSink (refusal tokenizer.old.stream) tokenizer.old }
+{
+    feed_text(alloc, tokenizer, text)?;
+    tokenizer.end()?;
+    assert_ended(rt, tokenizer, input);
+    assert_ended(rt, tokenizer, input);
+    Ok(())
+}
+
+/// The same of a tokenizer over this sink, which is handed out.
 fn assert_refused_behind<S: TokenSink + Drop>(
     rt: &impl Abort,
     alloc: Global,
@@ -285,11 +314,9 @@ fn assert_refused_behind<S: TokenSink + Drop>(
 ) -> Result<S, ParseFault>
     requires { S.is_sound (S.view sink) }
 {
-    let mut tokenizer = behind(alloc, sink, text)?;
-    tokenizer.end()?;
-    assert_ended(rt, &mut tokenizer, input);
-    assert_ended(rt, &mut tokenizer, input);
-    Ok(tokenizer.sink)
+    let mut tokenizer = tokenizer_over(alloc, sink, PAGE)?;
+    let answer = feed_refused_behind(rt, alloc, &mut tokenizer, text, input);
+    sink_if(tokenizer, answer)
 }
 
 #[test]
@@ -330,7 +357,24 @@ fn turn_plain<S: TokenSink>(tokenizer: &mut Tokenizer<S>) -> Result<(), ParseFau
     Ok(())
 }
 
-/// Reads a text and then one that is all text, and hands out the sink.
+/// Feeds a text, then one that is all text, and the end.
+fn feed_plainly<S: TokenSink>(
+    rt: &impl Abort,
+    alloc: Global,
+    tokenizer: &mut Tokenizer<S>,
+    before: &str,
+    text: &str,
+) -> Result<(), ParseFault>
+    requires { IsReadyIf S.TokenSink (refusal tokenizer.old.stream) tokenizer.old }
+{
+    feed_text(alloc, tokenizer, before)?;
+    turn_plain(tokenizer)?;
+    feed_text(alloc, tokenizer, text)?;
+    assert!(rt; tokenizer.nothing_pending(), "{before}");
+    tokenizer.end()
+}
+
+/// The same of a tokenizer over this sink, which is handed out.
 fn read_plainly<S: TokenSink + Drop>(
     rt: &impl Abort,
     alloc: Global,
@@ -340,13 +384,9 @@ fn read_plainly<S: TokenSink + Drop>(
 ) -> Result<S, ParseFault>
     requires { S.is_sound (S.view sink) }
 {
-    let mut tokenizer = behind(alloc, sink, before)?;
-    turn_plain(&mut tokenizer)?;
-    let mut input = BufferQueue::new();
-    feed_piece(&mut tokenizer, &mut input, String::from_str(alloc, text)?)?;
-    assert!(rt; tokenizer.nothing_pending(), "{before}");
-    tokenizer.end()?;
-    Ok(tokenizer.sink)
+    let mut tokenizer = tokenizer_over(alloc, sink, PAGE)?;
+    let answer = feed_plainly(rt, alloc, &mut tokenizer, before, text);
+    sink_if(tokenizer, answer)
 }
 
 #[test]

@@ -4,7 +4,7 @@ ghost use Rattle.html_tokenizer.specs.Calls.{IsReadyIf, refusal};
 
 use super::refusing::Refusing;
 use super::words::in_words;
-use super::{PAGE, Row, Setting, exact, feed_all, feed_piece, list_of, tokenizer_over};
+use super::{PAGE, Row, Setting, exact, feed_all, feed_piece, list_of, sink_if, tokenizer_over};
 use html_tokenizer::{BufferQueue, Listed, TokenSink, Tokenizer};
 use markup::ParseFault;
 use std::alloc::Global;
@@ -42,7 +42,22 @@ fn feed_to_end<S: TokenSink>(
     tokenizer.end()
 }
 
-/// Reads a text and its end, and hands out the sink. A tokenizer that lacks memory for them serves no more.
+/// Feeds what stands in the input, and the end. A tokenizer that lacks memory for them serves no more.
+fn feed_or_fail<S: TokenSink>(
+    rt: &impl Abort,
+    tokenizer: &mut Tokenizer<S>,
+    input: &mut BufferQueue,
+) -> Result<(), ParseFault>
+    requires { IsReadyIf S.TokenSink (refusal tokenizer.old.stream) tokenizer.old }
+{
+    let answer = feed_to_end(tokenizer, input);
+    if answer.is_err() {
+        assert_failed(rt, tokenizer);
+    }
+    answer
+}
+
+/// Reads a text and its end, and hands out the sink.
 fn read_or_fail<S: TokenSink + Drop>(
     rt: &impl Abort,
     alloc: Global,
@@ -55,11 +70,8 @@ fn read_or_fail<S: TokenSink + Drop>(
     let mut input = BufferQueue::new();
     input.push_back(String::from_str(alloc, text)?)?;
     let mut tokenizer = tokenizer_over(alloc, sink, setting)?;
-    if let Err(fault) = feed_to_end(&mut tokenizer, &mut input) {
-        assert_failed(rt, &mut tokenizer);
-        return Err(fault);
-    }
-    Ok(tokenizer.sink)
+    let answer = feed_or_fail(rt, &mut tokenizer, &mut input);
+    sink_if(tokenizer, answer)
 }
 
 /// The tokens of a text, in words.
@@ -151,6 +163,23 @@ fn assert_fault(
 }
 
 /// Sees that a sink's refusal of a text is passed on, and that the tokenizer serves no more.
+fn feed_refused<S: TokenSink>(
+    rt: &impl Abort,
+    alloc: Global,
+    tokenizer: &mut Tokenizer<S>,
+    text: &str,
+    fault: ParseFault,
+) -> Result<(), ParseFault>
+    requires { IsReadyIf S.TokenSink (refusal tokenizer.old.stream) tokenizer.old }
+{
+    let mut input = BufferQueue::new();
+    let answer = feed_piece(tokenizer, &mut input, String::from_str(alloc, text)?);
+    assert_fault(rt, answer, fault)?;
+    assert_failed(rt, tokenizer);
+    Ok(())
+}
+
+/// The same of a tokenizer over this sink.
 fn assert_refused<S: TokenSink + Drop>(
     rt: &impl Abort,
     alloc: Global,
@@ -161,14 +190,29 @@ fn assert_refused<S: TokenSink + Drop>(
     requires { S.is_sound (S.view sink) }
 {
     let mut tokenizer = tokenizer_over(alloc, sink, PAGE)?;
-    let mut input = BufferQueue::new();
-    let answer = feed_piece(&mut tokenizer, &mut input, String::from_str(alloc, text)?);
-    assert_fault(rt, answer, fault)?;
-    assert_failed(rt, &mut tokenizer);
+    let answer = feed_refused(rt, alloc, &mut tokenizer, text, fault);
+    sink_if(tokenizer, answer)?;
     Ok(())
 }
 
-/// The same of the end of the input, and of what is told there of a text.
+/// Sees the same of the end of the input, and of what is told there of a text.
+fn feed_end_refused<S: TokenSink>(
+    rt: &impl Abort,
+    alloc: Global,
+    tokenizer: &mut Tokenizer<S>,
+    text: &str,
+    fault: ParseFault,
+) -> Result<(), ParseFault>
+    requires { IsReadyIf S.TokenSink (refusal tokenizer.old.stream) tokenizer.old }
+{
+    let mut input = BufferQueue::new();
+    feed_piece(tokenizer, &mut input, String::from_str(alloc, text)?)?;
+    assert_fault(rt, tokenizer.end(), fault)?;
+    assert_failed(rt, tokenizer);
+    Ok(())
+}
+
+/// The same of a tokenizer over this sink.
 fn assert_end_refused<S: TokenSink + Drop>(
     rt: &impl Abort,
     alloc: Global,
@@ -179,10 +223,8 @@ fn assert_end_refused<S: TokenSink + Drop>(
     requires { S.is_sound (S.view sink) }
 {
     let mut tokenizer = tokenizer_over(alloc, sink, PAGE)?;
-    let mut input = BufferQueue::new();
-    feed_piece(&mut tokenizer, &mut input, String::from_str(alloc, text)?)?;
-    assert_fault(rt, tokenizer.end(), fault)?;
-    assert_failed(rt, &mut tokenizer);
+    let answer = feed_end_refused(rt, alloc, &mut tokenizer, text, fault);
+    sink_if(tokenizer, answer)?;
     Ok(())
 }
 

@@ -3,7 +3,7 @@ ghost use Rattle.html_tokenizer.specs.Calls.{IsReadyIf, refusal};
 
 use super::sinks::Naming;
 use super::words::Spoken;
-use super::{PAGE, list_of, tokenizer_over};
+use super::{PAGE, list_of, sink_if, tokenizer_over};
 use html_tokenizer::{BufferQueue, TokenSink, Tokenizer};
 use markup::{ParseFault, TokenizerResult};
 use std::alloc::Global;
@@ -157,7 +157,8 @@ fn assert_script<S: TokenSink<Handle = u64> + Spoken>(
 fn scripts_write_before_what_is_left(rt: HostRuntime) -> Result<(), Fail> {
     for row in SCRIPTS {
         let mut tokenizer = tokenizer_over(rt.alloc(), list_of(rt.alloc(), PAGE), PAGE)?;
-        assert_script(&rt, rt.alloc(), &mut tokenizer, row)?;
+        let answer = assert_script(&rt, rt.alloc(), &mut tokenizer, row);
+        sink_if(tokenizer, answer)?;
     }
     Ok(())
 }
@@ -201,6 +202,7 @@ fn assert_names<S: TokenSink + Spoken>(
 #[test]
 fn names_of_encodings_pause(rt: HostRuntime) -> Result<(), Fail> {
     let mut tokenizer = tokenizer_over(rt.alloc(), Naming::new(rt.alloc()), PAGE)?;
-    assert_names(&rt, rt.alloc(), &mut tokenizer)?;
+    let answer = assert_names(&rt, rt.alloc(), &mut tokenizer);
+    sink_if(tokenizer, answer)?;
     Ok(())
 }

@@ -1,5 +1,5 @@
 use Rattle.html_tokenizer.specs.Calls.{IsReadyIf, refusal}
-use Rattle.html_tokenizer_tests.proofs.tests.calls.fed.Given as goal
+use Rattle.html_tokenizer_tests.proofs.tests.feed_pieces.Given as goal
 
 abbrev pub invariant-loop-piece : goal.invariant-loop-piece
 invariant-loop-piece g l =
