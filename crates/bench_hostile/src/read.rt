@@ -48,6 +48,30 @@ fn feed_cut(
     Ok(())
 }
 
+/// Reads a text of a shape, and its end.
+fn feed_shape(
+    alloc: Global,
+    tokenizer: &mut Tokenizer<Pausing>,
+    text: String,
+    shape: Shape,
+) -> Result<(), ParseFault>
+    requires { IsReadyIf pausing (refusal_of tokenizer.old) tokenizer.old }
+{
+    let mut input = BufferQueue::new();
+    if shape.is_cut() {
+        feed_cut(alloc, tokenizer, &mut input, text.as_str())?;
+    } else {
+        input.push_back(text)?;
+        feed(alloc, tokenizer, &mut input)?;
+    }
+    tokenizer.end()
+}
+
+/// How many errors were told. The tokenizer is let go of here alone, since each place that lets one go takes long to prove.
+fn errors_of(tokenizer: Tokenizer<Pausing>) -> u64 {
+    tokenizer.sink.errors
+}
+
 /// How many errors a text of a shape tells.
 pub(crate) fn read(alloc: Global, text: String, shape: Shape) -> Result<u64, ParseFault> {
     let Ok(table) = References::five(alloc) else {
@@ -55,13 +79,8 @@ pub(crate) fn read(alloc: Global, text: String, shape: Shape) -> Result<u64, Par
     };
     let sink = Pausing { errors: 0 };
     let mut tokenizer = Tokenizer::new(alloc, sink, TokenizerOpts::default(), table);
-    let mut input = BufferQueue::new();
-    if shape.is_cut() {
-        feed_cut(alloc, &mut tokenizer, &mut input, text.as_str())?;
-    } else {
-        input.push_back(text)?;
-        feed(alloc, &mut tokenizer, &mut input)?;
-    }
-    tokenizer.end()?;
-    Ok(tokenizer.sink.errors)
+    let answer = feed_shape(alloc, &mut tokenizer, text, shape);
+    let errors = errors_of(tokenizer);
+    answer?;
+    Ok(errors)
 }

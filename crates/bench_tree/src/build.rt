@@ -38,20 +38,38 @@ fn feed_piece<S: TokenSink>(
     Ok(())
 }
 
+/// Feeds a page in pieces, and its end.
+fn feed_page<S: TokenSink>(
+    alloc: Global,
+    tokenizer: &mut Tokenizer<S>,
+    page: &str,
+) -> Result<(), ParseFault>
+    requires { IsReadyIf S.TokenSink (refusal tokenizer.old.stream) tokenizer.old }
+{
+    let mut input = BufferQueue::new();
+    let mut rest = page;
+    while !rest.is_empty() {
+        let (piece, behind) = split_piece(rest);
+        feed_piece(tokenizer, &mut input, String::from_str(alloc, piece)?)?;
+        rest = behind;
+    }
+    tokenizer.end()
+}
+
+/// What takes the tokens. The tokenizer is let go of here alone, since each place that lets one go takes long to prove.
+fn sink_of<S: TokenSink + Drop>(tokenizer: Tokenizer<S>) -> S {
+    tokenizer.sink
+}
+
 /// Reads a page in pieces to its end, and hands out the sink.
 fn read_over<S: TokenSink + Drop>(alloc: Global, sink: S, page: &str) -> Result<S, ParseFault>
     requires { S.is_sound (S.view sink) }
 {
     let mut tokenizer = tokenizer_over(alloc, sink)?;
-    let mut input = BufferQueue::new();
-    let mut rest = page;
-    while !rest.is_empty() {
-        let (piece, behind) = split_piece(rest);
-        feed_piece(&mut tokenizer, &mut input, String::from_str(alloc, piece)?)?;
-        rest = behind;
-    }
-    tokenizer.end()?;
-    Ok(tokenizer.sink)
+    let answer = feed_page(alloc, &mut tokenizer, page);
+    let sink = sink_of(tokenizer);
+    answer?;
+    Ok(sink)
 }
 
 /// The tree of a page.

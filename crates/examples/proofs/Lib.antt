@@ -1,3 +1,2 @@
 mod Feeds
 mod Listing
-mod Counting

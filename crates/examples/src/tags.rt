@@ -1,5 +1,6 @@
 //! How many tags a page has, by a sink of tokens of one's own.
 ghost use Rattle.examples.specs.Tags.{laws, step};
+ghost use Rattle.html_tokenizer.specs.Calls.{IsReadyIf, refusal_of};
 
 use html_tokenizer::{
     BufferQueue, References, Token, TokenSink, TokenSinkResult, Tokenizer, TokenizerOpts,
@@ -65,17 +66,33 @@ impl TokenSink for TagCounter {
     }
 }
 
+// Has a tokenizer read a page to its end.
+fn feed_page<Sink: TokenSink>(
+    tokenizer: &mut Tokenizer<Sink>,
+    page: String,
+) -> Result<(), ParseFault>
+    requires { IsReadyIf Sink.TokenSink (refusal_of tokenizer.old) tokenizer.old }
+{
+    let mut input = BufferQueue::new();
+    input.push_back(page)?;
+    while !input.is_empty() {
+        drop(tokenizer.feed(&mut input)?);
+    }
+    tokenizer.end()
+}
+
+fn count_of(tokenizer: Tokenizer<TagCounter>) -> u64 {
+    tokenizer.sink.count
+}
+
 pub fn tags(alloc: Global, table: References, page: String) -> Result<u64, ParseFault> {
     let sink = TagCounter {
         count: 0,
         errors: 0,
     };
     let mut tokenizer = Tokenizer::new(alloc, sink, TokenizerOpts::default(), table);
-    let mut input = BufferQueue::new();
-    input.push_back(page)?;
-    while !input.is_empty() {
-        drop(tokenizer.feed(&mut input)?);
-    }
-    tokenizer.end()?;
-    Ok(tokenizer.sink.count)
+    let answer = feed_page(&mut tokenizer, page);
+    let count = count_of(tokenizer);
+    answer?;
+    Ok(count)
 }

@@ -19,7 +19,7 @@ use Rattle.html_tokenizer.specs.Calls.{last_of, EndGives, FailsToEnd, Fed, FeedG
 use Rattle.html_tokenizer.specs.Rest.{coming}
 use Rattle.html_tokenizer.specs.Steps.{FailsAmong, more, together}
 use Rattle.html_tokenizer.specs.declared.tokenizer.Tokenizer.{Tokenizer}
-use Rattle.html_parser.specs.Read.{Beginning, EndsAll, FailsBehind, FeedsAll, HasRead, IsLeft, IsRefusedBehind, ReadsOn, RisesTo, TakesText, beginning, note_whole, read_whole}
+use Rattle.html_parser.specs.Read.{Beginning, EndsAll, FailsBehind, FeedsAll, HasRead, IsLeft, IsRefusedBehind, ReadsOn, RisesTo, TakesText, beginning, left_by, note_whole, read_whole}
 use Rattle.html_parser.proofs.Rising.{by-number, nothing-comes, rises-ended, rises-moved, rises-new}
 
 -- what is refused is refused also where what is noted is left out
@@ -207,13 +207,13 @@ module _ {K H : Type 0} (Sink : Ghosts K H) where
       }
 
   -- input was fed, and then the end was told, or something failed
-  pub end-given : (refused : Option ParseFault) (k mid new : Tokenizer K) (from to : Queue) → FeedsAll Sink refused k mid from to (Ok tt) → EndGives Sink (refusal_of mid) mid new (Ok tt) → EndsAll Sink refused k from.characters (Ok new.sink)
+  end-given : (refused : Option ParseFault) (k mid new : Tokenizer K) (from to : Queue) → FeedsAll Sink refused k mid from to (Ok tt) → EndGives Sink (refusal_of mid) mid new (Ok tt) → EndsAll Sink refused k from.characters (Ok new.sink)
   end-given None k mid new from to fed gives = λ begin before r.
       let ended = rw fed.2 at gives in
       ended-whole mid new begin (before ++ from.characters) (fed.0 begin before r) ended
   end-given (Some fault) k mid new from to fed gives = absurd (let e = fed.0 in cc)
 
-  pub end-refused : (refused : Option ParseFault) (k mid new : Tokenizer K) (from to : Queue) (fault : ParseFault) → FeedsAll Sink refused k mid from to (Ok tt) → EndGives Sink (refusal_of mid) mid new (Err fault) → EndsAll Sink refused k from.characters (Err fault)
+  end-refused : (refused : Option ParseFault) (k mid new : Tokenizer K) (from to : Queue) (fault : ParseFault) → FeedsAll Sink refused k mid from to (Ok tt) → EndGives Sink (refusal_of mid) mid new (Err fault) → EndsAll Sink refused k from.characters (Err fault)
   end-refused None k mid new from to fault fed gives =
       let failed = rw fed.2 at gives in
       fails-on k mid from.characters fault fed.0 (end-behind mid new fault failed.1)
@@ -222,6 +222,11 @@ module _ {K H : Type 0} (Sink : Ghosts K H) where
   pub feed-refused : (refused : Option ParseFault) (k mid : Tokenizer K) (from to : Queue) (fault : ParseFault) → FeedsAll Sink refused k mid from to (Err fault) → EndsAll Sink refused k from.characters (Err fault)
   feed-refused None k mid from to fault fed = fed.1
   feed-refused (Some other) k mid from to fault fed = failed-same (Unit {0}) K fault other fed.0
+
+  -- the same of either answer of the end
+  pub end-answered : (refused : Option ParseFault) (k mid new : Tokenizer K) (from to : Queue) (result : Result (Unit {0}) ParseFault) → FeedsAll Sink refused k mid from to (Ok tt) → EndGives Sink (refusal_of mid) mid new result → EndsAll Sink refused k from.characters (left_by Sink new.sink result)
+  end-answered refused k mid new from to (Ok x) fed gives = end-given refused k mid new from to fed gives
+  end-answered refused k mid new from to (Err fault) fed gives = end-refused refused k mid new from to fault fed gives
 
   -- what waited was fed, and then a text
   pub text-taken : (refused left : Option ParseFault) (old mid new : Tokenizer K) (from waits mid_input to : Queue) (text : List ℕ) (result : Result (Unit {0}) ParseFault) → FeedsAll Sink refused old mid from waits (Ok tt)

@@ -116,6 +116,11 @@ module _ {K H : Type 0} (Sink : Ghosts K H) where
     pub rises : RisesTo (owed_by begin text) begin.errors (Sink.errors told)
     pub counts : Sink.errors left ≡ Sink.errors_ended (Sink.view told) (Sink.errors told)
 
+  -- what a call leaves of a sink, where it was answered
+  abbrev pub left_by : K → Result (Unit {0}) ParseFault → Result K ParseFault
+  left_by sink (Ok x) = Ok sink
+  left_by sink (Err fault) = Err fault
+
   -- All of a text was read, and its end: the sink is left as the whole text leaves it.
   abbrev pub EndsAll : Option ParseFault → Tokenizer K → List ℕ → Result K ParseFault → Type 0
   EndsAll None k text (Ok sink) = (begin : Beginning Sink.State) (before : List ℕ) → HasRead begin before k → IsLeft begin (before ++ text) sink

@@ -4,7 +4,7 @@ ghost use Rattle.std.specs.Str.{chars};
 ghost use Rattle.std.specs.String.{string_bytes};
 ghost use Rattle.html_tokens.specs.TextState.{is_text_state};
 ghost use Rattle.html_tokenizer.specs.Calls.{IsReadyIf, refusal_of};
-ghost use Rattle.html_parser.specs.Read.{EndsAll, FeedsAll, HasRead, TakesText, beginning, stopped_by};
+ghost use Rattle.html_parser.specs.Read.{EndsAll, FeedsAll, HasRead, TakesText, beginning, left_by, stopped_by};
 
 use html_tokenizer::{BufferQueue, References, TokenSink, Tokenizer, TokenizerOpts};
 use html_tokens::laws::notes_change_nothing;
@@ -69,6 +69,25 @@ pub(crate) fn take_text<Sink: TokenSink>(
     feed_all(tokenizer, input)
 }
 
+/// Has a tokenizer take all of its input, and then the end.
+fn feed_to_end<Sink: TokenSink>(
+    tokenizer: &mut Tokenizer<Sink>,
+    input: &mut BufferQueue,
+) -> Result<(), ParseFault>
+    requires ready { IsReadyIf Sink.TokenSink (refusal_of tokenizer.old) tokenizer.old }
+    ensures gives { EndsAll Sink.TokenSink (refusal_of tokenizer.old) tokenizer.old input.old.characters (left_by Sink.TokenSink tokenizer.new.sink result) }
+{
+    feed_all(tokenizer, input)?;
+    tokenizer.end()
+}
+
+/// What takes the tokens. A tokenizer is let go of here alone, since each place that lets one go takes long to prove.
+fn sink_of<Sink: TokenSink + Drop>(tokenizer: Tokenizer<Sink>) -> Sink
+    ensures { result ≡ tokenizer.sink }
+{
+    tokenizer.sink
+}
+
 /// Has a tokenizer take all of its input, and then the end. What is left is its sink.
 pub(crate) fn end_all<Sink: TokenSink + Drop>(
     tokenizer: Tokenizer<Sink>,
@@ -79,7 +98,10 @@ pub(crate) fn end_all<Sink: TokenSink + Drop>(
 {
     let mut tokenizer = tokenizer;
     let mut input = input;
-    feed_all(&mut tokenizer, &mut input)?;
-    tokenizer.end()?;
-    Ok(tokenizer.sink)
+    let answer = feed_to_end(&mut tokenizer, &mut input);
+    let sink = sink_of(tokenizer);
+    match answer {
+        Ok(()) => Ok(sink),
+        Err(fault) => Err(fault),
+    }
 }
