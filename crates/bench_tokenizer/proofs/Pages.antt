@@ -13,7 +13,7 @@ use Rattle.html_tokenizer.proofs.Errors.Rises.{more-sum}
 use Rattle.html_tokens.specs.Notes.{errors_of, was_quiet}
 use Rattle.html_tokens.specs.Table.{Row}
 use Rattle.bench_tokenizer.specs.Counts.{counted_by, counting}
-use Rattle.bench_tokenizer.specs.Readings.{HasRead, Reads, Begins, IsCounted, page_reading, page_owes, noted, owed_behind, to_come}
+use Rattle.bench_tokenizer.specs.Readings.{Begins, CountsPage, HasRead, IsCounted, Reads, ReadsPage, noted, owed_behind, page_owes, page_reading, to_come}
 use Rattle.bench_tokenizer.specs.declared.counts.Counts.{Counts}
 
 -- a text without a byte is empty
@@ -36,7 +36,7 @@ pub begun : (table : List Row) (page : List ℕ) (k : Tokenizer Counts) → Begi
 begun table page k begins = record { owed = steps.nothing_owed; told = omega arith; same = sym (begins.same page); takes = begins.takes }
 
 -- behind a text that a tokenizer read, what follows that text is the rest of the page
-pub read-on : (table : List Row) (page text behind : List ℕ) (old new : Tokenizer Counts) → HasRead table page old (text ++ behind) → Reads old new text → HasRead table page new behind
+read-on : (table : List Row) (page text behind : List ℕ) (old new : Tokenizer Counts) → HasRead table page old (text ++ behind) → Reads old new text → HasRead table page new behind
 read-on table page text behind old new read reads = record {
   owed = owed_behind reads.owed read.owed;
   told = told-all read.owed.faults reads.owed.faults old.sink.errors new.sink.errors read.told (told-fewer old.sink.errors reads.owed.faults (owed_for_text old.stream.exact_errors reads.came).faults new.sink.errors reads.rises.enough);
@@ -45,7 +45,7 @@ read-on table page text behind old new read reads = record {
 }
 
 -- where nothing of a page is left and the end is told, the numbers are those of the page
-pub whole-page : (table : List Row) (k new : Tokenizer Counts) (page : List ℕ) (rest : List ℕ) → HasRead table page k (chars rest) → rest ≡ []
+whole-page : (table : List Row) (k new : Tokenizer Counts) (page : List ℕ) (rest : List ℕ) → HasRead table page k (chars rest) → rest ≡ []
     → EndGives counting (refusal k.stream) k new (Ok tt) → IsCounted table page new.sink
 whole-page table k new page rest read none gives =
     let has_ended = rw read.takes.begun at gives in
@@ -59,3 +59,11 @@ whole-page table k new page rest read none gives =
       read = whole ∙ (ap (λ n. Ok (counted_by new.sink, record { pauses = []; errors = n; is_quiet = owed.is_quiet })) (sym is_owed) ∙ ap (λ q. Ok (counted_by new.sink, record { pauses = []; errors = page_owes table page; is_quiet = q })) (sym is_heard));
       told = subst (λ n. min n 0xffff_ffff_ffff_ffff ≤ new.sink.errors) (sym is_owed) told;
     }
+
+-- the same of whatever page it is
+pub read-further : (page text behind : List ℕ) (first old new : Tokenizer Counts) → ReadsPage first old page (text ++ behind) → Reads old new text → ReadsPage first new page behind
+read-further page text behind first old new read reads table h = read-on table page text behind old new (read table h) reads
+
+pub page-counted : (first k new : Tokenizer Counts) (page : List ℕ) (rest : List ℕ) → ReadsPage first k page (chars rest) → rest ≡ []
+    → EndGives counting (refusal k.stream) k new (Ok tt) → CountsPage first new page
+page-counted first k new page rest read none gives table h = whole-page table k new page rest (read table h) none gives

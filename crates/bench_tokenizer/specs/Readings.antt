@@ -67,3 +67,11 @@ pub record HasRead (table : List Row) (page : List ℕ) (k : Tokenizer Counts) (
 pub record Begins (table : List Row) (k : Tokenizer Counts) : Type 0 where
   pub same : (t : List ℕ) → to_come k steps.nothing_owed t ≡ page_reading table t
   pub takes : Takes k
+
+-- Of whatever page a tokenizer was to read, another has read all but this rest.
+abbrev pub ReadsPage : Tokenizer Counts → Tokenizer Counts → List ℕ → List ℕ → Type 0
+ReadsPage old new page rest = (table : List Row) → HasRead table page old page → HasRead table page new rest
+
+-- Whatever page a tokenizer was to read, it is counted.
+abbrev pub CountsPage : Tokenizer Counts → Tokenizer Counts → List ℕ → Type 0
+CountsPage old new page = (table : List Row) → HasRead table page old page → IsCounted table page new.sink

@@ -2,7 +2,7 @@
 ghost use Rattle.std.specs.Prelude.{◌≡◌, [], IfOk, OnOk};
 ghost use Rattle.std.specs.Str.{chars};
 ghost use Rattle.std.specs.String.{string_bytes};
-ghost use Rattle.bench_tokenizer.specs.Readings.{Reads, Takes, Begins, IsCounted};
+ghost use Rattle.bench_tokenizer.specs.Readings.{Begins, CountsPage, IsCounted, Reads, Takes};
 
 use crate::counts::Counts;
 use bench_pages::split_piece;
@@ -39,6 +39,29 @@ fn feed_text(
     }
 }
 
+/// Has a tokenizer read a page in pieces to its end.
+fn feed_page(alloc: Global, tokenizer: &mut Tokenizer<Counts>, page: &str) -> Result<(), ParseFault>
+    requires { Takes tokenizer.old }
+    ensures { OnOk result (CountsPage tokenizer.old tokenizer.new (chars page.now)) }
+{
+    let mut input = BufferQueue::new();
+    let mut rest = page;
+    while !rest.is_empty() {
+        let (piece, behind) = split_piece(rest);
+        feed_text(tokenizer, &mut input, String::from_str(alloc, piece)?)?;
+        rest = behind;
+    }
+    tokenizer.end()?;
+    Ok(())
+}
+
+/// What was counted. The tokenizer is let go of here alone, since each place that lets one go takes long to prove.
+fn counts_of(tokenizer: Tokenizer<Counts>) -> Counts
+    ensures { result ≡ tokenizer.sink }
+{
+    tokenizer.sink
+}
+
 /// Reads a page in pieces to its end, and counts what it says.
 pub(crate) fn read(
     alloc: Global,
@@ -49,13 +72,8 @@ pub(crate) fn read(
     ensures { IfOk result (λ counts. IsCounted table (chars page.now) counts) }
 {
     let mut tokenizer = tokenizer_of(alloc, table, exact_errors);
-    let mut input = BufferQueue::new();
-    let mut rest = page;
-    while !rest.is_empty() {
-        let (piece, behind) = split_piece(rest);
-        feed_text(&mut tokenizer, &mut input, String::from_str(alloc, piece)?)?;
-        rest = behind;
-    }
-    tokenizer.end()?;
-    Ok(tokenizer.sink)
+    let answer = feed_page(alloc, &mut tokenizer, page);
+    let counts = counts_of(tokenizer);
+    answer?;
+    Ok(counts)
 }
