@@ -86,15 +86,17 @@ fn forms_stand_in_no_form(rt: HostRuntime) -> Result<(), Fail> {
     Ok(())
 }
 
-/// Has a tokenizer take what waits; at each script a text is put before what follows.
+/// Has a tokenizer take a text; at each script another is put before what follows.
 fn feed_scripts<Sink: TreeSink>(
     alloc: Global,
     parser: &mut Parser<Sink>,
+    text: String,
     written: &str,
 ) -> Result<(), ParseFault>
     requires { IsReadyIf (builder Sink.TreeSink) (refusal_of parser.old.tokenizer) parser.old.tokenizer }
     ensures { IsReadyIf (builder Sink.TreeSink) (refusal_of parser.new.tokenizer) parser.new.tokenizer }
 {
+    parser.input_buffer.push_back(text)?;
     'pauses: for _pause in 0..PAUSES {
         match parser.tokenizer.feed(&mut parser.input_buffer)? {
             TokenizerResult::Done => return Ok(()),
@@ -120,8 +122,7 @@ fn parse_scripts<Sink: TreeSink + Drop>(
     let text = String::from_str(alloc, text)?;
     let table = five(alloc)?;
     let mut parser = parse_document(alloc, sink, ParseOpts::default(), table)?;
-    parser.input_buffer.push_back(text)?;
-    feed_scripts(alloc, &mut parser, written)?;
+    feed_scripts(alloc, &mut parser, text, written)?;
     parser.finish()
 }
 
@@ -157,7 +158,8 @@ fn parse_with_errors<Sink: TreeSink + Drop>(
     let second = String::from_str(alloc, second)?;
     let table = five(alloc)?;
     let mut parser = parse_document(alloc, sink, ParseOpts::default(), table)?;
-    parser.process(first)?;
+    // Behind a fault the last call is refused too.
+    drop(parser.process(first));
     tell_error(&mut parser);
     tell_error(&mut parser);
     parser.one(second)

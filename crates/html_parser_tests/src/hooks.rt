@@ -18,8 +18,9 @@ fn told_of<const ATTACHES: bool>(
     text: &str,
 ) -> Result<Listing<ATTACHES>, ParseFault> {
     let sink: Listing<ATTACHES> = Listing::new(alloc)?;
+    let pieces = as_given(alloc, &[text])?;
     let parser = parse_document(alloc, sink, ParseOpts::default(), five(alloc)?)?;
-    take_all(parser, as_given(alloc, &[text])?)
+    take_all(parser, pieces)
 }
 
 /// A sink that was told a text as a fragment in a `div`.
@@ -29,8 +30,9 @@ fn told_of_fragment(alloc: Global, text: &str) -> Result<Listing<false>, ParseFa
     let name = QualName::new(None, html, LocalName::from_str(alloc, "div")?);
     let attributes = Attributes::new(alloc);
     let opts = ParseOpts::default();
+    let pieces = as_given(alloc, &[text])?;
     let parser = parse_fragment(alloc, sink, opts, name, attributes, true, five(alloc)?)?;
-    take_all(parser, as_given(alloc, &[text])?)
+    take_all(parser, pieces)
 }
 
 /// Sees that this was told, and nothing else.
