@@ -12,6 +12,7 @@ use html_tokens::Tag;
 use markup::devices::MemWriter;
 use markup::{Attributes, KnownNamespace, LocalName, Namespace, ParseFault, Text, TreeSink};
 use std::alloc::Global;
+use std::process::Abort;
 use std::test::Fail;
 
 // An element that is opened.
@@ -125,7 +126,27 @@ fn is_foreign(
     }
 }
 
-// The same, with these elements in the root and a context of this namespace and name.
+// The same, with a context of this namespace and name.
+fn is_foreign_in_context(
+    alloc: Global,
+    forest: &mut Forest,
+    stack: &Stack<Forest>,
+    namespace: KnownNamespace,
+    name: &str,
+    given: Given,
+) -> Result<bool, ParseFault>
+    requires { IsStanding forest.old stack.now.open_elems stack.now.active_formatting }
+{
+    let namespace = Namespace::from_known(namespace);
+    let local = LocalName::from_str(alloc, name)?;
+    let context = OpenElement {
+        handle: forest.get_document(),
+        name: ElementName::new(alloc, &namespace, &local)?,
+    };
+    is_foreign(alloc, forest, stack, Some(&context), given)
+}
+
+// The same, with these elements in the root.
 fn is_foreign_in(
     alloc: Global,
     elements: &[Opened<'_>],
@@ -134,13 +155,7 @@ fn is_foreign_in(
     given: Given,
 ) -> Result<bool, ParseFault> {
     let (mut forest, stack) = built(alloc, elements)?;
-    let namespace = Namespace::from_known(namespace);
-    let local = LocalName::from_str(alloc, name)?;
-    let context = OpenElement {
-        handle: forest.get_document(),
-        name: ElementName::new(alloc, &namespace, &local)?,
-    };
-    is_foreign(alloc, &forest, &stack, Some(&context), given)
+    is_foreign_in_context(alloc, &mut forest, &stack, namespace, name, given)
 }
 
 #[test]
@@ -263,6 +278,36 @@ fn listed(
     Ok(stack)
 }
 
+// Sees what the end tag of a name is in a stack, and that so many elements stay.
+fn assert_closes(
+    rt: &impl Abort,
+    alloc: Global,
+    stack: &mut Stack<Forest>,
+    name: &str,
+    want: (bool, bool, usize),
+) -> Result<(), ParseFault> {
+    let (as_in_mode, is_error, left) = want;
+    let name = LocalName::from_str(alloc, name)?;
+    assert_eq!(rt; stack.ends_in_html(&name), as_in_mode);
+    assert_eq!(rt; stack.is_foreign_end_error(&name), is_error);
+    stack.close_foreign(&name);
+    assert_eq!(rt; stack.open_elems().len(), left);
+    Ok(())
+}
+
+// The same where these elements are open.
+fn assert_closes_in(
+    rt: &impl Abort,
+    alloc: Global,
+    elements: &[(KnownNamespace, &str)],
+    name: &str,
+    want: (bool, bool, usize),
+) -> Result<(), ParseFault> {
+    let mut forest = Forest::new(alloc)?;
+    let mut stack = listed(alloc, &mut forest, elements)?;
+    assert_closes(rt, alloc, &mut stack, name, want)
+}
+
 #[test]
 fn end_tags_close_foreign_elements(rt: HostRuntime) -> Result<(), Fail> {
     const HTML: KnownNamespace = KnownNamespace::Html;
@@ -323,16 +368,52 @@ fn end_tags_close_foreign_elements(rt: HostRuntime) -> Result<(), Fail> {
         (&[(SVG, "svg")], "g", false, false, 1),
         (&[], "svg", false, false, 0),
     ];
-    for (elements, name, as_in_mode, is_error, left) in rows {
-        let mut forest = Forest::new(rt.alloc())?;
-        let mut stack = listed(rt.alloc(), &mut forest, elements)?;
-        let name = LocalName::from_str(rt.alloc(), name)?;
-        assert_eq!(rt; stack.ends_in_html(&name), *as_in_mode);
-        assert_eq!(rt; stack.is_foreign_end_error(&name), *is_error);
-        stack.close_foreign(&name);
-        assert_eq!(rt; stack.open_elems().len(), *left);
+    for &(elements, name, as_in_mode, is_error, left) in rows {
+        assert_closes_in(
+            &rt,
+            rt.alloc(),
+            elements,
+            name,
+            (as_in_mode, is_error, left),
+        )?;
     }
     Ok(())
+}
+
+// Inserts a template with this mode of a shadow root and a text; sees how many elements are open, and what is written then.
+fn insert_and_write(
+    rt: &impl Abort,
+    alloc: Global,
+    forest: &mut Forest,
+    stack: &mut Stack<Forest>,
+    mode: &str,
+    want: (usize, &str),
+) -> Result<(), ParseFault>
+    requires { IsStanding forest.old stack.old.open_elems stack.old.active_formatting }
+{
+    let (open, written) = want;
+    insert_template(alloc, forest, stack, mode)?;
+    assert_eq!(rt; stack.open_elems().len(), open);
+    stack.append_text(forest, Text::from_str(alloc, "a")?, false)?;
+    let id = forest.get_document();
+    let mut writer = MemWriter::new(alloc, 1_000, usize::MAX, None, false)?;
+    let node = ForestNode { forest, id };
+    assert!(rt; serialize(alloc, &mut writer, &node, SerializeOpts::default()).is_ok());
+    assert_eq!(rt; writer.written(), written.as_bytes());
+    Ok(())
+}
+
+// The same in these elements.
+fn assert_inserted(
+    rt: &impl Abort,
+    alloc: Global,
+    elements: &[Opened<'_>],
+    mode: &str,
+    want: &str,
+) -> Result<(), ParseFault> {
+    let (mut forest, mut stack) = built(alloc, elements)?;
+    let want = (elements.len().saturating_add(2), want);
+    insert_and_write(rt, alloc, &mut forest, &mut stack, mode, want)
 }
 
 #[test]
@@ -359,19 +440,8 @@ fn templates_are_inserted(rt: HostRuntime) -> Result<(), Fail> {
             "<html><div><template shadowrootmode=\"Open\">a</template></div></html>",
         ),
     ];
-    for (elements, mode, want) in rows {
-        let (mut forest, mut stack) = built(rt.alloc(), elements)?;
-        insert_template(rt.alloc(), &mut forest, &mut stack, mode)?;
-        assert_eq!(rt; stack.open_elems().len(), elements.len() + 2);
-        stack.append_text(&mut forest, Text::from_str(rt.alloc(), "a")?, false)?;
-        let id = forest.get_document();
-        let mut writer = MemWriter::new(rt.alloc(), 1_000, usize::MAX, None, false)?;
-        let node = ForestNode {
-            forest: &forest,
-            id,
-        };
-        assert!(rt; serialize(rt.alloc(), &mut writer, &node, SerializeOpts::default()).is_ok());
-        assert_eq!(rt; writer.written(), want.as_bytes());
+    for &(elements, mode, want) in rows {
+        assert_inserted(&rt, rt.alloc(), elements, mode, want)?;
     }
     Ok(())
 }

@@ -203,6 +203,39 @@ fn template_modes_are_a_stack(rt: HostRuntime) -> Result<(), Fail> {
     Ok(())
 }
 
+// The name of the context of a fragment.
+fn context_of(alloc: Global, name: Option<&str>) -> Result<Option<ElementName>, ParseFault> {
+    let Some(name) = name else {
+        return Ok(None);
+    };
+    let html = Namespace::from_known(KnownNamespace::Html);
+    let local = LocalName::from_str(alloc, name)?;
+    Ok(Some(ElementName::new(alloc, &html, &local)?))
+}
+
+// The mode that a stack asks for, with the mode "in table" as that of a template.
+fn mode_of(
+    stack: &mut Stack<Forest>,
+    has_head: bool,
+    context: Option<&ElementName>,
+) -> Result<InsertionMode, ParseFault> {
+    stack.push_template_mode(InsertionMode::InTable)?;
+    Ok(stack.reset_insertion_mode(has_head, context))
+}
+
+// The same where elements of these names are open.
+fn mode_in(
+    alloc: Global,
+    names: &[&str],
+    has_head: bool,
+    context: Option<&str>,
+) -> Result<InsertionMode, ParseFault> {
+    let context = context_of(alloc, context)?;
+    let mut forest = Forest::new(alloc)?;
+    let mut stack = opened(alloc, &mut forest, names)?;
+    mode_of(&mut stack, has_head, context.as_ref())
+}
+
 #[test]
 fn the_insertion_mode_is_reset(rt: HostRuntime) -> Result<(), Fail> {
     let rows: &[(&[&str], bool, Option<&str>, InsertionMode)] = &[
@@ -260,22 +293,8 @@ fn the_insertion_mode_is_reset(rt: HostRuntime) -> Result<(), Fail> {
         (&["html", "td"], false, Some("tr"), InsertionMode::InCell),
         (&[], false, None, InsertionMode::InBody),
     ];
-    let html = Namespace::from_known(KnownNamespace::Html);
-    for (names, has_head, context, want) in rows {
-        let mut forest = Forest::new(rt.alloc())?;
-        let mut stack = opened(rt.alloc(), &mut forest, names)?;
-        stack.push_template_mode(InsertionMode::InTable)?;
-        let context = match context {
-            None => None,
-            Some(name) => {
-                let local = LocalName::from_str(rt.alloc(), name)?;
-                Some(ElementName::new(rt.alloc(), &html, &local)?)
-            }
-        };
-        assert_eq!(rt;
-            stack.reset_insertion_mode(*has_head, context.as_ref()),
-            *want
-        );
+    for &(names, has_head, context, want) in rows {
+        assert_eq!(rt; mode_in(rt.alloc(), names, has_head, context)?, want);
     }
     Ok(())
 }
