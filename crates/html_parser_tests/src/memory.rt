@@ -47,9 +47,10 @@ where
 
 /// The document of a text.
 fn built(rt: &impl Abort, alloc: Global, text: &str) -> Result<Forest, ParseFault> {
+    let text = String::from_str(alloc, text)?;
     let forest = Forest::new(alloc)?;
     let parser = parse_document(alloc, forest, ParseOpts::default(), five(alloc)?)?;
-    take_or_fail(rt, alloc, parser, String::from_str(alloc, text)?)
+    take_or_fail(rt, alloc, parser, text)
 }
 
 /// A text, and what is written of its document.
