@@ -3,7 +3,6 @@
 use html_queue::{BufferQueue, SetResult, SmallCharSet};
 use markup::ParseFault;
 use std::alloc::Global;
-use std::test::Fail;
 
 const ANGLE: SmallCharSet = SmallCharSet { bits: 1 << 60 };
 
@@ -27,22 +26,34 @@ fn queue_of(alloc: Global, text: &str) -> Result<BufferQueue, ParseFault> {
     Ok(queue)
 }
 
-#[test]
-fn takes_in_order(rt: HostRuntime) -> Result<(), Fail> {
-    let alloc = rt.alloc();
-    let mut queue = BufferQueue::new();
-    assert!(rt; queue.is_empty());
-    assert!(rt; queue.peek() == None && queue.next() == None);
+// What is put at the back and at the front of a queue.
+fn put_around(alloc: Global, queue: &mut BufferQueue) -> Result<(), ParseFault> {
     queue.push_back(String::from_str(alloc, "\u{e9}\u{20ac}")?)?;
     queue.push_front(String::from_str(alloc, "ab")?)?;
-    queue.push_back(String::from_str(alloc, "\u{1f600}z")?)?;
-    for want in ['a', 'b', '\u{e9}', '\u{20ac}', '\u{1f600}', 'z'] {
-        assert!(rt; !queue.is_empty());
-        assert!(rt; queue.peek() == Some(want), "{want}");
-        assert!(rt; queue.next() == Some(want), "{want}");
+    queue.push_back(String::from_str(alloc, "\u{1f600}z")?)
+}
+
+// Whether a queue gives these characters, each seen before it is taken, and then no more.
+fn gives(queue: &mut BufferQueue, wanted: &str) -> bool {
+    for want in wanted.chars() {
+        if queue.is_empty() || queue.peek() != Some(want) || queue.next() != Some(want) {
+            return false;
+        }
     }
-    assert!(rt; queue.is_empty() && queue.next() == None);
-    Ok(())
+    queue.is_empty() && queue.peek() == None && queue.next() == None
+}
+
+// Whether what is put around comes in order, from a queue that was empty.
+fn comes_in_order(alloc: Global) -> bool {
+    let mut queue = BufferQueue::new();
+    let was_empty = gives(&mut queue, "");
+    let put = put_around(alloc, &mut queue);
+    was_empty && put == Ok(()) && gives(&mut queue, "ab\u{e9}\u{20ac}\u{1f600}z")
+}
+
+#[test]
+fn takes_in_order(rt: HostRuntime) {
+    assert!(rt; comes_in_order(rt.alloc()));
 }
 
 /// What is put back, and what then stands in the queue `abc<d` of which `ab` was taken.
@@ -56,16 +67,25 @@ const PUT_BACK: &[(&str, &str)] = &[
     ("12ab", "12abc<d"),
 ];
 
+// Whether a queue holds this text. It is empty afterwards.
+fn holds(alloc: Global, queue: &mut BufferQueue, want: &str) -> Result<bool, ParseFault> {
+    Ok(left(alloc, queue)?.as_str() == want)
+}
+
+fn is_put_back(alloc: Global, front: &str, want: &str) -> Result<bool, ParseFault> {
+    let mut queue = queue_of(alloc, "abc<d")?;
+    let first = queue.next();
+    let second = queue.next();
+    let put = put_before(alloc, &mut queue, front);
+    let held = holds(alloc, &mut queue, want)?;
+    Ok(first == Some('a') && second == Some('b') && put == Ok(()) && held)
+}
+
 #[test]
-fn puts_back_what_was_taken(rt: HostRuntime) -> Result<(), Fail> {
-    let alloc = rt.alloc();
+fn puts_back_what_was_taken(rt: HostRuntime) {
     for &(front, want) in PUT_BACK {
-        let mut queue = queue_of(alloc, "abc<d")?;
-        assert!(rt; queue.next() == Some('a') && queue.next() == Some('b'));
-        queue.push_front(String::from_str(alloc, front)?)?;
-        assert!(rt; left(alloc, &mut queue)?.as_str() == want, "{front}");
+        assert!(rt; is_put_back(rt.alloc(), front, want) == Ok(true), "{front}");
     }
-    Ok(())
 }
 
 /// A text, what is taken first of a queue that holds it, and what stands there then.
@@ -92,15 +112,20 @@ fn taken(alloc: Global, queue: &mut BufferQueue) -> Result<String, ParseFault> {
     })
 }
 
+fn is_taken(alloc: Global, text: &str, want: &str, rest: &str) -> Result<bool, ParseFault> {
+    let mut queue = queue_of(alloc, text)?;
+    let first = taken(alloc, &mut queue)?;
+    Ok(first.as_str() == want && holds(alloc, &mut queue, rest)?)
+}
+
 #[test]
-fn takes_runs_and_members(rt: HostRuntime) -> Result<(), Fail> {
-    let alloc = rt.alloc();
+fn takes_runs_and_members(rt: HostRuntime) {
     for &(text, want, rest) in TAKEN {
-        let mut queue = queue_of(alloc, text)?;
-        assert!(rt; taken(alloc, &mut queue)?.as_str() == want, "{text}");
-        assert!(rt; left(alloc, &mut queue)?.as_str() == rest, "{text}");
+        assert!(rt;
+            is_taken(rt.alloc(), text, want, rest) == Ok(true),
+            "{text}"
+        );
     }
-    Ok(())
 }
 
 /// A text, what eating `doctype` answers of it, and what is left.
@@ -114,65 +139,85 @@ const EATEN: &[(&str, Option<bool>, &str)] = &[
     ("x", Some(false), "x"),
 ];
 
+fn is_eaten(alloc: Global, text: &str, want: Option<bool>, rest: &str) -> Result<bool, ParseFault> {
+    let mut queue = queue_of(alloc, text)?;
+    let eaten = queue.eat("doctype", u8::eq_ignore_ascii_case);
+    Ok(eaten == want && holds(alloc, &mut queue, rest)?)
+}
+
 #[test]
-fn eats_a_whole_pattern_or_nothing(rt: HostRuntime) -> Result<(), Fail> {
-    let alloc = rt.alloc();
+fn eats_a_whole_pattern_or_nothing(rt: HostRuntime) {
     for &(text, want, rest) in EATEN {
-        let mut queue = queue_of(alloc, text)?;
         assert!(rt;
-            queue.eat("doctype", u8::eq_ignore_ascii_case) == want,
+            is_eaten(rt.alloc(), text, want, rest) == Ok(true),
             "{text}"
         );
-        assert!(rt; left(alloc, &mut queue)?.as_str() == rest, "{text}");
     }
-    Ok(())
 }
 
-#[test]
-fn exchanges_and_replaces(rt: HostRuntime) -> Result<(), Fail> {
-    let alloc = rt.alloc();
-    let mut first = queue_of(alloc, "one")?;
+fn is_exchanged(alloc: Global) -> Result<bool, ParseFault> {
     let mut second = queue_of(alloc, "two")?;
+    let mut first = queue_of(alloc, "one")?;
     first.swap_with(&mut second);
-    assert!(rt; first.peek() == Some('t') && second.peek() == Some('o'));
+    let (begins, ends) = (first.peek(), second.peek());
     first.replace_with(second);
-    assert!(rt; left(alloc, &mut first)?.as_str() == "one");
-    Ok(())
+    Ok(begins == Some('t') && ends == Some('o') && holds(alloc, &mut first, "one")?)
 }
 
-/// Any one allocation may be refused: the call that asked for it changes nothing, so that it can be
-/// made again.
 #[test]
-fn stands_after_a_refused_growth(rt: HostRuntime) -> Result<(), Fail> {
-    let alloc = rt.alloc();
-    let mut queue = BufferQueue::new();
-    for text in ["ab", "\u{e9}<cd", "e"] {
-        if push(alloc, &mut queue, text).is_err() {
-            push(alloc, &mut queue, text)?;
-        }
-    }
-    let run = match queue.pop_except_from(ANGLE) {
-        Ok(run) => run,
-        Err(_) => queue.pop_except_from(ANGLE)?,
-    };
-    match run {
-        Some(SetResult::NotFromSet(run)) => assert!(rt; run.as_str() == "ab\u{e9}"),
-        _ => assert!(rt; false),
-    }
-    if put_before(alloc, &mut queue, "a longer text").is_err() {
-        put_before(alloc, &mut queue, "a longer text")?;
-    }
-    for want in "a longer text<cde".chars() {
-        assert!(rt; queue.next() == Some(want), "{want}");
-    }
-    assert!(rt; queue.is_empty());
-    Ok(())
+fn exchanges_and_replaces(rt: HostRuntime) {
+    assert!(rt; is_exchanged(rt.alloc()) == Ok(true));
 }
 
+// A text is put at the back, once more where memory was refused.
 fn push(alloc: Global, queue: &mut BufferQueue, text: &str) -> Result<(), ParseFault> {
+    match put_behind(alloc, queue, text) {
+        Ok(()) => Ok(()),
+        Err(_) => put_behind(alloc, queue, text),
+    }
+}
+
+fn put_behind(alloc: Global, queue: &mut BufferQueue, text: &str) -> Result<(), ParseFault> {
     queue.push_back(String::from_str(alloc, text)?)
 }
 
 fn put_before(alloc: Global, queue: &mut BufferQueue, text: &str) -> Result<(), ParseFault> {
     queue.push_front(String::from_str(alloc, text)?)
+}
+
+// Whether the run before the first `<` is this one; it is asked for once more where memory was refused.
+fn begins_with_run(queue: &mut BufferQueue, want: &str) -> Result<bool, ParseFault> {
+    let run = match queue.pop_except_from(ANGLE) {
+        Ok(run) => run,
+        Err(_) => queue.pop_except_from(ANGLE)?,
+    };
+    Ok(match run {
+        Some(SetResult::NotFromSet(run)) => run.as_str() == want,
+        _ => false,
+    })
+}
+
+fn push_three(alloc: Global, queue: &mut BufferQueue) -> Result<(), ParseFault> {
+    for text in ["ab", "\u{e9}<cd", "e"] {
+        push(alloc, queue, text)?;
+    }
+    Ok(())
+}
+
+fn put_longer(alloc: Global, queue: &mut BufferQueue) -> Result<(), ParseFault> {
+    match put_before(alloc, queue, "a longer text") {
+        Ok(()) => Ok(()),
+        Err(_) => put_before(alloc, queue, "a longer text"),
+    }
+}
+
+/// Any one allocation may be refused: the call that asked for it changes nothing, so that it can be
+/// made again.
+#[test]
+fn stands_after_a_refused_growth(rt: HostRuntime) {
+    let mut queue = BufferQueue::new();
+    assert!(rt; push_three(rt.alloc(), &mut queue) == Ok(()));
+    assert!(rt; begins_with_run(&mut queue, "ab\u{e9}") == Ok(true));
+    assert!(rt; put_longer(rt.alloc(), &mut queue) == Ok(()));
+    assert!(rt; gives(&mut queue, "a longer text<cde"));
 }

@@ -2,7 +2,6 @@
 
 use html_references::{ReferenceRow, References, TableFault};
 use std::alloc::{AllocError, Global};
-use std::test::Fail;
 
 type Row<'a> = (&'a str, u32, Option<u32>);
 
@@ -19,12 +18,16 @@ fn table(alloc: Global, rows: &[Row]) -> Result<References, TableFault> {
     References::new(alloc, rows_of(alloc, rows)?)
 }
 
+fn fault_of(alloc: Global, rows: &[Row]) -> Option<TableFault> {
+    table(alloc, rows).err()
+}
+
 fn lookups(alloc: Global) -> Result<References, TableFault> {
     table(alloc, &[("not", 0xAC, None), ("notin;", 0x2209, None)])
 }
 
 #[test]
-fn the_first_faulty_row_is_told(rt: HostRuntime) -> Result<(), Fail> {
+fn the_first_faulty_row_is_told(rt: HostRuntime) {
     let cases: &[(&[Row], TableFault)] = &[
         (
             &[("amp;", 0x26, None), ("a;b", 0x41, None)],
@@ -69,13 +72,35 @@ fn the_first_faulty_row_is_told(rt: HostRuntime) -> Result<(), Fail> {
         ),
     ];
     for &(rows, fault) in cases {
-        assert_eq!(rt; table(rt.alloc(), rows).err(), Some(fault));
+        assert!(rt; fault_of(rt.alloc(), rows) == Some(fault));
     }
-    Ok(())
+}
+
+// Whether these rows of a table are as they were written.
+fn are_kept(found: &[ReferenceRow], rows: &[Row]) -> bool {
+    found.len() == rows.len()
+        && found
+            .iter()
+            .zip(rows)
+            .all(|(found, row)| is_kept(found, row))
+}
+
+fn is_kept(found: &ReferenceRow, row: &Row) -> bool {
+    found.name.as_str() == row.0 && found.first == row.1 && found.second == row.2
+}
+
+// Whether a table of rows has them, and so does its copy.
+fn is_table_of(alloc: Global, rows: &[Row]) -> Result<bool, TableFault> {
+    let made = table(alloc, rows)?;
+    Ok(are_kept(made.rows(), rows) && is_copy_of(alloc, &made, rows)?)
+}
+
+fn is_copy_of(alloc: Global, made: &References, rows: &[Row]) -> Result<bool, TableFault> {
+    Ok(are_kept(made.copy(alloc)?.rows(), rows))
 }
 
 #[test]
-fn checked_tables_keep_their_rows(rt: HostRuntime) -> Result<(), Fail> {
+fn checked_tables_keep_their_rows(rt: HostRuntime) {
     let cases: &[&[Row]] = &[
         &[],
         &[("x;", 0x41, None), ("x", 0x42, None), ("X", 0x43, None)],
@@ -88,49 +113,48 @@ fn checked_tables_keep_their_rows(rt: HostRuntime) -> Result<(), Fail> {
         &[("z9Z", 0x3C, Some(0x20D2)), ("q", 0x10000, None)],
     ];
     for &rows in cases {
-        let made = table(rt.alloc(), rows)?;
-        let copied = made.copy(rt.alloc())?;
-        for found in [made.rows(), copied.rows()] {
-            assert_eq!(rt; found.len(), rows.len());
-            for (found, row) in found.iter().zip(rows) {
-                assert_eq!(rt; found.name.as_str(), row.0);
-                assert_eq!(rt; found.first, row.1);
-                assert_eq!(rt; found.second, row.2);
-            }
-        }
+        assert!(rt; is_table_of(rt.alloc(), rows) == Ok(true));
     }
-    Ok(())
+}
+
+const FIVE: &[Row] = &[
+    ("amp;", 0x26, None),
+    ("lt;", 0x3C, None),
+    ("gt;", 0x3E, None),
+    ("quot;", 0x22, None),
+    ("nbsp;", 0xA0, None),
+];
+
+// Whether the table of five finds each row by its name, and has no more.
+fn are_the_five(alloc: Global) -> Result<bool, TableFault> {
+    let five = References::five(alloc)?;
+    Ok(
+        five.rows().len() == FIVE.len()
+            && FIVE.iter().all(|row| match five.longest(row.0) {
+                Some(found) => is_kept(found, row),
+                None => false,
+            }),
+    )
 }
 
 #[test]
-fn the_five_stand_for_their_characters(rt: HostRuntime) -> Result<(), Fail> {
-    let five = References::five(rt.alloc())?;
-    let cases = [
-        ("amp;", 0x26),
-        ("lt;", 0x3C),
-        ("gt;", 0x3E),
-        ("quot;", 0x22),
-        ("nbsp;", 0xA0),
-    ];
-    assert_eq!(rt; five.rows().len(), cases.len());
-    for (name, value) in cases {
-        let row = five.longest(name).ok_or(name)?;
-        assert_eq!(rt; row.name.as_str(), name);
-        assert_eq!(rt; row.first, value);
-        assert_eq!(rt; row.second, None);
-    }
-    Ok(())
+fn the_five_stand_for_their_characters(rt: HostRuntime) {
+    assert!(rt; are_the_five(rt.alloc()) == Ok(true));
+}
+
+// How many rows a table has that is copied.
+fn copied_rows(alloc: Global) -> Result<usize, TableFault> {
+    Ok(lookups(alloc)?.copy(alloc)?.rows().len())
+}
+
+fn rows_of_five(alloc: Global) -> Result<usize, TableFault> {
+    Ok(References::five(alloc)?.rows().len())
 }
 
 #[test]
 fn refused_memory_is_told(rt: HostRuntime) {
-    let made = lookups(rt.alloc());
-    match made.and_then(|table| table.copy(rt.alloc())) {
-        Ok(table) => assert_eq!(rt; table.rows().len(), 2),
-        Err(fault) => assert_eq!(rt; fault, TableFault::Memory),
-    }
-    match References::five(rt.alloc()) {
-        Ok(table) => assert_eq!(rt; table.rows().len(), 5),
-        Err(fault) => assert_eq!(rt; fault, TableFault::Memory),
-    }
+    let rows = copied_rows(rt.alloc());
+    assert!(rt; rows == Ok(2) || rows == Err(TableFault::Memory));
+    let rows = rows_of_five(rt.alloc());
+    assert!(rt; rows == Ok(5) || rows == Err(TableFault::Memory));
 }

@@ -4,10 +4,9 @@ mod sinks;
 mod tags;
 
 use html_tokens::states::State;
-use html_tokens::{Doctype, ReferenceRow, TokenizerOpts};
+use html_tokens::{Doctype, ReferenceRow, TableFault, TokenizerOpts};
 use markup::{ParseFault, Text};
 use std::alloc::Global;
-use std::test::Fail;
 
 fn text(alloc: Global, characters: &str) -> Result<Text, ParseFault> {
     Ok(Text::new(String::from_str(alloc, characters)?))
@@ -16,51 +15,77 @@ fn text(alloc: Global, characters: &str) -> Result<Text, ParseFault> {
 #[test]
 fn options_are_defaulted(rt: HostRuntime) {
     let options = TokenizerOpts::default();
-    assert!(rt; !options.exact_errors);
-    assert!(rt; options.discard_bom);
-    assert_eq!(rt; options.initial_state, None);
-    assert!(rt; options.last_start_tag_name.is_none());
+    assert!(rt; !options.exact_errors && options.discard_bom);
+    assert!(rt; options.initial_state == None && options.last_start_tag_name.is_none());
 }
 
-#[test]
-fn options_are_copied(rt: HostRuntime) -> Result<(), Fail> {
+fn is_copied(alloc: Global, options: &TokenizerOpts) -> Result<bool, ParseFault> {
+    let copied = options.copy(alloc)?;
+    Ok(
+        copied.exact_errors
+            && !copied.discard_bom
+            && copied.initial_state == Some(State::Plaintext)
+            && matches!(&copied.last_start_tag_name, Some(name) if name.as_str() == "title"),
+    )
+}
+
+fn are_options_copied(alloc: Global) -> Result<bool, ParseFault> {
     let options = TokenizerOpts {
         exact_errors: true,
         discard_bom: false,
         initial_state: Some(State::Plaintext),
-        last_start_tag_name: Some(text(rt.alloc(), "title")?),
+        last_start_tag_name: Some(text(alloc, "title")?),
     };
-    let copied = options.copy(rt.alloc())?;
-    assert!(rt; copied.exact_errors);
-    assert!(rt; !copied.discard_bom);
-    assert_eq!(rt; copied.initial_state, Some(State::Plaintext));
-    let name = copied.last_start_tag_name.ok_or("no name")?;
-    assert_eq!(rt; name.as_str(), "title");
-    Ok(())
+    is_copied(alloc, &options)
 }
 
 #[test]
-fn doctypes_are_copied(rt: HostRuntime) -> Result<(), Fail> {
-    let empty = Doctype::default();
-    assert!(rt; empty.copy(rt.alloc())? == empty);
-    let doctype = Doctype {
-        name: Some(text(rt.alloc(), "html")?),
+fn options_are_copied(rt: HostRuntime) {
+    assert!(rt; are_options_copied(rt.alloc()) == Ok(true));
+}
+
+// Whether the copy of a doctype equals it, and another doctype does not.
+fn is_doctype_copied(
+    alloc: Global,
+    doctype: &Doctype,
+    other: &Doctype,
+) -> Result<bool, ParseFault> {
+    let copied = doctype.copy(alloc)?;
+    Ok(copied == *doctype && copied != *other)
+}
+
+fn legacy(alloc: Global) -> Result<Doctype, ParseFault> {
+    let name = text(alloc, "html")?;
+    Ok(Doctype {
+        name: Some(name),
         public_id: None,
-        system_id: Some(text(rt.alloc(), "about:legacy-compat")?),
+        system_id: Some(text(alloc, "about:legacy-compat")?),
         force_quirks: true,
-    };
-    let copied = doctype.copy(rt.alloc())?;
-    assert!(rt; copied == doctype);
-    assert!(rt; copied != empty);
-    Ok(())
+    })
+}
+
+fn are_doctypes_copied(alloc: Global) -> Result<bool, ParseFault> {
+    let doctype = legacy(alloc)?;
+    let empty = Doctype::default();
+    Ok(is_doctype_copied(alloc, &doctype, &empty)? && is_doctype_copied(alloc, &empty, &doctype)?)
 }
 
 #[test]
-fn rows_are_copied(rt: HostRuntime) -> Result<(), Fail> {
-    let name = String::from_str(rt.alloc(), "NotEqualTilde;")?;
-    let copied = ReferenceRow::new(name, 0x2242, Some(0x338)).copy(rt.alloc())?;
-    assert_eq!(rt; copied.name.as_str(), "NotEqualTilde;");
-    assert_eq!(rt; copied.first, 0x2242);
-    assert_eq!(rt; copied.second, Some(0x338));
-    Ok(())
+fn doctypes_are_copied(rt: HostRuntime) {
+    assert!(rt; are_doctypes_copied(rt.alloc()) == Ok(true));
+}
+
+fn is_row_copied(alloc: Global) -> Result<bool, TableFault> {
+    let name = String::from_str(alloc, "NotEqualTilde;")?;
+    let copied = ReferenceRow::new(name, 0x2242, Some(0x338)).copy(alloc)?;
+    Ok(
+        copied.name.as_str() == "NotEqualTilde;"
+            && copied.first == 0x2242
+            && copied.second == Some(0x338),
+    )
+}
+
+#[test]
+fn rows_are_copied(rt: HostRuntime) {
+    assert!(rt; is_row_copied(rt.alloc()) == Ok(true));
 }

@@ -1,7 +1,6 @@
 //! Comments, also those that are none by the Standard's syntax, and doctypes.
 
 use super::{PAGE, Row, assert_rows};
-use std::test::Fail;
 
 const COMMENTS: &[Row] = &[
     (
@@ -27,9 +26,8 @@ const COMMENTS: &[Row] = &[
 ];
 
 #[test]
-fn comments_are_read(rt: HostRuntime) -> Result<(), Fail> {
-    assert_rows(&rt, rt.alloc(), PAGE, COMMENTS)?;
-    Ok(())
+fn comments_are_read(rt: HostRuntime) {
+    assert_rows(&rt, rt.alloc(), PAGE, COMMENTS);
 }
 
 const CUT_COMMENTS: &[Row] = &[
@@ -45,9 +43,8 @@ const CUT_COMMENTS: &[Row] = &[
 ];
 
 #[test]
-fn comments_may_miss_their_end(rt: HostRuntime) -> Result<(), Fail> {
-    assert_rows(&rt, rt.alloc(), PAGE, CUT_COMMENTS)?;
-    Ok(())
+fn comments_may_miss_their_end(rt: HostRuntime) {
+    assert_rows(&rt, rt.alloc(), PAGE, CUT_COMMENTS);
 }
 
 const BOGUS_COMMENTS: &[Row] = &[
@@ -69,9 +66,8 @@ const BOGUS_COMMENTS: &[Row] = &[
 ];
 
 #[test]
-fn other_markup_is_a_comment(rt: HostRuntime) -> Result<(), Fail> {
-    assert_rows(&rt, rt.alloc(), PAGE, BOGUS_COMMENTS)?;
-    Ok(())
+fn other_markup_is_a_comment(rt: HostRuntime) {
+    assert_rows(&rt, rt.alloc(), PAGE, BOGUS_COMMENTS);
 }
 
 const DOCTYPES: &[Row] = &[
@@ -111,9 +107,8 @@ const DOCTYPES: &[Row] = &[
 ];
 
 #[test]
-fn doctypes_are_read(rt: HostRuntime) -> Result<(), Fail> {
-    assert_rows(&rt, rt.alloc(), PAGE, DOCTYPES)?;
-    Ok(())
+fn doctypes_are_read(rt: HostRuntime) {
+    assert_rows(&rt, rt.alloc(), PAGE, DOCTYPES);
 }
 
 const FAULTY_DOCTYPES: &[Row] = &[
@@ -141,7 +136,6 @@ const FAULTY_DOCTYPES: &[Row] = &[
 ];
 
 #[test]
-fn faulty_doctypes_are_told(rt: HostRuntime) -> Result<(), Fail> {
-    assert_rows(&rt, rt.alloc(), PAGE, FAULTY_DOCTYPES)?;
-    Ok(())
+fn faulty_doctypes_are_told(rt: HostRuntime) {
+    assert_rows(&rt, rt.alloc(), PAGE, FAULTY_DOCTYPES);
 }

@@ -4,30 +4,34 @@ use super::codes::Codes;
 use super::{PAGE, Setting, Table, exact, read, read_over};
 use html_tokenizer::State;
 use html_tokenizer::states::RawKind;
-use markup::ParseFault;
+use markup::{ParseFault, Text};
 use std::alloc::Global;
 use std::process::Abort;
-use std::test::Fail;
 use text_pieces::{as_given, in_two};
 
 /// A text, and the codes of its errors, each behind a space.
 type Row = (&'static str, &'static str);
 
-/// Sees that each text tells just these errors, whole and cut at each place.
-fn assert_codes(
-    rt: &impl Abort,
-    alloc: Global,
-    setting: Setting,
-    rows: &[Row],
-) -> Result<(), ParseFault> {
-    for (text, codes) in rows {
-        for place in 0..=text.chars().count() {
-            let sink = Codes::new(alloc, setting.asks_cdata);
-            let sink = read_over(alloc, sink, setting, in_two(alloc, text, place)?)?;
-            assert!(rt; sink.codes.as_str() == *codes, "{text}");
+/// The codes that a text in these pieces tells.
+fn codes(alloc: Global, setting: Setting, pieces: Vec<String>) -> Result<Text, ParseFault> {
+    let sink = Codes::new(alloc, setting.asks_cdata);
+    Ok(read_over(alloc, sink, setting, pieces)?.codes)
+}
+
+/// Sees that each text tells just these errors, whole and cut at each place. No memory is refused.
+fn assert_codes(rt: &impl Abort, alloc: Global, setting: Setting, rows: &[Row]) {
+    for (text, wanted) in rows {
+        assert!(rt; tells(alloc, setting, text, wanted) == Ok(true), "{text}");
+    }
+}
+
+fn tells(alloc: Global, setting: Setting, text: &str, wanted: &str) -> Result<bool, ParseFault> {
+    for place in 0..=text.chars().count() {
+        if codes(alloc, setting, in_two(alloc, text, place)?)?.as_str() != wanted {
+            return Ok(false);
         }
     }
-    Ok(())
+    Ok(true)
 }
 
 const COMMENTS: &[Row] = &[
@@ -57,9 +61,8 @@ const COMMENTS: &[Row] = &[
 ];
 
 #[test]
-fn faulty_comments_tell_errors(rt: HostRuntime) -> Result<(), Fail> {
-    assert_codes(&rt, rt.alloc(), PAGE, COMMENTS)?;
-    Ok(())
+fn faulty_comments_tell_errors(rt: HostRuntime) {
+    assert_codes(&rt, rt.alloc(), PAGE, COMMENTS);
 }
 
 const TAGS: &[Row] = &[
@@ -112,9 +115,8 @@ const TAGS: &[Row] = &[
 ];
 
 #[test]
-fn faulty_tags_tell_errors(rt: HostRuntime) -> Result<(), Fail> {
-    assert_codes(&rt, rt.alloc(), PAGE, TAGS)?;
-    Ok(())
+fn faulty_tags_tell_errors(rt: HostRuntime) {
+    assert_codes(&rt, rt.alloc(), PAGE, TAGS);
 }
 
 const DOCTYPES: &[Row] = &[
@@ -190,9 +192,8 @@ const DOCTYPES: &[Row] = &[
 ];
 
 #[test]
-fn faulty_doctypes_tell_errors(rt: HostRuntime) -> Result<(), Fail> {
-    assert_codes(&rt, rt.alloc(), PAGE, DOCTYPES)?;
-    Ok(())
+fn faulty_doctypes_tell_errors(rt: HostRuntime) {
+    assert_codes(&rt, rt.alloc(), PAGE, DOCTYPES);
 }
 
 const TEXTS: &[Row] = &[
@@ -228,13 +229,12 @@ const TEXTS: &[Row] = &[
 ];
 
 #[test]
-fn faulty_texts_tell_errors(rt: HostRuntime) -> Result<(), Fail> {
+fn faulty_texts_tell_errors(rt: HostRuntime) {
     let setting = Setting {
         table: Table::Not,
         ..PAGE
     };
-    assert_codes(&rt, rt.alloc(), setting, TEXTS)?;
-    Ok(())
+    assert_codes(&rt, rt.alloc(), setting, TEXTS);
 }
 
 const UNKNOWN_NAMES: &[Row] = &[
@@ -270,7 +270,7 @@ const UNKNOWN_NAMES_IN_VALUES: &[Row] = &[
 ];
 
 #[test]
-fn unknown_names_tell_errors(rt: HostRuntime) -> Result<(), Fail> {
+fn unknown_names_tell_errors(rt: HostRuntime) {
     let page = Setting {
         table: Table::Not,
         ..PAGE
@@ -281,10 +281,9 @@ fn unknown_names_tell_errors(rt: HostRuntime) -> Result<(), Fail> {
         ..page
     };
     for setting in [page, exact(page), title] {
-        assert_codes(&rt, rt.alloc(), setting, UNKNOWN_NAMES)?;
+        assert_codes(&rt, rt.alloc(), setting, UNKNOWN_NAMES);
     }
-    assert_codes(&rt, rt.alloc(), page, UNKNOWN_NAMES_IN_VALUES)?;
-    Ok(())
+    assert_codes(&rt, rt.alloc(), page, UNKNOWN_NAMES_IN_VALUES);
 }
 
 const SECTIONS: &[Row] = &[
@@ -294,13 +293,12 @@ const SECTIONS: &[Row] = &[
 ];
 
 #[test]
-fn sections_without_an_end_tell_errors(rt: HostRuntime) -> Result<(), Fail> {
+fn sections_without_an_end_tell_errors(rt: HostRuntime) {
     let setting = Setting {
         asks_cdata: true,
         ..PAGE
     };
-    assert_codes(&rt, rt.alloc(), setting, SECTIONS)?;
-    Ok(())
+    assert_codes(&rt, rt.alloc(), setting, SECTIONS);
 }
 
 const SCRIPTS: &[Row] = &[
@@ -315,14 +313,13 @@ const SCRIPTS: &[Row] = &[
 ];
 
 #[test]
-fn faulty_scripts_tell_errors(rt: HostRuntime) -> Result<(), Fail> {
+fn faulty_scripts_tell_errors(rt: HostRuntime) {
     let setting = Setting {
         initial_state: Some(State::RawData(RawKind::ScriptData)),
         last_start_tag: Some("script"),
         ..PAGE
     };
-    assert_codes(&rt, rt.alloc(), setting, SCRIPTS)?;
-    Ok(())
+    assert_codes(&rt, rt.alloc(), setting, SCRIPTS);
 }
 
 /// How many errors a text tells.
@@ -344,13 +341,12 @@ const CLEAN_TEXTS: &[&str] = &[
 ];
 
 #[test]
-fn clean_texts_tell_none(rt: HostRuntime) -> Result<(), Fail> {
+fn clean_texts_tell_none(rt: HostRuntime) {
     for &text in CLEAN_TEXTS {
         for setting in [PAGE, exact(PAGE)] {
-            assert_eq!(rt; errors(rt.alloc(), setting, text)?, 0, "{text}");
+            assert!(rt; errors(rt.alloc(), setting, text) == Ok(0), "{text}");
         }
     }
-    Ok(())
 }
 
 // Texts, and how many of their characters are errors where those are told.
@@ -390,13 +386,17 @@ const FORBIDDEN: &[Row] = &[
     ),
 ];
 
+/// How many errors more a text tells where characters may be errors.
+fn more_errors(alloc: Global, text: &str) -> Result<Option<u64>, ParseFault> {
+    let told = errors(alloc, exact(PAGE), text)?;
+    let others = errors(alloc, PAGE, text)?;
+    Ok(told.checked_sub(others))
+}
+
 #[test]
-fn characters_may_be_errors(rt: HostRuntime) -> Result<(), Fail> {
-    assert_codes(&rt, rt.alloc(), exact(PAGE), FORBIDDEN)?;
+fn characters_may_be_errors(rt: HostRuntime) {
+    assert_codes(&rt, rt.alloc(), exact(PAGE), FORBIDDEN);
     for &(text, more) in CHARACTERS {
-        let told = errors(rt.alloc(), exact(PAGE), text)?;
-        let others = errors(rt.alloc(), PAGE, text)?;
-        assert_eq!(rt; told.checked_sub(others), Some(more), "{text}");
+        assert!(rt; more_errors(rt.alloc(), text) == Ok(Some(more)), "{text}");
     }
-    Ok(())
 }

@@ -1,7 +1,6 @@
 //! Character references.
 
 use super::{PAGE, Row, Setting, Table, assert_rows};
-use std::test::Fail;
 
 const NUMBERS: &[Row] = &[
     (
@@ -22,9 +21,8 @@ const NUMBERS: &[Row] = &[
 ];
 
 #[test]
-fn numbers_stand_for_characters(rt: HostRuntime) -> Result<(), Fail> {
-    assert_rows(&rt, rt.alloc(), PAGE, NUMBERS)?;
-    Ok(())
+fn numbers_stand_for_characters(rt: HostRuntime) {
+    assert_rows(&rt, rt.alloc(), PAGE, NUMBERS);
 }
 
 const FIVE_NAMES: &[Row] = &[
@@ -47,9 +45,8 @@ const FIVE_NAMES: &[Row] = &[
 ];
 
 #[test]
-fn names_stand_for_characters(rt: HostRuntime) -> Result<(), Fail> {
-    assert_rows(&rt, rt.alloc(), PAGE, FIVE_NAMES)?;
-    Ok(())
+fn names_stand_for_characters(rt: HostRuntime) {
+    assert_rows(&rt, rt.alloc(), PAGE, FIVE_NAMES);
 }
 
 const VALUES: &[Row] = &[
@@ -65,9 +62,8 @@ const VALUES: &[Row] = &[
 ];
 
 #[test]
-fn references_stand_in_values(rt: HostRuntime) -> Result<(), Fail> {
-    assert_rows(&rt, rt.alloc(), PAGE, VALUES)?;
-    Ok(())
+fn references_stand_in_values(rt: HostRuntime) {
+    assert_rows(&rt, rt.alloc(), PAGE, VALUES);
 }
 
 const LONGEST_NAMES: &[Row] = &[
@@ -95,11 +91,10 @@ const LONGEST_NAMES: &[Row] = &[
 ];
 
 #[test]
-fn the_longest_name_counts(rt: HostRuntime) -> Result<(), Fail> {
+fn the_longest_name_counts(rt: HostRuntime) {
     let setting = Setting {
         table: Table::Not,
         ..PAGE
     };
-    assert_rows(&rt, rt.alloc(), setting, LONGEST_NAMES)?;
-    Ok(())
+    assert_rows(&rt, rt.alloc(), setting, LONGEST_NAMES);
 }

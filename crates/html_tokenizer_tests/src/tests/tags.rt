@@ -1,7 +1,6 @@
 //! Tags and their attributes.
 
 use super::{PAGE, Row, assert_rows};
-use std::test::Fail;
 
 const TAGS: &[Row] = &[
     ("<a>b</a>", "start a; text \"b\"; end a; eof"),
@@ -19,9 +18,8 @@ const TAGS: &[Row] = &[
 ];
 
 #[test]
-fn tags_are_read(rt: HostRuntime) -> Result<(), Fail> {
-    assert_rows(&rt, rt.alloc(), PAGE, TAGS)?;
-    Ok(())
+fn tags_are_read(rt: HostRuntime) {
+    assert_rows(&rt, rt.alloc(), PAGE, TAGS);
 }
 
 const ATTRIBUTES: &[Row] = &[
@@ -49,9 +47,8 @@ const ATTRIBUTES: &[Row] = &[
 ];
 
 #[test]
-fn attributes_are_read(rt: HostRuntime) -> Result<(), Fail> {
-    assert_rows(&rt, rt.alloc(), PAGE, ATTRIBUTES)?;
-    Ok(())
+fn attributes_are_read(rt: HostRuntime) {
+    assert_rows(&rt, rt.alloc(), PAGE, ATTRIBUTES);
 }
 
 const MISSING_VALUES: &[Row] = &[
@@ -65,7 +62,6 @@ const MISSING_VALUES: &[Row] = &[
 ];
 
 #[test]
-fn values_may_miss(rt: HostRuntime) -> Result<(), Fail> {
-    assert_rows(&rt, rt.alloc(), PAGE, MISSING_VALUES)?;
-    Ok(())
+fn values_may_miss(rt: HostRuntime) {
+    assert_rows(&rt, rt.alloc(), PAGE, MISSING_VALUES);
 }

@@ -1,7 +1,6 @@
 //! Text of no special kind, and CDATA sections.
 
 use super::{PAGE, Row, Setting, assert_rows};
-use std::test::Fail;
 
 const TEXTS: &[Row] = &[
     ("", "eof"),
@@ -24,9 +23,8 @@ const TEXTS: &[Row] = &[
 ];
 
 #[test]
-fn texts_are_joined(rt: HostRuntime) -> Result<(), Fail> {
-    assert_rows(&rt, rt.alloc(), PAGE, TEXTS)?;
-    Ok(())
+fn texts_are_joined(rt: HostRuntime) {
+    assert_rows(&rt, rt.alloc(), PAGE, TEXTS);
 }
 
 const MARKS: &[Row] = &[
@@ -38,9 +36,8 @@ const MARKS: &[Row] = &[
 ];
 
 #[test]
-fn the_mark_at_the_front_is_dropped(rt: HostRuntime) -> Result<(), Fail> {
-    assert_rows(&rt, rt.alloc(), PAGE, MARKS)?;
-    Ok(())
+fn the_mark_at_the_front_is_dropped(rt: HostRuntime) {
+    assert_rows(&rt, rt.alloc(), PAGE, MARKS);
 }
 
 const KEPT_MARKS: &[Row] = &[
@@ -52,13 +49,12 @@ const KEPT_MARKS: &[Row] = &[
 ];
 
 #[test]
-fn the_mark_at_the_front_is_kept(rt: HostRuntime) -> Result<(), Fail> {
+fn the_mark_at_the_front_is_kept(rt: HostRuntime) {
     let setting = Setting {
         discard_bom: false,
         ..PAGE
     };
-    assert_rows(&rt, rt.alloc(), setting, KEPT_MARKS)?;
-    Ok(())
+    assert_rows(&rt, rt.alloc(), setting, KEPT_MARKS);
 }
 
 const SECTIONS: &[Row] = &[
@@ -76,13 +72,12 @@ const SECTIONS: &[Row] = &[
 ];
 
 #[test]
-fn sections_are_text(rt: HostRuntime) -> Result<(), Fail> {
+fn sections_are_text(rt: HostRuntime) {
     let setting = Setting {
         asks_cdata: true,
         ..PAGE
     };
-    assert_rows(&rt, rt.alloc(), setting, SECTIONS)?;
-    Ok(())
+    assert_rows(&rt, rt.alloc(), setting, SECTIONS);
 }
 
 const NO_SECTIONS: &[Row] = &[
@@ -94,7 +89,6 @@ const NO_SECTIONS: &[Row] = &[
 ];
 
 #[test]
-fn sections_are_comments_in_a_page(rt: HostRuntime) -> Result<(), Fail> {
-    assert_rows(&rt, rt.alloc(), PAGE, NO_SECTIONS)?;
-    Ok(())
+fn sections_are_comments_in_a_page(rt: HostRuntime) {
+    assert_rows(&rt, rt.alloc(), PAGE, NO_SECTIONS);
 }
