@@ -1,5 +1,5 @@
 -- What the actions of rows ask of a state.
-use Rattle.std.specs.Prelude.{◌≡◌, ℕ, List, true, false, Some, IfSome, codes}
+use Rattle.std.specs.Prelude.{◌≡◌, ℕ, Bool, List, true, false, Some, IfSome, codes}
 use Rattle.markup.specs.Forest.{IsNode, data_of, element_name}
 use Rattle.html_tokens.specs.declared.token.Token.{Token}
 use Rattle.html_rules.specs.Actions.{act, append_in_body, set_foster_parenting}
@@ -35,3 +35,9 @@ MayAct _ t s = Unit {0}
 -- characters that are fostered
 abbrev pub foster_text : List ℕ → State → State
 foster_text text s = set_foster_parenting false (append_in_body text (set_foster_parenting true (parse_error s)))
+
+-- an action that has no others in it
+abbrev pub is_alone : Action → Bool
+is_alone (Then a b) = false
+is_alone (When c a) = false
+is_alone a = true

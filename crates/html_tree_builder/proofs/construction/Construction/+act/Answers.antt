@@ -1,16 +1,8 @@
-use Rattle.std.proofs.Common.{◌∙◌, ap, sym}
 use Rattle.html_modes.specs.Tables.{action_of}
-use Rattle.html_rules.specs.Actions.{act}
-use Rattle.html_tree_builder.specs.States.{answers_of, built}
+use Rattle.html_tree_builder.specs.States.{answers_of}
 use Rattle.html_tree_builder.specs.Told.{token_of}
 use Rattle.html_tree_builder.proofs.Acted.{acted-stands}
 use Rattle.html_tree_builder.proofs.construction.Construction.+act.Goals as goal
-
-pub act-returns-in_ok-insert_void_as-in-InsertVoidAs-clause-ok : goal.act-returns-in_ok-insert_void_as-in-InsertVoidAs-clause-ok
-act-returns-in_ok-insert_void_as-in-InsertVoidAs-clause-ok g t c =
-    let sink = g.Sink.TreeSink in
-    c.in_ok-insert_void_as-in-InsertVoidAs.ensures.ok (answers_of sink.integration_point sink.allows_shadow_roots sink.attaches_shadow)
-    ∙ ap (λ a. act (action_of a) (token_of c.args.told.now.content) (built sink c.args.self.now (sink.forest c.args.sink.now))) (sym c.in-InsertVoidAs.is)
 
 pub act_first-returns-clause-stands : goal.act_first-returns-clause-stands
 act_first-returns-clause-stands g t c =
