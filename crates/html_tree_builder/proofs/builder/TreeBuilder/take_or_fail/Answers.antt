@@ -1,4 +1,4 @@
-use Rattle.std.proofs.Common.{subst, sym}
+use Rattle.std.proofs.Common.{rules, subst, sym}
 use Rattle.html_builder_laws.specs.Usable.{Usable}
 use Rattle.html_builder_laws.proofs.UsableTokens.{usable-unhushed}
 use Rattle.html_tree_builder.specs.States.{built}
@@ -8,3 +8,6 @@ pub take-requires-clause-usable : goal.take-requires-clause-usable
 take-requires-clause-usable g c =
     let s = built g.Sink.TreeSink c.args.self.now.construction (g.Sink.TreeSink.forest c.args.self.now.sink) in
     subst Usable (sym c.tell_line.ensures.same) (usable-unhushed s c.requires.usable)
+
+pub returns-in-Err-clause-failed : goal.returns-in-Err-clause-failed
+returns-in-Err-clause-failed g c = search rules

@@ -1,4 +1,4 @@
-use Rattle.std.proofs.Common.{ap}
+use Rattle.std.proofs.Common.{rules, ap}
 use Rattle.html_tokens.specs.declared.token.Token.TheVariants.{EOFToken}
 use Rattle.html_rules.specs.Stack.{parse_error}
 use Rattle.html_rules.specs.Table.{ParseError}
@@ -10,3 +10,7 @@ pub returns-then-is_self_closing-clause-stands : goal.returns-then-is_self_closi
 unfolding parse_error
 returns-then-is_self_closing-clause-stands g c stands =
     acted-stands no_answers c.args.self.now c.args.self.now (g.Sink.TreeSink.forest c.args.sink.now) (g.Sink.TreeSink.forest c.parse_error.new.self) ParseError EOFToken tt stands (ap (λ f. state_of no_answers c.args.self.now f) c.parse_error.ensures)
+
+pub returns-then-is_self_closing-clause-state : goal.returns-then-is_self_closing-clause-state
+unfolding parse_error
+returns-then-is_self_closing-clause-state g c = search rules

@@ -1,3 +1,6 @@
+use Rattle.std.proofs.Common.{rules}
+use Rattle.html_rules.specs.Stack.{parse_error}
+use Rattle.html_rules.specs.Step.{taken}
 use Rattle.html_tree_builder.specs.States.{answers_of, built}
 use Rattle.html_tree_builder.proofs.TextsTaken.{characters-continue, unlined-ended, unlined-state, usable-stands}
 use Rattle.html_tree_builder.proofs.construction.Construction.take.Goals as goal
@@ -15,3 +18,7 @@ pub returns-in_ok-take_characters-in-CharacterTokens-clause-reply :
     goal.returns-in_ok-take_characters-in-CharacterTokens-clause-reply
 returns-in_ok-take_characters-in-CharacterTokens-clause-reply g c =
     rw c.in-CharacterTokens.is (characters-continue c.in-CharacterTokens.text (built g.Sink.TreeSink c.args.self.now (g.Sink.TreeSink.forest c.args.sink.now)))
+
+pub returns-in-ParseError-clause-state : goal.returns-in-ParseError-clause-state
+unfolding parse_error taken
+returns-in-ParseError-clause-state g c = search rules
