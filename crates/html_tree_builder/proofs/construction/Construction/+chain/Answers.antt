@@ -48,3 +48,6 @@ use_rules_for-returns-clause-ok g t c =
     let is = c.first_row-row.ensures (answers_of sink.integration_point sink.allows_shadow_roots sink.attaches_shadow) f in
     rw (← used-row c.args.left c.args.mode (token_of c.args.told.now.content) (built sink c.args.self.now f) (row_of c.first_row-row.result.now) c.if-left-eq0.false is)
     c.take_by_row.ensures.ok
+
+pub go_on-returns-in_ok-take_action-in-UsingThen-clause-ok : goal.go_on-returns-in_ok-take_action-in-UsingThen-clause-ok
+go_on-returns-in_ok-take_action-in-UsingThen-clause-ok g t c = search rules
