@@ -11,7 +11,7 @@ use Rattle.html_rules.specs.Sets.{is_among, mathml_names_of, names_of, svg_names
 use Rattle.html_rules.specs.declared.tag_set.TagSet.{TagSet}
 use Rattle.html_rules.specs.declared.tag_set.TagSet.TheVariants as set
 use Rattle.html_names.specs.SetBits.{has_set, number_of}
-use Rattle.html_names.specs.SetRows.{mathml_row, svg_row}
+use Rattle.html_names.specs.SetRows.{html_row, mathml_row, svg_row}
 use Rattle.html_names.specs.declared.set_rows.TheConstants.{HTML_SETS}
 
 unfoldable is_same : Bool → Bool → Bool
@@ -345,7 +345,8 @@ svg-fits set.Title = refl
 svg-fits set.Tr = refl
 svg-fits set.Xmp = refl
 
-pub html-row : (k : ℕ) → k < length names → (s : TagSet) → has_set (get_or HTML_SETS k 0) s ≡ is_among (get_or names k []) (names_of s)
+pub html-row : (k : ℕ) → k < length names → (s : TagSet) → has_set (html_row k) s ≡ is_among (get_or names k []) (names_of s)
+unfolding html_row
 html-row k l s = rows_fit-at (number_of s) (names_of s) names HTML_SETS (html-fits s) k l
 
 few : length names ≡ 626

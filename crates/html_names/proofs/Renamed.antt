@@ -5,10 +5,6 @@ use Rattle.std.specs.Char.{to_ascii_lowercase}
 use Rattle.std.specs.List.{list_all, list_any}
 use Rattle.std.specs.Str.{bytes_eq, chars}
 use Rattle.std.proofs.lemmas.List.{get_or-map, length-map}
-use Rattle.markup.specs.Plain.{is_plain}
-use Rattle.markup.proofs.Plain.{chars-plain}
-use Rattle.markup.proofs.PlainTexts.{plain-at}
-use denote.Bor.{Bor}
 use Rattle.std.proofs.lemmas.Bool.{and_parts, ltb-true}
 use Rattle.std.proofs.lemmas.Bool.Decides.{nat_tests}
 use Rattle.std.proofs.lemmas.Slice.Eq.{bytes_eq-Decides}
@@ -160,17 +156,6 @@ rows-within (row ∷ rows) h k =
 
 pub row-within : (k : ℕ) → IfSome (find (λ x. nat_eq x.written k) FOREIGN) (λ x. x.name < length names)
 row-within k = rows-within FOREIGN foreign-within k
-
--- the text of a known name
-names-plain : list_all is_plain names ≡ true
-unfolding names
-names-plain = refl
-
-pub name-text : (table : List (Bor (List ℕ))) (k : ℕ) (d : Bor (List ℕ)) → map (λ name. name.now) table ≡ names → k < length names → chars (get_or table k d).now ≡ get_or names k []
-name-text table k d e l =
-    let l' : k < length table = omega (arith, ap length e, length-map table (λ (name : Bor (List ℕ)). name.now)) in
-    let at : get_or names k [] ≡ (get_or table k d).now = rw (← e) (get_or-map (λ (name : Bor (List ℕ)). name.now) table k d [] l') in
-    ap chars (sym at) ∙ chars-plain (get_or names k []) (plain-at names names-plain k l)
 
 -- attributes, one by one
 

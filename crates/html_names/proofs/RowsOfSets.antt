@@ -7,12 +7,11 @@ use Rattle.markup.specs.KnownNames.{names}
 use Rattle.html_rules.specs.Names.{Namespace, Html, MathMl, Svg, Other}
 use Rattle.html_names.specs.Classes.{IsRowOf}
 use Rattle.html_names.specs.SetBits.{number_of}
-use Rattle.html_names.specs.SetRows.{mathml_row, svg_row}
-use Rattle.html_names.specs.declared.set_rows.TheConstants.{HTML_SETS}
+use Rattle.html_names.specs.SetRows.{html_row, mathml_row, svg_row}
 use Rattle.html_names.proofs.FittingRows.{html-row, mathml-row, svg-row}
 use Rattle.html_names.proofs.UnknownNames.{unknown-among}
 
-pub IsRowOf-html : (k : ℕ) → k < length names → IsRowOf Html (get_or names k []) (get_or HTML_SETS k 0)
+pub IsRowOf-html : (k : ℕ) → k < length names → IsRowOf Html (get_or names k []) (html_row k)
 IsRowOf-html k l = record { each = html-row k l }
 
 pub IsRowOf-mathml : (k : ℕ) → k < length names → IsRowOf MathMl (get_or names k []) (mathml_row k)

@@ -1,5 +1,9 @@
--- The sets of known names in MathML and SVG, by the place of the name.
-use Rattle.std.specs.Prelude.{ℕ, ◌||◌, nat_eq, if◌then◌else◌}
+-- The sets of known names, by the place of the name: in HTML, in MathML and in SVG.
+use Rattle.std.specs.Prelude.{ℕ, ◌||◌, nat_eq, if◌then◌else◌, slice_index}
+use Rattle.html_names.specs.declared.set_rows.TheConstants.{HTML_SETS}
+
+unfoldable pub html_row : ℕ → ℕ
+html_row p = slice_index HTML_SETS p
 
 abbrev pub mathml_row : ℕ → ℕ
 mathml_row p = if nat_eq p 346 || nat_eq p 351 || nat_eq p 352 || nat_eq p 361 || nat_eq p 370 then 0x4007 else if nat_eq p 30 then 0x10000 else 0

@@ -15,7 +15,6 @@ ghost use Rattle.html_names.specs.ElementNames.{FitsForm, Holds, IsRareForm, nam
 
 use crate::any_case::are_same_any_case;
 use crate::element_class::{ElementClass, ElementNamespace};
-use crate::renames::known_text;
 use html_rules::TagSet;
 use markup::{KnownName, KnownNamespace, LocalName, Namespace, ParseFault};
 use std::alloc::Global;
@@ -214,7 +213,7 @@ impl ElementName {
         ensures { chars result.now ≡ self.now.name }
     {
         match &self.form {
-            NameForm::Known(known) => known_text(known.place),
+            NameForm::Known(known) => known.as_str(),
             NameForm::Rare(rare) => rare.name.as_str(),
         }
     }

@@ -12,7 +12,6 @@ ghost use Rattle.html_names.specs.Renaming.{adjust_attribute, adjust_local, name
 ghost use Rattle.html_names.specs.declared.renames.TheConstants.{FOREIGN};
 
 use crate::element_class::ElementNamespace;
-use markup::known_names::NAMES;
 use markup::{
     Attribute, Attributes, KnownName, KnownNamespace, LocalName, Namespace, ParseFault, Prefix,
     QualName,
@@ -141,29 +140,13 @@ fn renamed_place(table: &[Rename], place: u16) -> u16
     }
 }
 
-/// The known names, lent.
-fn known_names() -> &'static [&'static str]
-    ensures { map (λ name. name.now) result.now ≡ names }
-{
-    &NAMES
-}
-
-/// The text of a known name.
-pub(crate) fn known_text(place: u16) -> &'static str
-    requires { place < length names }
-    ensures { chars result.now ≡ slice_index_or names place [] }
-{
-    let texts = known_names();
-    texts[usize::from(place)]
-}
-
 /// A known name as a name of its own.
 fn known_name(alloc: Global, place: u16) -> Result<LocalName, ParseFault>
     requires { place < length names }
     ensures ok { IfOk result (λ name. name ≡ slice_index_or names place []) }
     ensures err { IfErr result (λ fault. fault ≡ Memory) }
 {
-    LocalName::from_str(alloc, known_text(place))
+    LocalName::from_str(alloc, KnownName { place }.as_str())
 }
 
 /// The name that a name becomes. It is looked up once.

@@ -1,7 +1,7 @@
 //! In which sets of names each known name is, as bits: bit n stands for the set that `TagSet` has at n.
-ghost use Rattle.std.specs.Prelude.{◌≡◌, ◌<◌, slice_index, length};
+ghost use Rattle.std.specs.Prelude.{◌≡◌, ◌<◌, length};
 ghost use Rattle.markup.specs.KnownNames.{names};
-ghost use Rattle.html_names.specs.SetRows.{mathml_row, svg_row};
+ghost use Rattle.html_names.specs.SetRows.{html_row, mathml_row, svg_row};
 ghost use Rattle.html_names.specs.declared.set_rows.TheConstants.{HTML_SETS};
 
 use markup::KnownName;
@@ -52,7 +52,7 @@ fn html_sets() -> &'static [u128]
 /// The sets of an HTML element.
 pub(crate) fn of_html(name: KnownName) -> u128
     requires { name.place < length names }
-    ensures { result ≡ slice_index HTML_SETS name.place }
+    ensures { result ≡ html_row name.place }
 {
     html_sets()[usize::from(name.place)]
 }

@@ -16,6 +16,7 @@ pub mod DistinctNames
 pub mod Permutations
 pub mod RisingTexts
 pub mod PlainTexts
+pub mod KnownTexts
 mod PlacedNames
 pub mod WholeTrees
 pub mod WalkCalls

@@ -1,5 +1,5 @@
 //! The names of elements and attributes that the HTML Standard, SVG and MathML know.
-ghost use Rattle.std.specs.Prelude.{◌≡◌, false, map, IfSome, IfNone};
+ghost use Rattle.std.specs.Prelude.{◌≡◌, [], false, map, slice_index_or, IfSome, IfNone};
 ghost use Rattle.std.specs.List.{list_any};
 ghost use Rattle.std.specs.Str.{bytes_eq, chars};
 ghost use Rattle.markup.specs.KnownNames.{names, IsNameAt};
@@ -141,5 +141,17 @@ pub(crate) fn known_name(name: &str) -> Option<KnownName>
     match table().get(place as usize) {
         Some(known) if *known == name => Some(KnownName { place }),
         _ => None,
+    }
+}
+
+impl KnownName {
+    /// The text of the name; no text where the table ends before that place.
+    pub fn as_str(self) -> &'static str
+        ensures { chars result.now ≡ slice_index_or names self.place [] }
+    {
+        match table().get(self.place as usize) {
+            Some(name) => name,
+            None => "",
+        }
     }
 }

@@ -6,4 +6,4 @@ use Rattle.html_names.proofs.renames.known_name.Goals as goal
 
 pub returns-clause-ok : goal.returns-clause-ok
 returns-clause-ok c =
-    ok-map (λ (made : List ℕ). made ≡ chars c.known_text.result.now) (λ (made : List ℕ). made ≡ get_or names c.args.place []) c.from_str.result (λ made e. e ∙ c.known_text.ensures) c.from_str.ensures.ok
+    ok-map (λ (made : List ℕ). made ≡ chars c.as_str.result.now) (λ (made : List ℕ). made ≡ get_or names c.args.place []) c.from_str.result (λ made e. e ∙ c.as_str.ensures) c.from_str.ensures.ok

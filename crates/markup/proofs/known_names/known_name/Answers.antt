@@ -6,14 +6,11 @@ use Rattle.std.specs.Str.{bytes_eq, chars}
 use Rattle.markup.specs.KnownNames.{IsNameAt, names}
 use Rattle.markup.specs.KnownSlots.{place_at}
 use Rattle.markup.specs.Plain.{is_plain}
+use Rattle.markup.proofs.KnownTexts.{names-plain}
 use Rattle.markup.proofs.Plain.{chars-plain}
 use Rattle.markup.proofs.PlacedNames.{none_placed}
 use Rattle.markup.proofs.PlainTexts.{among_plain, plain-at}
 use Rattle.markup.proofs.known_names.known_name.Goals as goal
-
-names-plain : list_all is_plain names ≡ true
-unfolding names
-names-plain = refl
 
 -- a text whose bytes are a known name has it as its characters
 its_characters : (place : ℕ) (bs : List ℕ) → IsNameAt place bs → IsNameAt place (chars bs)
