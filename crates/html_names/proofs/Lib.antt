@@ -1,6 +1,7 @@
 pub mod SetNumbers
 pub mod FittingRows
 pub mod UnknownNames
+mod KindsOfSpaces
 pub mod RowsOfSets
 pub mod AnyCase
 pub mod Runs

@@ -5,7 +5,8 @@ use Rattle.std.specs.Str.{bytes_eq}
 use Rattle.std.proofs.lemmas.Nat.Bits.{bit_at-zero}
 use Rattle.markup.specs.KnownNames.{names}
 use Rattle.html_rules.specs.Names.{Namespace, Html, MathMl, Svg, Other}
-use Rattle.html_names.specs.Classes.{IsRowOf}
+use Rattle.html_names.specs.Classes.{IsRowOf, kind_of}
+use Rattle.html_names.specs.declared.element_class.ElementNamespace.TheVariants as ElementNamespace
 use Rattle.html_names.specs.SetBits.{number_of}
 use Rattle.html_names.specs.SetRows.{html_row, mathml_row, svg_row}
 use Rattle.html_names.proofs.FittingRows.{html-row, mathml-row, svg-row}
@@ -22,6 +23,12 @@ IsRowOf-svg k l = record { each = svg-row k l }
 
 pub IsRowOf-other : (uri name : List ℕ) → IsRowOf (Other uri) name 0
 IsRowOf-other uri name = record { each = λ s. rw (bit_at-zero (number_of s)) }
+
+pub IsRowOf-none : (space : Namespace) (name : List ℕ) → kind_of space ≡ ElementNamespace.Other → IsRowOf space name 0
+IsRowOf-none (Other uri) name h = IsRowOf-other uri name
+IsRowOf-none Html name h = absurd cc
+IsRowOf-none MathMl name h = absurd cc
+IsRowOf-none Svg name h = absurd cc
 
 pub IsRowOf-unknown : (space : Namespace) (name : List ℕ) → list_any (bytes_eq name) names ≡ false → IsRowOf space name 0
 IsRowOf-unknown space name h = record { each = λ s. rw (bit_at-zero (number_of s), unknown-among space name s h) }
