@@ -1,5 +1,5 @@
 //! Tables of named character references (HTML Standard, section 13.5).
-ghost use Rattle.std.specs.Prelude.{◌≡◌, ◌≢◌, None, Some, IfOk, IfErr, OnOk, IsTrue};
+ghost use Rattle.std.specs.Prelude.{◌≡◌, ◌≢◌, ◌++◌, ◌∷◌, [], None, Some, IfOk, IfErr, OnOk, IsTrue};
 ghost use Rattle.std.specs.Option.{option_copied};
 ghost use Rattle.std.specs.Str.{chars};
 ghost use Rattle.markup.specs.Plain.{is_plain};
@@ -19,6 +19,33 @@ fn make_row(alloc: Global, name: &str, value: u32) -> Result<ReferenceRow, Alloc
     ensures { IfOk result (λ row. row ≡ row_of name.now value) }
 {
     Ok(ReferenceRow::new(String::from_str(alloc, name)?, value, None))
+}
+
+// Puts the row of a name of ASCII alone behind others.
+fn push_row(
+    alloc: Global,
+    rows: &mut Vec<ReferenceRow>,
+    name: &str,
+    value: u32,
+) -> Result<(), TableFault>
+    requires { IsTrue (is_plain name.now) }
+    ensures ok { OnOk result (rows.new.items ≡ rows.old.items ++ row_of name.now value ∷ []) }
+    ensures err { IfErr result (λ fault. fault ≡ Memory) }
+{
+    rows.push(make_row(alloc, name, value)?)?;
+    Ok(())
+}
+
+// Puts the rows of the five names that a written text needs behind others.
+fn push_five(alloc: Global, rows: &mut Vec<ReferenceRow>) -> Result<(), TableFault>
+    ensures ok { OnOk result (rows.new.items ≡ rows.old.items ++ five_rows) }
+    ensures err { IfErr result (λ fault. fault ≡ Memory) }
+{
+    push_row(alloc, rows, "amp;", 0x26)?;
+    push_row(alloc, rows, "lt;", 0x3C)?;
+    push_row(alloc, rows, "gt;", 0x3E)?;
+    push_row(alloc, rows, "quot;", 0x22)?;
+    push_row(alloc, rows, "nbsp;", 0xA0)
 }
 
 // Rows of their own with the same names and values.
@@ -82,11 +109,7 @@ impl References {
         ensures err { IfErr result (λ fault. fault ≡ Memory) }
     {
         let mut rows = Vec::with_capacity(alloc, 5)?;
-        rows.push(make_row(alloc, "amp;", 0x26)?)?;
-        rows.push(make_row(alloc, "lt;", 0x3C)?)?;
-        rows.push(make_row(alloc, "gt;", 0x3E)?)?;
-        rows.push(make_row(alloc, "quot;", 0x22)?)?;
-        rows.push(make_row(alloc, "nbsp;", 0xA0)?)?;
+        push_five(alloc, &mut rows)?;
         References::new(alloc, rows)
     }
 
