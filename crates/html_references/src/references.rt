@@ -3,6 +3,7 @@ ghost use Rattle.std.specs.Prelude.{◌≡◌, ◌≢◌, ◌++◌, ◌∷◌, [
 ghost use Rattle.std.specs.Option.{option_copied};
 ghost use Rattle.std.specs.Str.{chars};
 ghost use Rattle.markup.specs.Plain.{is_plain};
+ghost use Rattle.html_references.specs.Order.{IsTable};
 ghost use Rattle.html_references.specs.References.{IsCheckedTable, IsFirstFault, MatchesLongest, fault_of, five_rows, goes_on, is_front, longest, row_of};
 ghost use Rattle.html_tokens.specs.declared.table.TableFault.TheVariants.{Memory};
 
@@ -60,6 +61,19 @@ fn copy_rows(alloc: Global, rows: &[ReferenceRow]) -> Result<Vec<ReferenceRow>, 
     Ok(copied)
 }
 
+// The places of rows in the order of their names, or else what is wrong with the first faulty row.
+fn order_of(alloc: Global, rows: &[ReferenceRow]) -> Result<Vec<usize>, TableFault>
+    ensures ok { IfOk result (λ order. IsTable rows.now order.items) }
+    ensures fault { IfErr result (λ fault. fault ≢ Memory → fault_of rows.now ≡ Some fault) }
+{
+    let mut order = Vec::with_capacity(alloc, rows.len())?;
+    for (place, row) in rows.iter().enumerate() {
+        let index = check::index_of(&rows[..place], &order, row)?;
+        order.insert(index, place)?;
+    }
+    Ok(order)
+}
+
 /// A checked table of named character references. A contract sees the list of its rows, as they were handed in.
 ///
 /// Names are letters and digits of ASCII, one at least, with `;` or nothing behind them, and all distinct; values are numbers of
@@ -95,11 +109,7 @@ impl References {
         ensures table { OnOk result (IsCheckedTable rows.items) }
         ensures first { IfErr result (λ fault. fault ≢ Memory → IsFirstFault rows.items fault) }
     {
-        let mut order = Vec::with_capacity(alloc, rows.len())?;
-        for (place, row) in rows.iter().enumerate() {
-            let index = check::index_of(&rows[..place], &order, row)?;
-            order.insert(index, place)?;
-        }
+        let order = order_of(alloc, &rows)?;
         Ok(References { rows, order })
     }
 

@@ -1,0 +1,15 @@
+use Rattle.std.proofs.Common.{arith, None}
+use Rattle.html_references.proofs.Faults.{first_fault-at}
+use Rattle.html_references.proofs.Inserts.{IsOrder-more}
+use Rattle.html_references.proofs.references.order_of.Goals as goal
+
+pub loop-place-preserved : goal.loop-place-preserved
+loop-place-preserved c =
+    let placed = rw (c.deref.ensures.value) at c.in_ok-index.ensures.index in
+    let good = c.in_ok-index.ensures.checked in
+    record {
+      order_of =
+          IsOrder-more c.args.rows.now c.loop-place.place c.index-rows-place.result c.loop-place.order.items c.insert.new.self.items c.in_ok-index.index
+          (omega arith) c.index-rows-place.is c.loop-place.invariant.order_of placed good c.in_ok-insert.ensures.items;
+      faults = first_fault-at c.args.rows.now c.loop-place.place c.index-rows-place.result None (omega arith) c.index-rows-place.is good c.loop-place.invariant.faults;
+    }
