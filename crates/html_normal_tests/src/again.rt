@@ -1,9 +1,8 @@
 //! Plain documents of every form, made by chance: each is read as it is written, without an error.
 
-use crate::tests::{Devices, WHOLE, normal, plain};
+use crate::tests::{Devices, WHOLE, is_normal, plain};
 use html_normal::Exact;
 use std::alloc::{AllocError, Global};
-use std::test::Fail;
 
 /// Numbers that only look like chance: the same in each run.
 #[derive(Drop)]
@@ -186,6 +185,81 @@ fn add_end(page: &mut String, name: &str) -> Result<(), AllocError> {
     page.push('>')
 }
 
+/// Where something is added to a body: what is open, what may stand there, and whether text was added last.
+#[derive(Drop)]
+struct Place {
+    open: Vec<(&'static str, Room)>,
+    room: Room,
+    after_text: bool,
+}
+
+impl Place {
+    fn open(&mut self, dice: &mut Dice, page: &mut String) -> Result<(), AllocError> {
+        let forms = self.room.forms();
+        if let Some(&(name, inside)) = forms.get(dice.roll(forms.len())) {
+            add_start(dice, page, name)?;
+            self.open.push((name, self.room))?;
+            self.room = inside;
+            self.after_text = false;
+        }
+        Ok(())
+    }
+
+    fn add_text(&mut self, dice: &mut Dice, page: &mut String) -> Result<(), AllocError> {
+        self.after_text = true;
+        if self.room.takes_text() {
+            add_any_text(dice, page)
+        } else {
+            add_text(dice, page, WHITE)
+        }
+    }
+
+    fn add_break(&mut self, dice: &mut Dice, page: &mut String) -> Result<(), AllocError> {
+        self.after_text = false;
+        add_start(dice, page, "br")
+    }
+
+    fn close(&mut self, page: &mut String) -> Result<(), AllocError> {
+        match self.open.pop() {
+            Some((name, around)) => {
+                self.room = around;
+                self.after_text = false;
+                add_end(page, name)
+            }
+            None => Ok(()),
+        }
+    }
+
+    /// Adds something. Elements are opened so many times in ten, and no deeper than 38.
+    fn step(&mut self, dice: &mut Dice, page: &mut String, opens: usize) -> Result<(), AllocError> {
+        if dice.roll(10) < opens && self.open.len() < 38 {
+            self.open(dice, page)
+        } else if !self.after_text && dice.once_in(2) {
+            self.add_text(dice, page)
+        } else if self.room.takes_text() && dice.once_in(4) {
+            self.add_break(dice, page)
+        } else {
+            self.close(page)
+        }
+    }
+
+    fn take_steps(
+        &mut self,
+        dice: &mut Dice,
+        page: &mut String,
+        steps: usize,
+    ) -> Result<(), AllocError> {
+        let opens = dice.roll(8).max(2);
+        for _ in 0..steps {
+            self.step(dice, page, opens)?;
+        }
+        for _ in 0..self.open.len() {
+            self.close(page)?;
+        }
+        Ok(())
+    }
+}
+
 /// Adds what stands in a body, in so many steps, and no deeper than 40 elements.
 fn add_body(
     alloc: Global,
@@ -193,75 +267,85 @@ fn add_body(
     page: &mut String,
     steps: usize,
 ) -> Result<(), AllocError> {
-    let mut open = Vec::new(alloc);
-    let mut room = Room::Flow;
-    let mut after_text = false;
-    let opens = dice.roll(8).max(2);
-    for _ in 0..steps {
-        if dice.roll(10) < opens && open.len() < 38 {
-            let forms = room.forms();
-            if let Some(&(name, inside)) = forms.get(dice.roll(forms.len())) {
-                add_start(dice, page, name)?;
-                open.push((name, room))?;
-                room = inside;
-                after_text = false;
-            }
-        } else if !after_text && dice.once_in(2) {
-            if room.takes_text() {
-                add_any_text(dice, page)?;
-            } else {
-                add_text(dice, page, WHITE)?;
-            }
-            after_text = true;
-        } else if room.takes_text() && dice.once_in(4) {
-            add_start(dice, page, "br")?;
-            after_text = false;
-        } else if let Some((name, around)) = open.pop() {
-            add_end(page, name)?;
-            room = around;
-            after_text = false;
-        }
+    let mut place = Place {
+        open: Vec::new(alloc),
+        room: Room::Flow,
+        after_text: false,
+    };
+    place.take_steps(dice, page, steps)
+}
+
+fn add_white(dice: &mut Dice, page: &mut String) -> Result<(), AllocError> {
+    if dice.once_in(2) {
+        add_text(dice, page, WHITE)
+    } else {
+        Ok(())
     }
-    for _ in 0..open.len() {
-        if let Some((name, _)) = open.pop() {
-            add_end(page, name)?;
-        }
+}
+
+fn add_title(dice: &mut Dice, page: &mut String) -> Result<(), AllocError> {
+    add_start(dice, page, "title")?;
+    if dice.once_in(2) {
+        add_any_text(dice, page)?;
     }
-    Ok(())
+    add_end(page, "title")?;
+    add_white(dice, page)
+}
+
+fn add_head(dice: &mut Dice, page: &mut String) -> Result<(), AllocError> {
+    add_start(dice, page, "head")?;
+    add_white(dice, page)?;
+    if dice.once_in(2) {
+        add_title(dice, page)?;
+    }
+    add_end(page, "head")
+}
+
+fn add_page(
+    alloc: Global,
+    dice: &mut Dice,
+    page: &mut String,
+    steps: usize,
+) -> Result<(), AllocError> {
+    page.push_str("<!DOCTYPE html>")?;
+    add_start(dice, page, "html")?;
+    add_head(dice, page)?;
+    add_white(dice, page)?;
+    add_start(dice, page, "body")?;
+    add_body(alloc, dice, page, steps)?;
+    add_end(page, "body")?;
+    add_end(page, "html")
 }
 
 /// A plain document, as it is written.
 fn page(alloc: Global, dice: &mut Dice, steps: usize) -> Result<String, AllocError> {
     let mut page = String::new(alloc);
-    page.push_str("<!DOCTYPE html>")?;
-    add_start(dice, &mut page, "html")?;
-    add_start(dice, &mut page, "head")?;
-    if dice.once_in(2) {
-        add_text(dice, &mut page, WHITE)?;
-    }
-    if dice.once_in(2) {
-        add_start(dice, &mut page, "title")?;
-        if dice.once_in(2) {
-            add_any_text(dice, &mut page)?;
-        }
-        add_end(&mut page, "title")?;
-        if dice.once_in(2) {
-            add_text(dice, &mut page, WHITE)?;
-        }
-    }
-    add_end(&mut page, "head")?;
-    if dice.once_in(2) {
-        add_text(dice, &mut page, WHITE)?;
-    }
-    add_start(dice, &mut page, "body")?;
-    add_body(alloc, dice, &mut page, steps)?;
-    add_end(&mut page, "body")?;
-    add_end(&mut page, "html")?;
+    add_page(alloc, dice, &mut page, steps)?;
     Ok(page)
 }
 
+/// The length of a plain document of so many steps, if it is read as it is written.
+fn kept_length(alloc: Global, dice: &mut Dice, steps: usize) -> Result<Option<usize>, AllocError> {
+    let page = page(alloc, dice, steps)?;
+    let on = Devices {
+        read: dice.roll(4096),
+        room: page.len(),
+        ..WHOLE
+    };
+    let exact = Exact {
+        tokenizer: false,
+        tree_builder: dice.once_in(2),
+    };
+    let bytes = page.as_bytes();
+    if is_normal(alloc, bytes, &on, exact, plain(0), bytes)? {
+        Ok(Some(page.len()))
+    } else {
+        Ok(None)
+    }
+}
+
 #[test]
-fn plain_documents(rt: HostRuntime) -> Result<(), Fail> {
+fn plain_documents(rt: HostRuntime) {
     let mut dice = Dice { state: 7 };
     let mut longest = 0;
     for n in 0..2000u64 {
@@ -270,21 +354,11 @@ fn plain_documents(rt: HostRuntime) -> Result<(), Fail> {
         } else {
             dice.roll(200)
         };
-        let page = page(rt.alloc(), &mut dice, steps)?;
-        longest = page.len().max(longest);
-        let on = Devices {
-            read: dice.roll(4096),
-            room: page.len(),
-            ..WHOLE
-        };
-        let exact = Exact {
-            tokenizer: false,
-            tree_builder: dice.once_in(2),
-        };
-        let seen = normal(rt.alloc(), page.as_bytes(), &on, exact)?;
-        assert_eq!(&rt; seen.answer, plain(0), "{n}");
-        assert!(&rt; seen.written.as_slice() == page.as_bytes(), "{n}");
+        let kept = kept_length(rt.alloc(), &mut dice, steps);
+        assert!(rt; matches!(kept, Ok(Some(_))), "{n}");
+        if let Ok(Some(length)) = kept {
+            longest = length.max(longest);
+        }
     }
-    assert!(&rt; longest > 1_000_000, "{longest}");
-    Ok(())
+    assert!(rt; longest > 1_000_000, "{longest}");
 }

@@ -8,8 +8,6 @@ use html_normal::{
 };
 use markup::QuirksMode;
 use std::alloc::{AllocError, Global};
-use std::process::Abort;
-use std::test::Fail;
 
 // How a document is read and written.
 #[derive(Clone, Copy)]
@@ -55,29 +53,51 @@ const BACK: &str = "</body></html>";
 
 // What a normalisation answers, and what it wrote.
 #[derive(Drop)]
-pub(crate) struct Outcome {
-    pub(crate) answer: Result<Report, NormalFault>,
-    pub(crate) written: Vec<u8>,
+struct Outcome {
+    answer: Result<Report, NormalFault>,
+    written: Vec<u8>,
 }
 
-pub(crate) fn normal(
+fn reader_of(alloc: Global, bytes: &[u8], on: &Devices) -> Result<MemReader, AllocError> {
+    let bytes = Vec::from_slice(alloc, bytes)?;
+    Ok(MemReader::new(bytes, on.read.max(1), on.read_fails))
+}
+
+fn writer_of(alloc: Global, on: &Devices) -> Result<MemWriter, AllocError> {
+    MemWriter::new(alloc, on.room, on.write.max(1), on.write_fails, on.zero)
+}
+
+fn outcome_of(
+    alloc: Global,
+    reader: &mut MemReader,
+    writer: &mut MemWriter,
+    exact: Exact,
+) -> Result<Outcome, AllocError> {
+    let Ok(five) = References::five(alloc) else {
+        return Err(AllocError);
+    };
+    let answer = normalise(alloc, reader, writer, five, exact);
+    let written = Vec::from_slice(alloc, writer.written())?;
+    Ok(Outcome { answer, written })
+}
+
+fn normal(alloc: Global, bytes: &[u8], on: &Devices, exact: Exact) -> Result<Outcome, AllocError> {
+    let mut reader = reader_of(alloc, bytes, on)?;
+    let mut writer = writer_of(alloc, on)?;
+    outcome_of(alloc, &mut reader, &mut writer, exact)
+}
+
+/// Whether bytes are answered so, and written as these.
+pub(crate) fn is_normal(
     alloc: Global,
     bytes: &[u8],
     on: &Devices,
     exact: Exact,
-) -> Result<Outcome, AllocError> {
-    let mut reader = MemReader::new(
-        Vec::from_slice(alloc, bytes)?,
-        on.read.max(1),
-        on.read_fails,
-    );
-    let mut writer = MemWriter::new(alloc, on.room, on.write.max(1), on.write_fails, on.zero)?;
-    let Ok(five) = References::five(alloc) else {
-        return Err(AllocError);
-    };
-    let answer = normalise(alloc, &mut reader, &mut writer, five, exact);
-    let written = Vec::from_slice(alloc, writer.written())?;
-    Ok(Outcome { answer, written })
+    answer: Result<Report, NormalFault>,
+    written: &[u8],
+) -> Result<bool, AllocError> {
+    let seen = normal(alloc, bytes, on, exact)?;
+    Ok(seen.answer == answer && seen.written.as_slice() == written)
 }
 
 /// Each setting of the switches for errors.
@@ -96,55 +116,68 @@ const PLAIN_NOT_BAD: Told = (false, QuirksMode::NoQuirks, true);
 
 const QUIRKS: Told = (false, QuirksMode::Quirks, true);
 
-/// Sees that a document that was written is plain and written so again, in whatever pieces it comes, and that no error is told.
-fn assert_again(rt: &impl Abort, alloc: Global, written: &str) -> Result<(), AllocError> {
-    for on in [WHOLE, BY_BYTE] {
+/// Whether a document that was written is plain and written so again, in whatever pieces it comes, and no error is told.
+fn is_kept(alloc: Global, written: &str) -> Result<bool, AllocError> {
+    for on in [&WHOLE, &BY_BYTE] {
         for &(tokenizer, tree_builder) in SWITCHES {
             let exact = Exact {
                 tokenizer,
                 tree_builder,
             };
-            let seen = normal(alloc, written.as_bytes(), &on, exact)?;
-            assert!(rt; seen.written.as_slice() == written.as_bytes(), "{written}");
-            assert!(rt; seen.answer == plain(0), "{written}");
+            let bytes = written.as_bytes();
+            if !is_normal(alloc, bytes, on, exact, plain(0), bytes)? {
+                return Ok(false);
+            }
         }
     }
-    Ok(())
+    Ok(true)
 }
 
-/// Sees that a document is written so, in whatever pieces it comes, and with whatever errors are told; and again, if it is plain.
-fn assert_row(
-    rt: &impl Abort,
+fn is_told(answer: &Result<Report, NormalFault>, told: Told) -> bool {
+    let (is_plain, quirks, errors) = told;
+    match answer {
+        Ok(report) => {
+            report.plain == is_plain && report.quirks == quirks && (report.errors > 0) == errors
+        }
+        Err(_) => false,
+    }
+}
+
+/// Whether a document is written so, and this is told of it.
+fn is_written(
     alloc: Global,
     input: &str,
+    on: &Devices,
+    exact: Exact,
     written: &str,
     told: Told,
-) -> Result<(), AllocError> {
-    let (is_plain, quirks, errors) = told;
-    for on in [WHOLE, BY_BYTE, BY_SEVENS] {
+) -> Result<bool, AllocError> {
+    let seen = normal(alloc, input.as_bytes(), on, exact)?;
+    Ok(seen.written.as_slice() == written.as_bytes() && is_told(&seen.answer, told))
+}
+
+/// Whether a document is written so, in whatever pieces it comes, and with whatever errors are told; and again, if it is plain.
+fn is_row(alloc: Global, input: &str, written: &str, told: Told) -> Result<bool, AllocError> {
+    for on in [&WHOLE, &BY_BYTE, &BY_SEVENS] {
         for &(tokenizer, tree_builder) in SWITCHES {
             let exact = Exact {
                 tokenizer,
                 tree_builder,
             };
-            let seen = normal(alloc, input.as_bytes(), &on, exact)?;
-            assert!(rt; seen.written.as_slice() == written.as_bytes(), "{input}");
-            let Ok(report) = seen.answer else {
-                return Err(AllocError);
-            };
-            assert_eq!(rt; report.plain, is_plain, "{input}");
-            assert_eq!(rt; report.quirks, quirks, "{input}");
-            assert_eq!(rt; report.errors > 0, errors, "{input}");
+            if !is_written(alloc, input, on, exact, written, told)? {
+                return Ok(false);
+            }
         }
     }
-    if is_plain {
-        assert_again(rt, alloc, written)?;
+    if told.0 {
+        is_kept(alloc, written)
+    } else {
+        Ok(true)
     }
-    Ok(())
 }
 
 #[test]
-fn documents(rt: HostRuntime) -> Result<(), Fail> {
+fn documents(rt: HostRuntime) {
     // all of the text, all that is written, and what is told
     let rows: &[(&str, &str, Told)] = &[
         ("", "<html><head></head><body></body></html>", QUIRKS),
@@ -200,13 +233,22 @@ fn documents(rt: HostRuntime) -> Result<(), Fail> {
         ),
     ];
     for &(input, written, told) in rows {
-        assert_row(&rt, rt.alloc(), input, written, told)?;
+        assert!(rt;
+            matches!(is_row(rt.alloc(), input, written, told), Ok(true)),
+            "{input}"
+        );
     }
-    Ok(())
+}
+
+/// The same behind the doctype, and in the body.
+fn is_body(alloc: Global, text: &str, body: &str, told: Told) -> Result<bool, AllocError> {
+    let input = format!(in alloc; "<!DOCTYPE html>{text}")?;
+    let written = format!(in alloc; "{FRONT}{body}{BACK}")?;
+    is_row(alloc, input.as_str(), written.as_str(), told)
 }
 
 #[test]
-fn bodies(rt: HostRuntime) -> Result<(), Fail> {
+fn bodies(rt: HostRuntime) {
     // behind the doctype, what is written in the body, and what is told
     let rows: &[(&str, &str, Told)] = &[
         ("<p>a<br>b", "<p>a<br>b</p>", GOOD),
@@ -244,11 +286,11 @@ fn bodies(rt: HostRuntime) -> Result<(), Fail> {
         ("<p><p><p>", "<p></p><p></p><p></p>", GOOD),
     ];
     for &(text, body, told) in rows {
-        let input = format!(in rt.alloc(); "<!DOCTYPE html>{text}")?;
-        let written = format!(in rt.alloc(); "{FRONT}{body}{BACK}")?;
-        assert_row(&rt, rt.alloc(), input.as_str(), written.as_str(), told)?;
+        assert!(rt;
+            matches!(is_body(rt.alloc(), text, body, told), Ok(true)),
+            "{text}"
+        );
     }
-    Ok(())
 }
 
 pub(crate) fn plain(errors: u64) -> Result<Report, NormalFault> {
@@ -259,194 +301,253 @@ pub(crate) fn plain(errors: u64) -> Result<Report, NormalFault> {
     })
 }
 
+// Bytes behind `<!DOCTYPE html><p>`, and how many bytes are text.
+const NO_TEXT: &[(&[u8], u64)] = &[
+    (b"\xff", 18),
+    (b"\xc3\xff", 18),
+    (b"a\xc3", 19),
+    (b"a\xe2\x82", 19),
+    (b"\xe2\x82\xac\xe2\x82a", 21),
+    (b"\xf0\x9f\x98", 18),
+    (b"\xed\xa0\x80", 18),
+    (b"ab\xf5", 20),
+];
+
+/// Whether bytes are refused where they are no text, and nothing is written.
+fn is_no_text(alloc: Global, bytes: &[u8], at: u64, read: usize) -> Result<bool, AllocError> {
+    let mut input = Vec::from_slice(alloc, b"<!DOCTYPE html><p>")?;
+    input.extend_from_slice(bytes)?;
+    let on = Devices { read, ..WHOLE };
+    let answer = Err(NormalFault::NotUtf8 { at });
+    is_normal(alloc, input.as_slice(), &on, Exact::default(), answer, b"")
+}
+
 #[test]
-fn bytes_that_are_no_text(rt: HostRuntime) -> Result<(), Fail> {
-    // behind `<!DOCTYPE html><p>`, and how many bytes of this are text
-    let front = b"<!DOCTYPE html><p>".as_slice();
-    for (bytes, valid) in [
-        (b"\xff".as_slice(), 0),
-        (b"\xc3\xff".as_slice(), 0),
-        (b"a\xc3".as_slice(), 1),
-        (b"a\xe2\x82".as_slice(), 1),
-        (b"\xe2\x82\xac\xe2\x82a".as_slice(), 3),
-        (b"\xf0\x9f\x98".as_slice(), 0),
-        (b"\xed\xa0\x80".as_slice(), 0),
-        (b"ab\xf5".as_slice(), 2),
-    ] {
-        let mut input = Vec::from_slice(rt.alloc(), front)?;
-        input.extend_from_slice(bytes)?;
+fn bytes_that_are_no_text(rt: HostRuntime) {
+    for &(bytes, at) in NO_TEXT {
         for read in [1, 2, 3, 18, 19, 4096] {
-            let on = Devices { read, ..WHOLE };
-            let seen = normal(rt.alloc(), input.as_slice(), &on, Exact::default())?;
-            assert_eq!(&rt;
-                seen.answer,
-                Err(NormalFault::NotUtf8 { at: 18 + valid }),
+            assert!(rt;
+                matches!(is_no_text(rt.alloc(), bytes, at, read), Ok(true)),
                 "by {read}"
             );
-            assert_eq!(&rt; seen.written.len(), 0);
         }
     }
-    Ok(())
+}
+
+/// Whether a document is plain, without an error, and written so.
+fn is_plain(alloc: Global, input: &[u8], on: &Devices, written: &str) -> Result<bool, AllocError> {
+    is_normal(
+        alloc,
+        input,
+        on,
+        Exact::default(),
+        plain(0),
+        written.as_bytes(),
+    )
 }
 
 #[test]
-fn characters_cut_at_each_place(rt: HostRuntime) -> Result<(), Fail> {
+fn characters_cut_at_each_place(rt: HostRuntime) {
     let input = "<!DOCTYPE html><p>é€😀";
+    let want = "<!DOCTYPE html><html><head></head><body><p>é€😀</p></body></html>";
     for read in 1..30usize {
         let on = Devices { read, ..WHOLE };
-        let seen = normal(rt.alloc(), input.as_bytes(), &on, Exact::default())?;
-        assert_eq!(&rt; seen.answer, plain(0), "by {read}");
-        let want = format!(in rt.alloc(); "{FRONT}<p>é€😀</p>{BACK}")?;
-        assert_eq!(&rt; seen.written.as_slice(), want.as_bytes(), "by {read}");
+        let found = is_plain(rt.alloc(), input.as_bytes(), &on, want);
+        assert!(rt; matches!(found, Ok(true)), "by {read}");
     }
-    Ok(())
+}
+
+/// Whether a read that fails is told, and nothing is written; 18 bytes by fives are four reads and the end.
+fn is_read(alloc: Global, fail_at: u64) -> Result<bool, AllocError> {
+    let on = Devices {
+        read: 5,
+        read_fails: Some(fail_at),
+        ..WHOLE
+    };
+    let seen = normal(alloc, b"<!DOCTYPE html>abc", &on, Exact::default())?;
+    Ok(if fail_at < 6 {
+        seen.answer == Err(NormalFault::Read) && seen.written.is_empty()
+    } else {
+        seen.answer == plain(0) && !seen.written.is_empty()
+    })
 }
 
 #[test]
-fn readers_that_fail(rt: HostRuntime) -> Result<(), Fail> {
-    // 18 bytes by fives: four reads and the end
-    let input = b"<!DOCTYPE html>abc";
+fn readers_that_fail(rt: HostRuntime) {
     for fail_at in 1..7u64 {
-        let on = Devices {
-            read: 5,
-            read_fails: Some(fail_at),
-            ..WHOLE
-        };
-        let seen = normal(rt.alloc(), input.as_slice(), &on, Exact::default())?;
-        let want = if fail_at < 6 {
-            Err(NormalFault::Read)
-        } else {
-            plain(0)
-        };
-        assert_eq!(&rt; seen.answer, want, "at {fail_at}");
-        assert_eq!(&rt; seen.written.is_empty(), fail_at < 6, "at {fail_at}");
+        assert!(rt;
+            matches!(is_read(rt.alloc(), fail_at), Ok(true)),
+            "at {fail_at}"
+        );
     }
-    Ok(())
+}
+
+/// Whether a fault is answered where the second read fails, and nothing is written.
+fn is_fault(alloc: Global, input: &[u8], fault: NormalFault) -> Result<bool, AllocError> {
+    let on = Devices {
+        read_fails: Some(2),
+        ..WHOLE
+    };
+    is_normal(alloc, input, &on, Exact::default(), Err(fault), b"")
 }
 
 #[test]
-fn bytes_at_fault_are_told_before_a_failed_read(rt: HostRuntime) -> Result<(), Fail> {
+fn bytes_at_fault_are_told_before_a_failed_read(rt: HostRuntime) {
     // bytes that begin no text, or end within a character, and then a read that fails
-    let rows: &[(&[u8], Result<Report, NormalFault>)] = &[
-        (b"\xFF", Err(NormalFault::NotUtf8 { at: 0 })),
-        (b"<p>\xFF", Err(NormalFault::NotUtf8 { at: 3 })),
-        (b"\xC3", Err(NormalFault::Read)),
-        (b"<p>", Err(NormalFault::Read)),
+    let rows: &[(&[u8], NormalFault)] = &[
+        (b"\xFF", NormalFault::NotUtf8 { at: 0 }),
+        (b"<p>\xFF", NormalFault::NotUtf8 { at: 3 }),
+        (b"\xC3", NormalFault::Read),
+        (b"<p>", NormalFault::Read),
     ];
-    for &(input, want) in rows {
-        let on = Devices {
-            read_fails: Some(2),
-            ..WHOLE
-        };
-        let seen = normal(rt.alloc(), input, &on, Exact::default())?;
-        assert_eq!(&rt; seen.answer, want);
-        assert!(&rt; seen.written.is_empty());
+    for &(input, fault) in rows {
+        assert!(rt; matches!(is_fault(rt.alloc(), input, fault), Ok(true)));
     }
-    Ok(())
+}
+
+const SHORT: &[u8] = b"<!DOCTYPE html>a";
+
+const SHORT_WHOLE: &str = "<!DOCTYPE html><html><head></head><body>a</body></html>";
+
+/// Whether a beginning is written where a write failed, and else the whole, which takes more than 6 writes and fewer than 50.
+fn is_begun(seen: &Outcome, fail_at: u64) -> bool {
+    let written = seen.written.as_slice();
+    if written.len() < SHORT_WHOLE.len() {
+        seen.answer == Err(NormalFault::Write)
+            && fail_at < 50
+            && SHORT_WHOLE.as_bytes().starts_with(written)
+    } else {
+        seen.answer == plain(0) && fail_at > 6 && written == SHORT_WHOLE.as_bytes()
+    }
+}
+
+fn is_written_up_to(alloc: Global, fail_at: u64, zero: bool) -> Result<bool, AllocError> {
+    let on = Devices {
+        write: 10,
+        write_fails: Some(fail_at),
+        zero,
+        ..WHOLE
+    };
+    let seen = normal(alloc, SHORT, &on, Exact::default())?;
+    Ok(is_begun(&seen, fail_at))
+}
+
+fn fills_its_room(alloc: Global, room: usize) -> Result<bool, AllocError> {
+    let on = Devices { room, ..WHOLE };
+    let seen = normal(alloc, SHORT, &on, Exact::default())?;
+    Ok(seen.answer == Err(NormalFault::Write) && seen.written.len() == room)
 }
 
 #[test]
-fn writers_that_fail(rt: HostRuntime) -> Result<(), Fail> {
+fn writers_that_fail(rt: HostRuntime) {
     // a write or more for each tag and text, none of more than ten bytes
-    let input = b"<!DOCTYPE html>a";
-    let whole = format!(in rt.alloc(); "{FRONT}a{BACK}")?;
     for zero in [false, true] {
         for fail_at in 1..60u64 {
-            let on = Devices {
-                write: 10,
-                write_fails: Some(fail_at),
-                zero,
-                ..WHOLE
-            };
-            let seen = normal(rt.alloc(), input.as_slice(), &on, Exact::default())?;
-            let written = seen.written.as_slice();
-            let fails = written.len() < whole.len();
-            let want = if fails {
-                Err(NormalFault::Write)
-            } else {
-                plain(0)
-            };
-            assert_eq!(&rt; seen.answer, want, "at {fail_at}");
-            assert!(&rt; whole.as_bytes().starts_with(written), "at {fail_at}");
-            assert!(&rt; fails || fail_at > 6, "at {fail_at}");
-            assert!(&rt; !fails || fail_at < 50, "at {fail_at}");
+            let found = is_written_up_to(rt.alloc(), fail_at, zero);
+            assert!(rt; matches!(found, Ok(true)), "at {fail_at}");
         }
     }
-    let on = Devices { room: 20, ..WHOLE };
-    let seen = normal(rt.alloc(), input.as_slice(), &on, Exact::default())?;
-    assert_eq!(&rt; seen.answer, Err(NormalFault::Write));
-    assert_eq!(&rt; seen.written.len(), 20);
-    Ok(())
+    assert!(rt; matches!(fills_its_room(rt.alloc(), 20), Ok(true)));
+}
+
+const ITEMS: &str = "<!DOCTYPE html><html><head></head><body>a<p>b</p><p></p>c</body></html>";
+
+/// Whether all is written, or memory was refused and a beginning is.
+fn is_whole_or_refused(seen: &Outcome) -> bool {
+    let written = seen.written.as_slice();
+    if written.len() < ITEMS.len() {
+        seen.answer == Err(NormalFault::Memory) && ITEMS.as_bytes().starts_with(written)
+    } else {
+        seen.answer == plain(1) && written == ITEMS.as_bytes()
+    }
+}
+
+fn is_normal_or_refused(alloc: Global) -> Result<bool, AllocError> {
+    let input = b"<!DOCTYPE html> a<p>b</p></p>c";
+    let seen = normal(alloc, input, &BY_BYTE, Exact::default())?;
+    Ok(is_whole_or_refused(&seen))
 }
 
 // With ample memory this is a document like any other; where one allocation is refused, a beginning was written, or nothing.
 #[test]
-fn memory_that_is_refused(rt: HostRuntime) -> Result<(), Fail> {
-    let input = b"<!DOCTYPE html> a<p>b</p></p>c";
-    let Ok(seen) = normal(rt.alloc(), input.as_slice(), &BY_BYTE, Exact::default()) else {
-        return Ok(());
-    };
-    let refused = seen.answer == Err(NormalFault::Memory);
-    assert!(&rt; refused || seen.answer == plain(1));
-    let whole = format!(in rt.alloc(); "{FRONT}a<p>b</p><p></p>c{BACK}")?;
-    assert!(&rt; whole.as_bytes().starts_with(seen.written.as_slice()));
-    assert_eq!(&rt; seen.written.len() < whole.len(), refused);
-    Ok(())
+fn memory_that_is_refused(rt: HostRuntime) {
+    assert!(rt; !matches!(is_normal_or_refused(rt.alloc()), Ok(false)));
 }
 
+/// Whether the program says this line of a fault, and ends with this status.
+fn is_line(alloc: Global, fault: ProgramFault, line: &str, status: u8) -> Result<bool, AllocError> {
+    let told = fault.to_string(alloc)?;
+    Ok(told.as_str() == line && fault.status() == status)
+}
+
+const LINES: &[(ProgramFault, &str, u8)] = &[
+    (ProgramFault::Usage, "fault: usage: html_normal [TABLE]", 2),
+    (
+        ProgramFault::Normal(NormalFault::NotUtf8 { at: 18 }),
+        "fault: not UTF-8 at byte 18",
+        1,
+    ),
+    (ProgramFault::Normal(NormalFault::Read), "fault: read", 3),
+    (ProgramFault::Normal(NormalFault::Write), "fault: write", 3),
+    (
+        ProgramFault::Normal(NormalFault::Memory),
+        "fault: memory",
+        4,
+    ),
+    (
+        ProgramFault::Normal(NormalFault::Refused),
+        "fault: refused",
+        5,
+    ),
+];
+
+/// Whether the program says this line of a document.
+fn is_report(alloc: Global, report: Report, line: &str) -> Result<bool, AllocError> {
+    let told = report.to_string(alloc)?;
+    Ok(told.as_str() == line)
+}
+
+const REPORTS: &[(Report, &str)] = &[
+    (
+        Report {
+            plain: true,
+            quirks: QuirksMode::NoQuirks,
+            errors: 0,
+        },
+        "plain=yes quirks=no errors=0",
+    ),
+    (
+        Report {
+            plain: false,
+            quirks: QuirksMode::LimitedQuirks,
+            errors: 1,
+        },
+        "plain=no quirks=limited errors=1",
+    ),
+    (
+        Report {
+            plain: false,
+            quirks: QuirksMode::Quirks,
+            errors: u64::MAX,
+        },
+        "plain=no quirks=yes errors=18446744073709551615",
+    ),
+];
+
 #[test]
-fn lines_and_statuses(rt: HostRuntime) -> Result<(), Fail> {
-    for (fault, line, status) in [
-        (ProgramFault::Usage, "fault: usage: html_normal [TABLE]", 2),
-        (
-            ProgramFault::Normal(NormalFault::NotUtf8 { at: 18 }),
-            "fault: not UTF-8 at byte 18",
-            1,
-        ),
-        (ProgramFault::Normal(NormalFault::Read), "fault: read", 3),
-        (ProgramFault::Normal(NormalFault::Write), "fault: write", 3),
-        (
-            ProgramFault::Normal(NormalFault::Memory),
-            "fault: memory",
-            4,
-        ),
-        (
-            ProgramFault::Normal(NormalFault::Refused),
-            "fault: refused",
-            5,
-        ),
-    ] {
-        assert_eq!(&rt; fault.to_string(rt.alloc())?.as_str(), line);
-        assert_eq!(&rt; fault.status(), status, "{line}");
+fn lines_and_statuses(rt: HostRuntime) {
+    for &(fault, line, status) in LINES {
+        assert!(rt;
+            matches!(is_line(rt.alloc(), fault, line, status), Ok(true)),
+            "{line}"
+        );
     }
-    for (plain, quirks, errors, line) in [
-        (
-            true,
-            QuirksMode::NoQuirks,
-            0,
-            "plain=yes quirks=no errors=0",
-        ),
-        (
-            false,
-            QuirksMode::LimitedQuirks,
-            1,
-            "plain=no quirks=limited errors=1",
-        ),
-        (
-            false,
-            QuirksMode::Quirks,
-            u64::MAX,
-            "plain=no quirks=yes errors=18446744073709551615",
-        ),
-    ] {
-        let report = Report {
-            plain,
-            quirks,
-            errors,
-        };
-        assert_eq!(&rt; report.to_string(rt.alloc())?.as_str(), line);
+    for &(report, line) in REPORTS {
+        assert!(rt;
+            matches!(is_report(rt.alloc(), report, line), Ok(true)),
+            "{line}"
+        );
     }
-    Ok(())
 }
 
 /// The table of a file.
@@ -455,12 +556,26 @@ fn table(
     file: &[u8],
     on: &Devices,
 ) -> Result<Result<References, TableFileFault>, AllocError> {
-    let mut reader = MemReader::new(Vec::from_slice(alloc, file)?, on.read.max(1), on.read_fails);
+    let mut reader = reader_of(alloc, file, on)?;
     Ok(read_table(alloc, &mut reader))
 }
 
+/// Whether a file has no table, and the program says this of it.
+fn is_no_table(
+    alloc: Global,
+    file: &[u8],
+    on: &Devices,
+    line: &str,
+    status: u8,
+) -> Result<bool, AllocError> {
+    match table(alloc, file, on)? {
+        Ok(_) => Ok(false),
+        Err(fault) => is_line(alloc, ProgramFault::from(fault), line, status),
+    }
+}
+
 #[test]
-fn tables_that_are_none(rt: HostRuntime) -> Result<(), Fail> {
+fn tables_that_are_none(rt: HostRuntime) {
     // a file, and the program's line and status
     let rows: &[(&[u8], &str, u8)] = &[
         (b"x 41\nx 42", "fault: table: duplicate 2", 2),
@@ -483,22 +598,55 @@ fn tables_that_are_none(rt: HostRuntime) -> Result<(), Fail> {
         (b"x 41\n\xC3", "fault: table: not UTF-8 at byte 5", 2),
     ];
     for &(file, line, status) in rows {
-        for on in [WHOLE, BY_BYTE, BY_SEVENS] {
-            match table(rt.alloc(), file, &on)? {
-                Ok(_) => assert!(&rt; false, "{line}"),
-                Err(fault) => {
-                    let fault = ProgramFault::from(fault);
-                    assert_eq!(&rt; fault.to_string(rt.alloc())?.as_str(), line);
-                    assert_eq!(&rt; fault.status(), status, "{line}");
-                }
-            }
+        for on in [&WHOLE, &BY_BYTE, &BY_SEVENS] {
+            let found = is_no_table(rt.alloc(), file, on, line, status);
+            assert!(rt; matches!(found, Ok(true)), "{line}");
         }
     }
-    Ok(())
+}
+
+/// Whether a document is plain and written so by a table.
+fn is_read_by(
+    alloc: Global,
+    references: References,
+    reader: &mut MemReader,
+    writer: &mut MemWriter,
+    written: &str,
+) -> bool {
+    let answer = normalise(alloc, reader, writer, references, Exact::default());
+    writer.written() == written.as_bytes() && matches!(answer, Ok(report) if report.plain)
+}
+
+fn is_read_by_file(
+    alloc: Global,
+    file: &[u8],
+    on: &Devices,
+    reader: &mut MemReader,
+    written: &str,
+) -> Result<bool, AllocError> {
+    let mut writer = writer_of(alloc, on)?;
+    match table(alloc, file, on)? {
+        Ok(references) => Ok(is_read_by(alloc, references, reader, &mut writer, written)),
+        Err(_) => Err(AllocError),
+    }
+}
+
+/// Whether this is written in the body of a document with this text, by the table of a file.
+fn is_body_by_file(
+    alloc: Global,
+    file: &[u8],
+    on: &Devices,
+    text: &str,
+    body: &str,
+) -> Result<bool, AllocError> {
+    let input = format!(in alloc; "<!DOCTYPE html>{text}")?;
+    let written = format!(in alloc; "{FRONT}{body}{BACK}")?;
+    let mut reader = reader_of(alloc, input.as_bytes(), on)?;
+    is_read_by_file(alloc, file, on, &mut reader, written.as_str())
 }
 
 #[test]
-fn tables_of_files(rt: HostRuntime) -> Result<(), Fail> {
+fn tables_of_files(rt: HostRuntime) {
     // a file, what stands behind the doctype, and what is written in the body
     let rows: &[(&[u8], &str, &str)] = &[
         (b"x 41 42", "&xy", "ABy"),
@@ -508,50 +656,32 @@ fn tables_of_files(rt: HostRuntime) -> Result<(), Fail> {
         (b"", "&amp;", "&amp;amp;"),
     ];
     for &(file, text, body) in rows {
-        for on in [WHOLE, BY_BYTE, BY_SEVENS] {
-            let Ok(references) = table(rt.alloc(), file, &on)? else {
-                return Err(AllocError.into());
-            };
-            let input = format!(in rt.alloc(); "<!DOCTYPE html>{text}")?;
-            let mut reader = MemReader::new(
-                Vec::from_slice(rt.alloc(), input.as_bytes())?,
-                on.read.max(1),
-                None,
-            );
-            let mut writer = MemWriter::new(rt.alloc(), 1000, on.write.max(1), None, false)?;
-            let answer = normalise(
-                rt.alloc(),
-                &mut reader,
-                &mut writer,
-                references,
-                Exact::default(),
-            );
-            let written = format!(in rt.alloc(); "{FRONT}{body}{BACK}")?;
-            assert!(&rt; writer.written() == written.as_bytes(), "{text}");
-            assert!(&rt; matches!(answer, Ok(report) if report.plain), "{text}");
+        for on in [&WHOLE, &BY_BYTE, &BY_SEVENS] {
+            let found = is_body_by_file(rt.alloc(), file, on, text, body);
+            assert!(rt; matches!(found, Ok(true)), "{text}");
         }
     }
-    Ok(())
 }
 
-#[test]
-fn tables_that_cannot_be_read(rt: HostRuntime) -> Result<(), Fail> {
+/// Whether a table that cannot be read is told so.
+fn is_unreadable(alloc: Global) -> Result<bool, AllocError> {
     let on = Devices {
         read_fails: Some(1),
         ..WHOLE
     };
-    match table(rt.alloc(), b"x 41", &on)? {
-        Ok(_) => assert!(&rt; false),
-        Err(fault) => {
-            assert_eq!(&rt; fault, TableFileFault::Read);
-            assert_eq!(&rt; ProgramFault::from(fault).status(), 3);
-        }
+    match table(alloc, b"x 41", &on)? {
+        Ok(_) => Ok(false),
+        Err(fault) => Ok(fault == TableFileFault::Read && ProgramFault::from(fault).status() == 3),
     }
-    Ok(())
 }
 
 #[test]
-fn lines_of_tables(rt: HostRuntime) -> Result<(), Fail> {
+fn tables_that_cannot_be_read(rt: HostRuntime) {
+    assert!(rt; matches!(is_unreadable(rt.alloc()), Ok(true)));
+}
+
+#[test]
+fn lines_of_tables(rt: HostRuntime) {
     let rows: &[(TableFileFault, &str, u8)] = &[
         (TableFileFault::Read, "fault: read", 3),
         (TableFileFault::Memory, "fault: memory", 4),
@@ -562,9 +692,7 @@ fn lines_of_tables(rt: HostRuntime) -> Result<(), Fail> {
         ),
     ];
     for &(fault, line, status) in rows {
-        let fault = ProgramFault::from(fault);
-        assert_eq!(&rt; fault.to_string(rt.alloc())?.as_str(), line);
-        assert_eq!(&rt; fault.status(), status, "{line}");
+        let found = is_line(rt.alloc(), ProgramFault::from(fault), line, status);
+        assert!(rt; matches!(found, Ok(true)), "{line}");
     }
-    Ok(())
 }

@@ -4,8 +4,6 @@ use html_names::doctype_error_and_quirks;
 use html_tokens::Doctype;
 use markup::{QuirksMode, Text};
 use std::alloc::{AllocError, Global};
-use std::process::Abort;
-use std::test::Fail;
 
 const PUBLIC_PREFIXES: &[&str] = &[
     "-//AdvaSoft Ltd//DTD HTML 3.0 asWedit + extensions//",
@@ -85,29 +83,53 @@ fn doctype(
     })
 }
 
-// Sees that a doctype sets quirks mode, but not in the document of a frame.
-fn assert_quirky(rt: &impl Abort, doctype: &Doctype) {
-    let (is_error, quirks) = doctype_error_and_quirks(doctype, false);
-    assert!(rt; is_error && quirks == QuirksMode::Quirks);
-    let (is_error, quirks) = doctype_error_and_quirks(doctype, true);
-    assert!(rt; is_error && quirks == QuirksMode::NoQuirks);
+// Whether a doctype sets quirks mode, but not in the document of a frame.
+fn is_quirky(doctype: &Doctype) -> bool {
+    doctype_error_and_quirks(doctype, false) == (true, QuirksMode::Quirks)
+        && doctype_error_and_quirks(doctype, true) == (true, QuirksMode::NoQuirks)
+}
+
+fn sets_quirks(
+    alloc: Global,
+    public_id: &str,
+    system_id: Option<&str>,
+) -> Result<bool, AllocError> {
+    let doctype = doctype(alloc, "html", Some(public_id), system_id)?;
+    Ok(is_quirky(&doctype))
+}
+
+// The same where the identifier goes on behind a prefix.
+fn prefix_sets_quirks(alloc: Global, prefix: &str) -> Result<bool, AllocError> {
+    let whole = format!(in alloc; "{prefix}EN")?;
+    sets_quirks(alloc, whole.as_str(), None)
 }
 
 #[test]
-fn old_public_identifiers_set_quirks_mode(rt: HostRuntime) -> Result<(), Fail> {
+fn old_public_identifiers_set_quirks_mode(rt: HostRuntime) {
     for &prefix in PUBLIC_PREFIXES {
-        let whole = format!(in rt.alloc(); "{prefix}EN")?;
-        assert_quirky(
-            &rt,
-            &doctype(rt.alloc(), "html", Some(whole.as_str()), None)?,
+        assert!(rt;
+            matches!(prefix_sets_quirks(rt.alloc(), prefix), Ok(true)),
+            "{prefix}"
         );
-        assert_quirky(&rt, &doctype(rt.alloc(), "html", Some(prefix), Some("x"))?);
+        assert!(rt;
+            matches!(sets_quirks(rt.alloc(), prefix, Some("x")), Ok(true)),
+            "{prefix}"
+        );
     }
-    Ok(())
+}
+
+// Whether a doctype is an error, and the mode that it sets, with these identifiers.
+fn told(
+    alloc: Global,
+    public_id: Option<&str>,
+    system_id: Option<&str>,
+) -> Result<(bool, QuirksMode), AllocError> {
+    let doctype = doctype(alloc, "html", public_id, system_id)?;
+    Ok(doctype_error_and_quirks(&doctype, false))
 }
 
 #[test]
-fn identifiers_are_told_apart(rt: HostRuntime) -> Result<(), Fail> {
+fn identifiers_are_told_apart(rt: HostRuntime) {
     let rows: &[(Option<&str>, Option<&str>, bool, QuirksMode)] = &[
         (None, None, false, QuirksMode::NoQuirks),
         (
@@ -241,29 +263,32 @@ fn identifiers_are_told_apart(rt: HostRuntime) -> Result<(), Fail> {
         (Some(""), None, true, QuirksMode::NoQuirks),
     ];
     for (public_id, system_id, error, mode) in rows {
-        let told = doctype(rt.alloc(), "html", *public_id, *system_id)?;
-        assert_eq!(rt; doctype_error_and_quirks(&told, false), (*error, *mode));
+        let found = told(rt.alloc(), *public_id, *system_id);
+        assert!(rt; matches!(found, Ok(found) if found == (*error, *mode)));
     }
-    Ok(())
+}
+
+// The same of another name, and of a doctype that forces quirks mode, in the document of a frame.
+fn told_in_frame(
+    alloc: Global,
+    name: &str,
+    force_quirks: bool,
+) -> Result<(bool, QuirksMode), AllocError> {
+    let mut doctype = doctype(alloc, name, None, None)?;
+    doctype.force_quirks = force_quirks;
+    Ok(doctype_error_and_quirks(&doctype, true))
+}
+
+fn told_without_name() -> (bool, QuirksMode) {
+    let nameless = Doctype::default();
+    doctype_error_and_quirks(&nameless, false)
 }
 
 #[test]
-fn other_names_and_forced_quirks_set_quirks_mode(rt: HostRuntime) -> Result<(), Fail> {
-    let named = doctype(rt.alloc(), "htm", None, None)?;
-    assert_eq!(rt;
-        doctype_error_and_quirks(&named, true),
-        (true, QuirksMode::Quirks)
-    );
-    let nameless = Doctype::default();
-    assert_eq!(rt;
-        doctype_error_and_quirks(&nameless, false),
-        (true, QuirksMode::Quirks)
-    );
-    let mut forced = doctype(rt.alloc(), "html", None, None)?;
-    forced.force_quirks = true;
-    assert_eq!(rt;
-        doctype_error_and_quirks(&forced, true),
-        (false, QuirksMode::Quirks)
-    );
-    Ok(())
+fn other_names_and_forced_quirks_set_quirks_mode(rt: HostRuntime) {
+    let other = told_in_frame(rt.alloc(), "htm", false);
+    assert!(rt; matches!(other, Ok((true, QuirksMode::Quirks))));
+    let forced = told_in_frame(rt.alloc(), "html", true);
+    assert!(rt; matches!(forced, Ok((false, QuirksMode::Quirks))));
+    assert!(rt; told_without_name() == (true, QuirksMode::Quirks));
 }

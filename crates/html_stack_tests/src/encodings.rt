@@ -1,10 +1,9 @@
 //! Encodings that the content of a `meta` element names.
 
 use html_names::extract_a_character_encoding_from_a_meta_element;
-use std::test::Fail;
 
 #[test]
-fn contents_name_encodings(rt: HostRuntime) -> Result<(), Fail> {
+fn contents_name_encodings(rt: HostRuntime) {
     let rows: &[(&str, Option<&str>)] = &[
         ("cHarSet=utf8", Some("utf8")),
         ("charset \t = \t utf8", Some("utf8")),
@@ -34,10 +33,9 @@ fn contents_name_encodings(rt: HostRuntime) -> Result<(), Fail> {
         ("", None),
     ];
     for (content, want) in rows {
-        assert_eq!(rt;
-            extract_a_character_encoding_from_a_meta_element(content),
-            *want
+        assert!(rt;
+            extract_a_character_encoding_from_a_meta_element(content) == *want,
+            "{content}"
         );
     }
-    Ok(())
 }

@@ -1,19 +1,15 @@
 //! Foreign content: which rules take a token, end tags, and templates that may become shadow roots.
-ghost use Rattle.std.specs.Prelude.{IfOk, IfSome};
+ghost use Rattle.std.specs.Prelude.{IfSome};
 ghost use Rattle.markup.specs.Forest.{IsNode};
 ghost use Rattle.html_rules_laws.specs.Soundness.{IsStanding};
 ghost use Rattle.html_stack.specs.Inserting.{context_of};
 
-use crate::inserting::{attribute, insert, insert_template, started, tag};
-use html_forest::{Forest, ForestNode, NodeId};
-use html_serialize::{SerializeOpts, serialize};
-use html_stack::{ElementClass, ElementName, OpenElement, Stack, TokenShape};
-use html_tokens::Tag;
-use markup::devices::MemWriter;
+use crate::inserting::{attribute, insert, insert_template, is_written, started, tag};
+use crate::stack::{self, name_of};
+use html_forest::{Forest, NodeId};
+use html_stack::{ElementClass, OpenElement, Stack, TokenShape};
 use markup::{Attributes, KnownNamespace, LocalName, Namespace, ParseFault, Text, TreeSink};
 use std::alloc::Global;
-use std::process::Abort;
-use std::test::Fail;
 
 // An element that is opened.
 #[derive(Clone, Copy)]
@@ -27,16 +23,39 @@ enum Opened<'a> {
 
 // An element of foreign content.
 fn enter(
+    alloc: Global,
     forest: &mut Forest,
     stack: &mut Stack<Forest>,
     namespace: KnownNamespace,
-    tag: Tag,
+    name: &str,
+    attributes: Attributes,
 ) -> Result<(), ParseFault>
     requires { IsStanding forest.old stack.old.open_elems stack.old.active_formatting }
     ensures { IsStanding forest.new stack.new.open_elems stack.new.active_formatting }
 {
-    let namespace = Namespace::from_known(namespace);
-    stack.enter_foreign(forest, namespace, tag, false, None)
+    let tag = tag(alloc, name, attributes)?;
+    stack.enter_foreign(forest, Namespace::from_known(namespace), tag, false, None)
+}
+
+// An element of MathML, in which HTML is encoded.
+fn encoded(
+    alloc: Global,
+    forest: &mut Forest,
+    stack: &mut Stack<Forest>,
+    name: &str,
+) -> Result<(), ParseFault>
+    requires { IsStanding forest.old stack.old.open_elems stack.old.active_formatting }
+    ensures { IsStanding forest.new stack.new.open_elems stack.new.active_formatting }
+{
+    let attributes = attribute(alloc, "encoding", "Text/HTML")?;
+    enter(
+        alloc,
+        forest,
+        stack,
+        KnownNamespace::MathMl,
+        name,
+        attributes,
+    )
 }
 
 fn open(
@@ -51,29 +70,43 @@ fn open(
     match element {
         Opened::Html(name) => insert(alloc, forest, stack, name, false),
         Opened::Svg(name) => {
-            let tag = tag(alloc, name, Attributes::new(alloc))?;
-            enter(forest, stack, KnownNamespace::Svg, tag)
+            enter(
+                alloc,
+                forest,
+                stack,
+                KnownNamespace::Svg,
+                name,
+                Attributes::new(alloc),
+            )
         }
         Opened::MathMl(name) => {
-            let tag = tag(alloc, name, Attributes::new(alloc))?;
-            enter(forest, stack, KnownNamespace::MathMl, tag)
+            enter(
+                alloc,
+                forest,
+                stack,
+                KnownNamespace::MathMl,
+                name,
+                Attributes::new(alloc),
+            )
         }
-        Opened::Encoded(name) => {
-            let tag = tag(alloc, name, attribute(alloc, "encoding", "Text/HTML")?)?;
-            enter(forest, stack, KnownNamespace::MathMl, tag)
-        }
+        Opened::Encoded(name) => encoded(alloc, forest, stack, name),
     }
 }
 
-// These elements in the root.
-fn built(alloc: Global, elements: &[Opened<'_>]) -> Result<(Forest, Stack<Forest>), ParseFault>
-    ensures { IfOk result (λ made. IsStanding made.0 made.1.open_elems made.1.active_formatting) }
+// These elements.
+fn open_each(
+    alloc: Global,
+    forest: &mut Forest,
+    stack: &mut Stack<Forest>,
+    elements: &[Opened<'_>],
+) -> Result<(), ParseFault>
+    requires { IsStanding forest.old stack.old.open_elems stack.old.active_formatting }
+    ensures { IsStanding forest.new stack.new.open_elems stack.new.active_formatting }
 {
-    let (mut forest, mut stack) = started(alloc)?;
     for element in elements {
-        open(alloc, &mut forest, &mut stack, *element)?;
+        open(alloc, forest, stack, *element)?;
     }
-    Ok((forest, stack))
+    Ok(())
 }
 
 // A token: text, the start tag of a name, an end tag, or the end of the input.
@@ -137,11 +170,9 @@ fn is_foreign_in_context(
 ) -> Result<bool, ParseFault>
     requires { IsStanding forest.old stack.now.open_elems stack.now.active_formatting }
 {
-    let namespace = Namespace::from_known(namespace);
-    let local = LocalName::from_str(alloc, name)?;
     let context = OpenElement {
         handle: forest.get_document(),
-        name: ElementName::new(alloc, &namespace, &local)?,
+        name: name_of(alloc, namespace, name)?,
     };
     is_foreign(alloc, forest, stack, Some(&context), given)
 }
@@ -154,12 +185,41 @@ fn is_foreign_in(
     name: &str,
     given: Given,
 ) -> Result<bool, ParseFault> {
-    let (mut forest, stack) = built(alloc, elements)?;
+    let (mut forest, mut stack) = started(alloc)?;
+    open_each(alloc, &mut forest, &mut stack, elements)?;
     is_foreign_in_context(alloc, &mut forest, &stack, namespace, name, given)
 }
 
+// Whether the rules of foreign content hold for each token as is said beside it.
+fn are_told(
+    alloc: Global,
+    forest: &Forest,
+    stack: &Stack<Forest>,
+    tokens: &[(Given, bool)],
+) -> Result<bool, ParseFault>
+    requires { IsStanding forest.now stack.now.open_elems stack.now.active_formatting }
+{
+    for (given, want) in tokens {
+        if is_foreign(alloc, forest, stack, None, *given)? != *want {
+            return Ok(false);
+        }
+    }
+    Ok(true)
+}
+
+// The same, with these elements in the root.
+fn are_told_in(
+    alloc: Global,
+    elements: &[Opened<'_>],
+    tokens: &[(Given, bool)],
+) -> Result<bool, ParseFault> {
+    let (mut forest, mut stack) = started(alloc)?;
+    open_each(alloc, &mut forest, &mut stack, elements)?;
+    are_told(alloc, &forest, &stack, tokens)
+}
+
 #[test]
-fn foreign_content_takes_its_tokens(rt: HostRuntime) -> Result<(), Fail> {
+fn foreign_content_takes_its_tokens(rt: HostRuntime) {
     let rows: &[(&[Opened<'_>], &[(Given, bool)])] = &[
         (&[], &[(Given::Text, false), (Given::P, false)]),
         (
@@ -219,19 +279,12 @@ fn foreign_content_takes_its_tokens(rt: HostRuntime) -> Result<(), Fail> {
         ),
     ];
     for (elements, tokens) in rows {
-        let (forest, stack) = built(rt.alloc(), elements)?;
-        for (given, want) in *tokens {
-            assert_eq!(rt;
-                is_foreign(rt.alloc(), &forest, &stack, None, *given)?,
-                *want
-            );
-        }
+        assert!(rt; are_told_in(rt.alloc(), elements, tokens) == Ok(true));
     }
-    Ok(())
 }
 
 #[test]
-fn fragments_begin_in_their_context(rt: HostRuntime) -> Result<(), Fail> {
+fn fragments_begin_in_their_context(rt: HostRuntime) {
     const HTML: KnownNamespace = KnownNamespace::Html;
     const SVG: KnownNamespace = KnownNamespace::Svg;
     const MATH: KnownNamespace = KnownNamespace::MathMl;
@@ -252,64 +305,51 @@ fn fragments_begin_in_their_context(rt: HostRuntime) -> Result<(), Fail> {
         (&[Opened::Svg("svg")], HTML, "div", Given::P, true),
     ];
     for (elements, namespace, name, given, want) in rows {
-        assert_eq!(rt;
-            is_foreign_in(rt.alloc(), elements, *namespace, name, *given)?,
-            *want
-        );
+        let told = is_foreign_in(rt.alloc(), elements, *namespace, name, *given);
+        assert!(rt; told == Ok(*want));
+    }
+}
+
+// Opens elements of these namespaces and names.
+fn open_foreign(
+    alloc: Global,
+    forest: &mut Forest,
+    stack: &mut Stack<Forest>,
+    elements: &[(KnownNamespace, &str)],
+) -> Result<(), ParseFault> {
+    for (namespace, name) in elements {
+        stack::open(alloc, forest, stack, *namespace, name)?;
     }
     Ok(())
 }
 
-// Elements of these namespaces and names are open, the root first.
-fn listed(
-    alloc: Global,
-    forest: &mut Forest,
-    elements: &[(KnownNamespace, &str)],
-) -> Result<Stack<Forest>, ParseFault> {
-    let mut stack = Stack::new(alloc);
-    for (namespace, name) in elements {
-        let namespace = Namespace::from_known(*namespace);
-        let local = LocalName::from_str(alloc, name)?;
-        stack.push(OpenElement {
-            handle: forest.create_comment(Text::from_str(alloc, name)?)?,
-            name: ElementName::new(alloc, &namespace, &local)?,
-        })?;
-    }
-    Ok(stack)
-}
-
-// Sees what the end tag of a name is in a stack, and that so many elements stay.
-fn assert_closes(
-    rt: &impl Abort,
+// Whether the rules of the mode take the end tag of a name, whether it is an error, and how many elements stay.
+fn close(
     alloc: Global,
     stack: &mut Stack<Forest>,
     name: &str,
-    want: (bool, bool, usize),
-) -> Result<(), ParseFault> {
-    let (as_in_mode, is_error, left) = want;
+) -> Result<(bool, bool, usize), ParseFault> {
     let name = LocalName::from_str(alloc, name)?;
-    assert_eq!(rt; stack.ends_in_html(&name), as_in_mode);
-    assert_eq!(rt; stack.is_foreign_end_error(&name), is_error);
+    let as_in_mode = stack.ends_in_html(&name);
+    let is_error = stack.is_foreign_end_error(&name);
     stack.close_foreign(&name);
-    assert_eq!(rt; stack.open_elems().len(), left);
-    Ok(())
+    Ok((as_in_mode, is_error, stack.open_elems().len()))
 }
 
 // The same where these elements are open.
-fn assert_closes_in(
-    rt: &impl Abort,
+fn close_in(
     alloc: Global,
     elements: &[(KnownNamespace, &str)],
     name: &str,
-    want: (bool, bool, usize),
-) -> Result<(), ParseFault> {
+) -> Result<(bool, bool, usize), ParseFault> {
     let mut forest = Forest::new(alloc)?;
-    let mut stack = listed(alloc, &mut forest, elements)?;
-    assert_closes(rt, alloc, &mut stack, name, want)
+    let mut stack = Stack::new(alloc);
+    open_foreign(alloc, &mut forest, &mut stack, elements)?;
+    close(alloc, &mut stack, name)
 }
 
 #[test]
-fn end_tags_close_foreign_elements(rt: HostRuntime) -> Result<(), Fail> {
+fn end_tags_close_foreign_elements(rt: HostRuntime) {
     const HTML: KnownNamespace = KnownNamespace::Html;
     const SVG: KnownNamespace = KnownNamespace::Svg;
     // What is open, the end tag; whether the rules of the mode take it, whether it is an error, how many elements stay.
@@ -369,55 +409,41 @@ fn end_tags_close_foreign_elements(rt: HostRuntime) -> Result<(), Fail> {
         (&[], "svg", false, false, 0),
     ];
     for &(elements, name, as_in_mode, is_error, left) in rows {
-        assert_closes_in(
-            &rt,
-            rt.alloc(),
-            elements,
-            name,
-            (as_in_mode, is_error, left),
-        )?;
+        let want = Ok((as_in_mode, is_error, left));
+        assert!(rt; close_in(rt.alloc(), elements, name) == want);
     }
-    Ok(())
 }
 
-// Inserts a template with this mode of a shadow root and a text; sees how many elements are open, and what is written then.
-fn insert_and_write(
-    rt: &impl Abort,
+// Inserts a template with this mode of a shadow root and a text, and says how many elements are open between.
+fn insert_with_text(
     alloc: Global,
     forest: &mut Forest,
     stack: &mut Stack<Forest>,
     mode: &str,
-    want: (usize, &str),
-) -> Result<(), ParseFault>
+) -> Result<usize, ParseFault>
     requires { IsStanding forest.old stack.old.open_elems stack.old.active_formatting }
 {
-    let (open, written) = want;
     insert_template(alloc, forest, stack, mode)?;
-    assert_eq!(rt; stack.open_elems().len(), open);
+    let open = stack.open_elems().len();
     stack.append_text(forest, Text::from_str(alloc, "a")?, false)?;
-    let id = forest.get_document();
-    let mut writer = MemWriter::new(alloc, 1_000, usize::MAX, None, false)?;
-    let node = ForestNode { forest, id };
-    assert!(rt; serialize(alloc, &mut writer, &node, SerializeOpts::default()).is_ok());
-    assert_eq!(rt; writer.written(), written.as_bytes());
-    Ok(())
+    Ok(open)
 }
 
-// The same in these elements.
-fn assert_inserted(
-    rt: &impl Abort,
+// Whether the template is opened in these elements, and this is written then.
+fn is_inserted(
     alloc: Global,
     elements: &[Opened<'_>],
     mode: &str,
     want: &str,
-) -> Result<(), ParseFault> {
-    let (mut forest, mut stack) = built(alloc, elements)?;
-    let want = (elements.len().saturating_add(2), want);
-    insert_and_write(rt, alloc, &mut forest, &mut stack, mode, want)
+) -> Result<bool, ParseFault> {
+    let (mut forest, mut stack) = started(alloc)?;
+    open_each(alloc, &mut forest, &mut stack, elements)?;
+    let open = insert_with_text(alloc, &mut forest, &mut stack, mode)?;
+    Ok(open == elements.len().saturating_add(2) && is_written(alloc, &mut forest, want)?)
 }
 
 #[test]
-fn templates_are_inserted(rt: HostRuntime) -> Result<(), Fail> {
+fn templates_are_inserted(rt: HostRuntime) {
     let rows: &[(&[Opened<'_>], &str, &str)] = &[
         (
             &[],
@@ -441,7 +467,6 @@ fn templates_are_inserted(rt: HostRuntime) -> Result<(), Fail> {
         ),
     ];
     for &(elements, mode, want) in rows {
-        assert_inserted(&rt, rt.alloc(), elements, mode, want)?;
+        assert!(rt; is_inserted(rt.alloc(), elements, mode, want) == Ok(true));
     }
-    Ok(())
 }

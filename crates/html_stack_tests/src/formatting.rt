@@ -1,23 +1,11 @@
 //! Formatting elements over a forest: listed, opened again, taken out of the stack.
-ghost use Rattle.std.specs.Prelude.{IfOk};
 ghost use Rattle.html_rules_laws.specs.Soundness.{IsStanding};
 
+use crate::inserting::{started, tag};
 use html_forest::Forest;
 use html_stack::{ElementClass, FormatEntry, Stack, TagSet};
-use html_tokens::{Tag, TagKind};
-use markup::{Attributes, LocalName, ParseFault, TreeSink};
+use markup::{Attributes, ParseFault, TreeSink};
 use std::alloc::Global;
-use std::test::Fail;
-
-// The root is open.
-fn started(alloc: Global) -> Result<(Forest, Stack<Forest>), ParseFault>
-    ensures { IfOk result (λ made. IsStanding made.0 made.1.open_elems made.1.active_formatting) }
-{
-    let mut forest = Forest::new(alloc)?;
-    let mut stack = Stack::new(alloc);
-    stack.create_root(&mut forest, Attributes::new(alloc))?;
-    Ok((forest, stack))
-}
 
 // A formatting element of this name is inserted and listed; `|` is a marker.
 fn list(
@@ -32,27 +20,26 @@ fn list(
     if name == "|" {
         return stack.push_marker();
     }
-    let tag = Tag {
-        kind: TagKind::StartTag,
-        name: LocalName::from_str(alloc, name)?,
-        self_closing: false,
-        attrs: Attributes::new(alloc),
-        had_duplicate_attributes: false,
-    };
+    let tag = tag(alloc, name, Attributes::new(alloc))?;
     let class = ElementClass::html(&tag.name);
     stack.create_formatting_element_for(forest, class, tag, false)?;
     Ok(())
 }
 
-// The root, and in it formatting elements of these names.
-fn listed(alloc: Global, names: &[&str]) -> Result<(Forest, Stack<Forest>), ParseFault>
-    ensures { IfOk result (λ made. IsStanding made.0 made.1.open_elems made.1.active_formatting) }
+// Formatting elements of these names.
+fn list_each(
+    alloc: Global,
+    forest: &mut Forest,
+    stack: &mut Stack<Forest>,
+    names: &[&str],
+) -> Result<(), ParseFault>
+    requires { IsStanding forest.old stack.old.open_elems stack.old.active_formatting }
+    ensures { IsStanding forest.new stack.new.open_elems stack.new.active_formatting }
 {
-    let (mut forest, mut stack) = started(alloc)?;
     for name in names {
-        list(alloc, &mut forest, &mut stack, name)?;
+        list(alloc, forest, stack, name)?;
     }
-    Ok((forest, stack))
+    Ok(())
 }
 
 // All but the root leave the stack.
@@ -63,8 +50,15 @@ fn close_all(_forest: &Forest, stack: &mut Stack<Forest>)
     stack.pop_until_current(TagSet::Html);
 }
 
+// How many entries are listed behind these; no error is told.
+fn has_entries(alloc: Global, names: &[&str], entries: usize) -> Result<bool, ParseFault> {
+    let (mut forest, mut stack) = started(alloc)?;
+    list_each(alloc, &mut forest, &mut stack, names)?;
+    Ok(stack.active_formatting().len() == entries && forest.error_count() == 0)
+}
+
 #[test]
-fn the_earliest_of_three_equal_entries_makes_room(rt: HostRuntime) -> Result<(), Fail> {
+fn the_earliest_of_three_equal_entries_makes_room(rt: HostRuntime) {
     let rows: &[(&[&str], usize)] = &[
         (&["b", "b", "b"], 3),
         (&["b", "b", "b", "b"], 3),
@@ -74,29 +68,63 @@ fn the_earliest_of_three_equal_entries_makes_room(rt: HostRuntime) -> Result<(),
         (&["b", "b", "b", "|", "b"], 5),
         (&["my-tag", "my-tag", "my-tag", "my-tag"], 3),
     ];
-    for (names, want) in rows {
-        let (forest, stack) = listed(rt.alloc(), names)?;
-        assert_eq!(rt; stack.active_formatting().len(), *want);
-        assert_eq!(rt; forest.error_count(), 0);
+    for (names, entries) in rows {
+        assert!(rt; has_entries(rt.alloc(), names, *entries) == Ok(true));
     }
-    Ok(())
 }
 
-#[test]
-fn the_second_of_four_equal_entries_is_then_the_earliest(rt: HostRuntime) -> Result<(), Fail> {
-    let (forest, stack) = listed(rt.alloc(), &["b", "b", "b", "b"])?;
-    let is_second = match (stack.open_elems().get(2), stack.active_formatting().first()) {
+// Whether the first entry is the element that is open above the first.
+fn is_second_first(forest: &Forest, stack: &Stack<Forest>) -> bool {
+    match (stack.open_elems().get(2), stack.active_formatting().first()) {
         (Some(element), Some(FormatEntry::Element(node, _))) => {
             forest.same_node(&element.handle, node)
         }
         _ => false,
-    };
-    assert!(rt; is_second);
-    Ok(())
+    }
+}
+
+fn is_second_kept(alloc: Global) -> Result<bool, ParseFault> {
+    let (mut forest, mut stack) = started(alloc)?;
+    list_each(alloc, &mut forest, &mut stack, &["b", "b", "b", "b"])?;
+    Ok(is_second_first(&forest, &stack))
 }
 
 #[test]
-fn listed_elements_are_opened_again(rt: HostRuntime) -> Result<(), Fail> {
+fn the_second_of_four_equal_entries_is_then_the_earliest(rt: HostRuntime) {
+    assert!(rt; is_second_kept(rt.alloc()) == Ok(true));
+}
+
+// Whether so many elements are open, and so many entries listed, where all but the root were closed and listed elements are
+// opened again.
+fn are_reopened(
+    forest: &mut Forest,
+    stack: &mut Stack<Forest>,
+    opened: usize,
+    entries: usize,
+) -> Result<bool, ParseFault>
+    requires { IsStanding forest.old stack.old.open_elems stack.old.active_formatting }
+{
+    close_all(forest, stack);
+    let closed = stack.open_elems().len() == 1;
+    stack.reconstruct_active_formatting_elements(forest, false)?;
+    let once = stack.open_elems().len() == opened && stack.active_formatting().len() == entries;
+    stack.reconstruct_active_formatting_elements(forest, false)?;
+    Ok(closed && once && stack.open_elems().len() == opened)
+}
+
+fn are_listed_reopened(
+    alloc: Global,
+    names: &[&str],
+    opened: usize,
+    entries: usize,
+) -> Result<bool, ParseFault> {
+    let (mut forest, mut stack) = started(alloc)?;
+    list_each(alloc, &mut forest, &mut stack, names)?;
+    are_reopened(&mut forest, &mut stack, opened, entries)
+}
+
+#[test]
+fn listed_elements_are_opened_again(rt: HostRuntime) {
     let rows: &[(&[&str], usize, usize)] = &[
         (&[], 1, 0),
         (&["b"], 2, 1),
@@ -106,34 +134,43 @@ fn listed_elements_are_opened_again(rt: HostRuntime) -> Result<(), Fail> {
         (&["b", "|", "i", "i"], 3, 4),
     ];
     for (names, opened, entries) in rows {
-        let (mut forest, mut stack) = listed(rt.alloc(), names)?;
-        close_all(&forest, &mut stack);
-        assert_eq!(rt; stack.open_elems().len(), 1);
-        stack.reconstruct_active_formatting_elements(&mut forest, false)?;
-        assert_eq!(rt; stack.open_elems().len(), *opened);
-        assert_eq!(rt; stack.active_formatting().len(), *entries);
-        stack.reconstruct_active_formatting_elements(&mut forest, false)?;
-        assert_eq!(rt; stack.open_elems().len(), *opened);
+        assert!(rt; are_listed_reopened(rt.alloc(), names, *opened, *entries) == Ok(true));
     }
-    Ok(())
+}
+
+// Whether so many elements stay open, and all entries listed, where the element at a place leaves.
+fn leaves(forest: &mut Forest, stack: &mut Stack<Forest>, place: usize, left: usize) -> bool
+    requires { IsStanding forest.old stack.old.open_elems stack.old.active_formatting }
+{
+    let entries = stack.active_formatting().len();
+    let Some(element) = stack.open_elems().get(place) else {
+        return false;
+    };
+    let handle = element.handle;
+    stack.remove_from_stack(forest, &handle);
+    stack.open_elems().len() == left && stack.active_formatting().len() == entries
+}
+
+fn leaves_listed(
+    alloc: Global,
+    names: &[&str],
+    place: usize,
+    left: usize,
+) -> Result<bool, ParseFault> {
+    let (mut forest, mut stack) = started(alloc)?;
+    list_each(alloc, &mut forest, &mut stack, names)?;
+    let listed = stack.active_formatting().len() == names.len();
+    Ok(leaves(&mut forest, &mut stack, place, left) && listed)
 }
 
 #[test]
-fn an_element_leaves_the_stack_wherever_it_stands(rt: HostRuntime) -> Result<(), Fail> {
+fn an_element_leaves_the_stack_wherever_it_stands(rt: HostRuntime) {
     let rows: &[(&[&str], usize, usize)] = &[
         (&["b", "i", "u"], 1, 3),
         (&["b", "i", "u"], 3, 3),
         (&["b"], 0, 1),
     ];
     for (names, place, left) in rows {
-        let (mut forest, mut stack) = listed(rt.alloc(), names)?;
-        let Some(element) = stack.open_elems().get(*place) else {
-            return Ok(());
-        };
-        let handle = element.handle;
-        stack.remove_from_stack(&mut forest, &handle);
-        assert_eq!(rt; stack.open_elems().len(), *left);
-        assert_eq!(rt; stack.active_formatting().len(), names.len());
+        assert!(rt; leaves_listed(rt.alloc(), names, *place, *left) == Ok(true));
     }
-    Ok(())
 }

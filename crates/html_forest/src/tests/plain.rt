@@ -33,6 +33,43 @@ pub struct Plain {
     pub errors: u64,
 }
 
+impl PlainNode {
+    /// Whether it is an element that has no attribute of this name.
+    fn may_be_given(&self, local: &str) -> bool {
+        for attribute in &self.attributes {
+            if attribute.0.as_str() == local {
+                return false;
+            }
+        }
+        self.kind == Kind::Element || self.kind == Kind::Template
+    }
+}
+
+fn pair(alloc: Global, local: &str, value: &str) -> Result<(String, String), ParseFault> {
+    let local = String::from_str(alloc, local)?;
+    let value = String::from_str(alloc, value)?;
+    Ok((local, value))
+}
+
+/// Makes a list of the others and a child, before one of them or at the end.
+fn put_among(
+    children: &mut Vec<usize>,
+    others: &[usize],
+    before: Option<usize>,
+    child: usize,
+) -> Result<(), ParseFault> {
+    for other in others {
+        if before == Some(*other) {
+            children.push(child)?;
+        }
+        children.push(*other)?;
+    }
+    if before.is_none() {
+        children.push(child)?;
+    }
+    Ok(())
+}
+
 impl Plain {
     pub fn new(alloc: Global) -> Result<Plain, ParseFault> {
         let mut plain = Plain {
@@ -74,19 +111,9 @@ impl Plain {
         before: Option<usize>,
         child: usize,
     ) -> Result<(), ParseFault> {
-        let mut children = Vec::new(self.alloc);
-        if let Some(node) = self.nodes.get(parent) {
-            for other in &node.children {
-                if before == Some(*other) {
-                    children.push(child)?;
-                }
-                children.push(*other)?;
-            }
-        }
-        if before.is_none() {
-            children.push(child)?;
-        }
         if let Some(node) = self.nodes.get_mut(parent) {
+            let mut children = Vec::new(self.alloc);
+            put_among(&mut children, &node.children, before, child)?;
             node.children = children;
         }
         Ok(())
@@ -125,32 +152,29 @@ impl Plain {
         self.put(parent, before, made)
     }
 
-    fn create(&mut self, local: &str) -> Result<(), ParseFault> {
-        if local == "template" {
-            self.add(Kind::Template, local)?;
-            self.add(Kind::Contents, "")?;
-        } else {
-            self.add(Kind::Element, local)?;
-        }
+    fn add_loose(&mut self, kind: Kind, words: &str) -> Result<(), ParseFault> {
+        let _made = self.add(kind, words)?;
         Ok(())
     }
 
+    fn create(&mut self, local: &str) -> Result<(), ParseFault> {
+        if local != "template" {
+            return self.add_loose(Kind::Element, local);
+        }
+        self.add_loose(Kind::Template, local)?;
+        self.add_loose(Kind::Contents, "")
+    }
+
+    fn put_doctype(&mut self, name: &str) -> Result<(), ParseFault> {
+        let made = self.add(Kind::Doctype, name)?;
+        self.put(0, None, made)
+    }
+
     fn add_attribute(&mut self, at: usize, local: &str, value: &str) -> Result<(), ParseFault> {
-        let alloc = self.alloc;
-        if let Some(node) = self.nodes.get_mut(at) {
-            if node.kind != Kind::Element && node.kind != Kind::Template {
-                return Ok(());
-            }
-            for attribute in &node.attributes {
-                if attribute.0.as_str() == local {
-                    return Ok(());
-                }
-            }
-            let attribute = (
-                String::from_str(alloc, local)?,
-                String::from_str(alloc, value)?,
-            );
-            node.attributes.push(attribute)?;
+        if let Some(node) = self.nodes.get_mut(at)
+            && node.may_be_given(local)
+        {
+            node.attributes.push(pair(self.alloc, local, value)?)?;
         }
         Ok(())
     }
@@ -179,22 +203,20 @@ impl Plain {
     /// Does what a step does whose conditions hold.
     pub fn take(&mut self, step: Step) -> Result<(), ParseFault> {
         match step {
-            Step::Element(local) => self.create(local)?,
-            Step::Comment(words) => {
-                self.add(Kind::Comment, words)?;
+            Step::Element(local) => self.create(local),
+            Step::Comment(words) => self.add_loose(Kind::Comment, words),
+            Step::Instruction(target, _) => self.add_loose(Kind::Instruction, target),
+            Step::Doctype(name) => self.put_doctype(name),
+            Step::Quirks(mode) => {
+                self.quirks = mode;
+                Ok(())
             }
-            Step::Instruction(target, _) => {
-                self.add(Kind::Instruction, target)?;
+            Step::Error => {
+                self.errors = self.errors.saturating_add(1);
+                Ok(())
             }
-            Step::Doctype(name) => {
-                let made = self.add(Kind::Doctype, name)?;
-                self.put(0, None, made)?;
-            }
-            Step::Quirks(mode) => self.quirks = mode,
-            Step::Error => self.errors = self.errors.saturating_add(1),
-            _ => self.take_put(step)?,
+            _ => self.take_put(step),
         }
-        Ok(())
     }
 
     fn take_put(&mut self, step: Step) -> Result<(), ParseFault> {

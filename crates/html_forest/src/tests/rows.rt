@@ -2,7 +2,7 @@
 ghost use Rattle.std.specs.Prelude.{◌≡◌, IfOk};
 ghost use Rattle.markup.specs.Forest.{node_count};
 
-use super::steps::{Step, name, take, text};
+use super::steps::{Step, attributes, built, name, text};
 use crate::Forest;
 use crate::node::{NodeData, NodeId};
 use markup::{
@@ -10,28 +10,32 @@ use markup::{
     is_html_name, namespaces,
 };
 use std::alloc::Global;
-use std::test::Fail;
+
+fn write_each(pieces: &[&str], out: &mut String) -> Result<(), ParseFault> {
+    for piece in pieces {
+        out.push_str(piece)?;
+    }
+    Ok(())
+}
+
+fn write_attributes(attributes: &[Attribute], out: &mut String) -> Result<(), ParseFault> {
+    for attribute in attributes {
+        let local = attribute.name.local.as_str();
+        write_each(&[":", local, "=", attribute.value.as_str()], out)?;
+    }
+    Ok(())
+}
 
 // A node in a few characters: a text in quotes, an element by its name and its attributes.
 fn write_node(about: &NodeData, out: &mut String) -> Result<(), ParseFault> {
     match about {
-        NodeData::Text(words) => {
-            out.push_str("'")?;
-            out.push_str(words.as_str())?;
-            out.push_str("'")?;
-        }
+        NodeData::Text(words) => write_each(&["'", words.as_str(), "'"], out),
         NodeData::Element { name, attrs, .. } => {
             out.push_str(name.local.as_str())?;
-            for attribute in attrs.as_slice() {
-                out.push_str(":")?;
-                out.push_str(attribute.name.local.as_str())?;
-                out.push_str("=")?;
-                out.push_str(attribute.value.as_str())?;
-            }
+            write_attributes(attrs.as_slice(), out)
         }
-        _ => out.push_str("other")?,
+        _ => write_each(&["other"], out),
     }
-    Ok(())
 }
 
 pub(super) fn children(alloc: Global, forest: &Forest, id: NodeId) -> Result<String, ParseFault> {
@@ -47,81 +51,88 @@ pub(super) fn children(alloc: Global, forest: &Forest, id: NodeId) -> Result<Str
     Ok(out)
 }
 
-pub(super) fn built(alloc: Global, steps: &[Step]) -> Result<Forest, ParseFault> {
-    let mut forest = Forest::new(alloc)?;
-    for step in steps {
-        let _taken = take(alloc, &mut forest, *step)?;
-    }
-    Ok(forest)
+// Whether the children of a node are these.
+fn are_children(
+    alloc: Global,
+    forest: &Forest,
+    id: NodeId,
+    want: &str,
+) -> Result<bool, ParseFault> {
+    let found = children(alloc, forest, id)?;
+    Ok(found.as_str() == want)
 }
+
+// Whether the children of a node are these behind the steps.
+fn are_built(alloc: Global, steps: &[Step], node: usize, want: &str) -> Result<bool, ParseFault> {
+    let forest = built(alloc, steps)?;
+    are_children(alloc, &forest, NodeId::new(node), want)
+}
+
+const JOINED: &[Step<'static>] = &[
+    Step::Element("p"),
+    Step::AppendText(1, "a"),
+    Step::AppendText(1, "b"),
+    Step::AppendText(1, ""),
+];
+
+const BEFORE_TEXT: &[Step<'static>] = &[
+    Step::Element("p"),
+    Step::AppendText(1, "c"),
+    Step::BeforeText(2, "b"),
+];
+
+const AFTER_TEXT: &[Step<'static>] = &[
+    Step::Element("p"),
+    Step::AppendText(1, "a"),
+    Step::Element("br"),
+    Step::Append(1, 3),
+    Step::BeforeText(3, "b"),
+];
+
+const MOVED: &[Step<'static>] = &[
+    Step::Element("x"),
+    Step::Element("y"),
+    Step::AppendText(1, "a"),
+    Step::AppendText(2, "b"),
+    Step::Reparent(1, 2),
+];
+
+const NEAR: &[Step<'static>] = &[
+    Step::Element("e"),
+    Step::Element("p"),
+    Step::NearText(1, 2, "t"),
+];
+
+const KEPT: &[Step<'static>] = &[
+    Step::Element("p"),
+    Step::Append(0, 1),
+    Step::Append(1, 0),
+    Step::Append(1, 1),
+];
+
+const TEMPLATE: &[Step<'static>] = &[Step::Element("template"), Step::AppendText(2, "t")];
+
+// Steps, a node, and its children behind them.
+const ROWS: &[(&[Step<'static>], usize, &str)] = &[
+    (JOINED, 1, "'ab'"),
+    (BEFORE_TEXT, 1, "'b' 'c'"),
+    (AFTER_TEXT, 1, "'ab' br"),
+    (MOVED, 1, ""),
+    (MOVED, 2, "'b' 'a'"),
+    (NEAR, 2, "'t'"),
+    (KEPT, 1, ""),
+    (TEMPLATE, 1, ""),
+    (TEMPLATE, 2, "'t'"),
+];
 
 #[test]
-fn rows(rt: HostRuntime) -> Result<(), Fail> {
-    let joined = [
-        Step::Element("p"),
-        Step::AppendText(1, "a"),
-        Step::AppendText(1, "b"),
-        Step::AppendText(1, ""),
-    ];
-    let before_text = [
-        Step::Element("p"),
-        Step::AppendText(1, "c"),
-        Step::BeforeText(2, "b"),
-    ];
-    let after_text = [
-        Step::Element("p"),
-        Step::AppendText(1, "a"),
-        Step::Element("br"),
-        Step::Append(1, 3),
-        Step::BeforeText(3, "b"),
-    ];
-    let moved = [
-        Step::Element("x"),
-        Step::Element("y"),
-        Step::AppendText(1, "a"),
-        Step::AppendText(2, "b"),
-        Step::Reparent(1, 2),
-    ];
-    let near = [
-        Step::Element("e"),
-        Step::Element("p"),
-        Step::NearText(1, 2, "t"),
-    ];
-    let kept = [
-        Step::Element("p"),
-        Step::Append(0, 1),
-        Step::Append(1, 0),
-        Step::Append(1, 1),
-    ];
-    let template = [Step::Element("template"), Step::AppendText(2, "t")];
-    let cases: &[(&[Step], usize, &str)] = &[
-        (&joined, 1, "'ab'"),
-        (&before_text, 1, "'b' 'c'"),
-        (&after_text, 1, "'ab' br"),
-        (&moved, 1, ""),
-        (&moved, 2, "'b' 'a'"),
-        (&near, 2, "'t'"),
-        (&kept, 1, ""),
-        (&template, 1, ""),
-        (&template, 2, "'t'"),
-    ];
-    for &(steps, node, want) in cases {
-        let forest = built(rt.alloc(), steps)?;
-        let found = children(rt.alloc(), &forest, NodeId::new(node))?;
-        assert_eq!(rt; found.as_str(), want);
+fn rows(rt: HostRuntime) {
+    for &(steps, node, want) in ROWS {
+        assert!(rt;
+            are_built(rt.alloc(), steps, node, want) == Ok(true),
+            "{want}"
+        );
     }
-    Ok(())
-}
-
-fn attributes(alloc: Global, all: &[(&str, &str)]) -> Result<Attributes, ParseFault> {
-    let mut attributes = Attributes::new(alloc);
-    for (local, value) in all {
-        attributes.push(Attribute {
-            name: name(alloc, namespaces::NONE, local)?,
-            value: text(alloc, value)?,
-        })?;
-    }
-    Ok(attributes)
 }
 
 // A paragraph with some words, last in the document of any sink.
@@ -145,23 +156,41 @@ fn paragraph<S: TreeSink>(
     Ok(made)
 }
 
-#[test]
-fn any_sink(rt: HostRuntime) -> Result<(), Fail> {
-    let mut forest = Forest::new(rt.alloc())?;
-    let first = attributes(rt.alloc(), &[("x", "1")])?;
-    let made = paragraph(rt.alloc(), &mut forest, first, text(rt.alloc(), "a")?)?;
-    let more = attributes(rt.alloc(), &[("x", "2"), ("y", "3"), ("y", "4")])?;
+fn put_paragraph(alloc: Global, forest: &mut Forest) -> Result<NodeId, ParseFault> {
+    let first = attributes(alloc, &[("x", "1")])?;
+    paragraph(alloc, forest, first, text(alloc, "a")?)
+}
+
+// Gives the paragraph attributes that it has, that it lacks, and that it was just given.
+fn add_more(alloc: Global, forest: &mut Forest, made: NodeId) -> Result<(), ParseFault> {
+    let more = attributes(alloc, &[("x", "2"), ("y", "3"), ("y", "4")])?;
     if forest.node(made).is_some() {
         forest.add_attrs_if_missing(&made, more)?;
     }
-    let document = forest.get_document();
-    assert_eq!(rt;
-        children(rt.alloc(), &forest, document)?.as_str(),
-        "p:x=1:y=3"
-    );
-    assert_eq!(rt; children(rt.alloc(), &forest, made)?.as_str(), "'a'");
-    assert_eq!(rt; forest.parent(made), Some(document));
-    assert_eq!(rt; forest.quirks(), QuirksMode::NoQuirks);
-    assert_eq!(rt; forest.finish().error_count(), 0);
     Ok(())
+}
+
+// Whether a paragraph stands in the document where it was put.
+fn is_paragraph_put(alloc: Global, forest: &mut Forest) -> Result<bool, ParseFault> {
+    let made = put_paragraph(alloc, forest)?;
+    add_more(alloc, forest, made)?;
+    let document = forest.get_document();
+    Ok(
+        are_children(alloc, forest, document, "p:x=1:y=3")?
+            && are_children(alloc, forest, made, "'a'")?
+            && forest.parent(made) == Some(document)
+            && forest.quirks() == QuirksMode::NoQuirks,
+    )
+}
+
+fn is_any_sink(alloc: Global) -> Result<bool, ParseFault> {
+    let mut forest = Forest::new(alloc)?;
+    let put = is_paragraph_put(alloc, &mut forest)?;
+    let finished = forest.finish();
+    Ok(put && finished.error_count() == 0)
+}
+
+#[test]
+fn any_sink(rt: HostRuntime) {
+    assert!(rt; is_any_sink(rt.alloc()) == Ok(true));
 }

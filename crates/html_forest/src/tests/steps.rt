@@ -41,6 +41,31 @@ pub fn name(alloc: Global, ns: &str, local: &str) -> Result<QualName, ParseFault
     ))
 }
 
+fn attribute(alloc: Global, local: &str, value: &str) -> Result<Attribute, ParseFault> {
+    Ok(Attribute {
+        name: name(alloc, namespaces::NONE, local)?,
+        value: text(alloc, value)?,
+    })
+}
+
+fn push_each(
+    alloc: Global,
+    attributes: &mut Attributes,
+    all: &[(&str, &str)],
+) -> Result<(), ParseFault> {
+    for (local, value) in all {
+        attributes.push(attribute(alloc, local, value)?)?;
+    }
+    Ok(())
+}
+
+/// Attributes of no namespace, by their names and values.
+pub fn attributes(alloc: Global, all: &[(&str, &str)]) -> Result<Attributes, ParseFault> {
+    let mut attributes = Attributes::new(alloc);
+    push_each(alloc, &mut attributes, all)?;
+    Ok(attributes)
+}
+
 fn create(alloc: Global, forest: &mut Forest, local: &str) -> Result<bool, ParseFault> {
     let name = name(alloc, namespaces::HTML, local)?;
     let flags = ElementFlags {
@@ -61,11 +86,16 @@ fn append(forest: &mut Forest, parent: NodeId, child: NodeId) -> Result<bool, Pa
     Ok(true)
 }
 
-fn append_text(forest: &mut Forest, parent: NodeId, text: Text) -> Result<bool, ParseFault> {
+fn append_text(
+    alloc: Global,
+    forest: &mut Forest,
+    parent: NodeId,
+    characters: &str,
+) -> Result<bool, ParseFault> {
     if !is_parent(forest, parent) {
         return Ok(false);
     }
-    forest.append(&parent, NodeOrText::AppendText(text))?;
+    forest.append(&parent, NodeOrText::AppendText(text(alloc, characters)?))?;
     Ok(true)
 }
 
@@ -79,14 +109,17 @@ fn before(forest: &mut Forest, sibling: NodeId, child: NodeId) -> Result<bool, P
     }
 }
 
-fn before_text(forest: &mut Forest, sibling: NodeId, text: Text) -> Result<bool, ParseFault> {
-    match forest.parent(sibling) {
-        Some(_) => {
-            forest.append_before_sibling(&sibling, NodeOrText::AppendText(text))?;
-            Ok(true)
-        }
-        None => Ok(false),
+fn before_text(
+    alloc: Global,
+    forest: &mut Forest,
+    sibling: NodeId,
+    characters: &str,
+) -> Result<bool, ParseFault> {
+    if forest.parent(sibling).is_none() {
+        return Ok(false);
     }
+    forest.append_before_sibling(&sibling, NodeOrText::AppendText(text(alloc, characters)?))?;
+    Ok(true)
 }
 
 fn near(
@@ -110,15 +143,17 @@ fn near(
 }
 
 fn near_text(
+    alloc: Global,
     forest: &mut Forest,
     element: NodeId,
     previous: NodeId,
-    text: Text,
+    characters: &str,
 ) -> Result<bool, ParseFault> {
     if !is_node(forest, element) || !is_parent(forest, previous) {
         return Ok(false);
     }
-    forest.append_based_on_parent_node(&element, &previous, NodeOrText::AppendText(text))?;
+    let text = NodeOrText::AppendText(text(alloc, characters)?);
+    forest.append_based_on_parent_node(&element, &previous, text)?;
     Ok(true)
 }
 
@@ -129,15 +164,10 @@ fn add_attribute(
     local: &str,
     value: &str,
 ) -> Result<bool, ParseFault> {
-    let mut attributes = Attributes::new(alloc);
-    attributes.push(Attribute {
-        name: name(alloc, namespaces::NONE, local)?,
-        value: text(alloc, value)?,
-    })?;
     if !is_node(forest, target) {
         return Ok(false);
     }
-    forest.add_attrs_if_missing(&target, attributes)?;
+    forest.add_attrs_if_missing(&target, attributes(alloc, &[(local, value)])?)?;
     Ok(true)
 }
 
@@ -161,23 +191,36 @@ fn reparent(forest: &mut Forest, from: NodeId, to: NodeId) -> Result<bool, Parse
     Ok(true)
 }
 
+fn comment(alloc: Global, forest: &mut Forest, characters: &str) -> Result<bool, ParseFault> {
+    forest.create_comment(text(alloc, characters)?)?;
+    Ok(true)
+}
+
+fn instruction(
+    alloc: Global,
+    forest: &mut Forest,
+    target: &str,
+    characters: &str,
+) -> Result<bool, ParseFault> {
+    let target = text(alloc, target)?;
+    forest.create_pi(target, text(alloc, characters)?)?;
+    Ok(true)
+}
+
+fn doctype(alloc: Global, forest: &mut Forest, name: &str) -> Result<bool, ParseFault> {
+    let public_id = text(alloc, "p")?;
+    let system_id = text(alloc, "s")?;
+    forest.append_doctype_to_document(text(alloc, name)?, public_id, system_id)?;
+    Ok(true)
+}
+
 /// Makes the call where its conditions hold, and says whether they did.
 pub fn take(alloc: Global, forest: &mut Forest, step: Step) -> Result<bool, ParseFault> {
     match step {
         Step::Element(local) => create(alloc, forest, local),
-        Step::Comment(characters) => {
-            forest.create_comment(text(alloc, characters)?)?;
-            Ok(true)
-        }
-        Step::Instruction(target, characters) => {
-            forest.create_pi(text(alloc, target)?, text(alloc, characters)?)?;
-            Ok(true)
-        }
-        Step::Doctype(name) => {
-            let (public_id, system_id) = (text(alloc, "p")?, text(alloc, "s")?);
-            forest.append_doctype_to_document(text(alloc, name)?, public_id, system_id)?;
-            Ok(true)
-        }
+        Step::Comment(characters) => comment(alloc, forest, characters),
+        Step::Instruction(target, characters) => instruction(alloc, forest, target, characters),
+        Step::Doctype(name) => doctype(alloc, forest, name),
         Step::Quirks(mode) => {
             forest.set_quirks_mode(mode);
             Ok(true)
@@ -194,11 +237,11 @@ fn take_put(alloc: Global, forest: &mut Forest, step: Step) -> Result<bool, Pars
     match step {
         Step::Append(parent, child) => append(forest, NodeId::new(parent), NodeId::new(child)),
         Step::AppendText(parent, characters) => {
-            append_text(forest, NodeId::new(parent), text(alloc, characters)?)
+            append_text(alloc, forest, NodeId::new(parent), characters)
         }
         Step::Before(sibling, child) => before(forest, NodeId::new(sibling), NodeId::new(child)),
         Step::BeforeText(sibling, characters) => {
-            before_text(forest, NodeId::new(sibling), text(alloc, characters)?)
+            before_text(alloc, forest, NodeId::new(sibling), characters)
         }
         Step::Near(element, previous, child) => near(
             forest,
@@ -207,10 +250,11 @@ fn take_put(alloc: Global, forest: &mut Forest, step: Step) -> Result<bool, Pars
             NodeId::new(child),
         ),
         Step::NearText(element, previous, characters) => near_text(
+            alloc,
             forest,
             NodeId::new(element),
             NodeId::new(previous),
-            text(alloc, characters)?,
+            characters,
         ),
         Step::Attribute(target, local, value) => {
             add_attribute(alloc, forest, NodeId::new(target), local, value)
@@ -219,4 +263,19 @@ fn take_put(alloc: Global, forest: &mut Forest, step: Step) -> Result<bool, Pars
         Step::Reparent(from, to) => reparent(forest, NodeId::new(from), NodeId::new(to)),
         _ => Ok(false),
     }
+}
+
+/// Makes the calls whose conditions hold.
+pub fn take_each(alloc: Global, forest: &mut Forest, steps: &[Step]) -> Result<(), ParseFault> {
+    for step in steps {
+        let _taken = take(alloc, forest, *step)?;
+    }
+    Ok(())
+}
+
+/// A new forest, and what the calls make of it.
+pub fn built(alloc: Global, steps: &[Step]) -> Result<Forest, ParseFault> {
+    let mut forest = Forest::new(alloc)?;
+    take_each(alloc, &mut forest, steps)?;
+    Ok(forest)
 }

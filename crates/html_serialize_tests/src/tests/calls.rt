@@ -69,27 +69,57 @@ fn attributes(alloc: Global, rows: &[Row<'_>]) -> Result<Vec<Attribute>, ParseFa
     Ok(made)
 }
 
+fn start<S: Serializer>(
+    alloc: Global,
+    serializer: &mut S,
+    local: &str,
+    rows: &[Row<'_>],
+) -> Result<Result<(), SerializeFault>, ParseFault> {
+    let name = name(alloc, namespaces::HTML, local)?;
+    let attrs = attributes(alloc, rows)?;
+    Ok(serializer.start_elem(&name, attrs.as_slice()))
+}
+
+fn end<S: Serializer>(
+    alloc: Global,
+    serializer: &mut S,
+    local: &str,
+) -> Result<Result<(), SerializeFault>, ParseFault> {
+    let name = name(alloc, namespaces::HTML, local)?;
+    Ok(serializer.end_elem(&name))
+}
+
 /// Makes a call.
 pub fn make<S: Serializer>(
     alloc: Global,
     serializer: &mut S,
     call: Call<'_>,
 ) -> Result<Result<(), SerializeFault>, ParseFault> {
-    Ok(match call {
-        Call::Start(local, rows) => {
-            let name = name(alloc, namespaces::HTML, local)?;
-            let attrs = attributes(alloc, rows)?;
-            serializer.start_elem(&name, attrs.as_slice())
+    match call {
+        Call::Start(local, rows) => start(alloc, serializer, local, rows),
+        Call::End(local) => end(alloc, serializer, local),
+        Call::Text(text) => Ok(serializer.write_text(text)),
+        Call::Comment(text) => Ok(serializer.write_comment(text)),
+        Call::Doctype(name) => Ok(serializer.write_doctype(name)),
+        Call::Instruction(target, data) => {
+            Ok(serializer.write_processing_instruction(target, data))
         }
-        Call::End(local) => {
-            let name = name(alloc, namespaces::HTML, local)?;
-            serializer.end_elem(&name)
+    }
+}
+
+/// Makes calls up to the first that is refused: its answer, or the last one's.
+pub fn make_each<S: Serializer>(
+    alloc: Global,
+    serializer: &mut S,
+    calls: &[Call<'_>],
+) -> Result<Result<(), SerializeFault>, ParseFault> {
+    let mut answer = Ok(());
+    for call in calls {
+        if answer.is_ok() {
+            answer = make(alloc, serializer, *call)?;
         }
-        Call::Text(text) => serializer.write_text(text),
-        Call::Comment(text) => serializer.write_comment(text),
-        Call::Doctype(name) => serializer.write_doctype(name),
-        Call::Instruction(target, data) => serializer.write_processing_instruction(target, data),
-    })
+    }
+    Ok(answer)
 }
 
 /// The options of a way.
@@ -118,12 +148,7 @@ pub fn started(alloc: Global, way: &Way<'_>) -> Result<HtmlSerializer<MemWriter>
 /// Makes calls of a new serializer, up to the first that is refused.
 pub fn written_by(alloc: Global, way: &Way<'_>, calls: &[Call<'_>]) -> Result<Outcome, ParseFault> {
     let mut serializer = started(alloc, way)?;
-    let mut answer = Ok(());
-    for call in calls {
-        if answer.is_ok() {
-            answer = make(alloc, &mut serializer, *call)?;
-        }
-    }
+    let answer = make_each(alloc, &mut serializer, calls)?;
     let written = Vec::from_slice(alloc, serializer.writer.written())?;
     Ok(Outcome { answer, written })
 }

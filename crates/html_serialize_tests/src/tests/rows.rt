@@ -1,9 +1,9 @@
 //! Worked rows, and writers that fail.
-use super::calls::{Call, Outcome, PLAIN, Way, make, options, started, written_by};
-use html_serialize::SerializeOpts;
-use markup::{ParseFault, SerializeFault, TraversalScope, namespaces};
+use super::calls::{Call, Outcome, PLAIN, Way, make, make_each, options, started, written_by};
+use devices::MemWriter;
+use html_serialize::{HtmlSerializer, SerializeOpts};
+use markup::{ParseFault, SerializeFault, Serializer, TraversalScope, namespaces};
 use std::alloc::Global;
-use std::test::Fail;
 
 // One call of each kind.
 const EACH: [Call<'static>; 8] = [
@@ -153,14 +153,22 @@ const ROWS: &[RowOfCalls] = &[
     ),
 ];
 
+// Whether the calls of a row are answered and written as it says.
+fn is_written(alloc: Global, row: &RowOfCalls) -> Result<bool, ParseFault> {
+    let found = written_by(alloc, &row.0, row.1)?;
+    Ok(found.answer == row.2 && found.written.as_slice() == row.3.as_bytes())
+}
+
 #[test]
-fn rows(rt: HostRuntime) -> Result<(), Fail> {
-    for &(way, calls, answer, text) in ROWS {
-        let found = written_by(rt.alloc(), &way, calls)?;
-        assert_eq!(&rt; found.answer, answer, "{text}");
-        assert_eq!(&rt; found.written.as_slice(), text.as_bytes(), "{text}");
+fn rows(rt: HostRuntime) {
+    for row in ROWS {
+        assert!(rt; is_written(rt.alloc(), row) == Ok(true), "{}", row.3);
     }
-    Ok(())
+}
+
+// Whether the calls are answered, and all of a text is written.
+fn is_whole(found: &Outcome, text: &str) -> bool {
+    found.answer.is_ok() && found.written.as_slice() == text.as_bytes()
 }
 
 // Whether what was written is a beginning of a text.
@@ -168,29 +176,50 @@ fn begins(found: &Outcome, text: &str) -> bool {
     text.as_bytes().starts_with(found.written.as_slice())
 }
 
-// A write that fails leaves a beginning of the text, and behind it each call answers `Failed` and writes nothing.
-fn breaks(alloc: Global, way: &Way<'_>) -> Result<bool, ParseFault> {
-    let mut serializer = started(alloc, way)?;
-    let mut answer = Ok(());
+// Whether a call is refused, and not all of a text is written.
+fn is_cut_off(found: &Outcome, text: &str) -> bool {
+    found.answer.is_err() && found.written.len() < text.len() && begins(found, text)
+}
+
+// Whether each call of a serializer whose writer failed is refused.
+fn stays_failed<S: Serializer>(alloc: Global, serializer: &mut S) -> Result<bool, ParseFault> {
     for call in &EACH {
-        if answer.is_ok() {
-            answer = make(alloc, &mut serializer, *call)?;
-        }
-    }
-    if answer != Err(SerializeFault::Write) {
-        return Ok(false);
-    }
-    let count = serializer.writer.written().len();
-    for call in &EACH {
-        if make(alloc, &mut serializer, *call)? != Err(SerializeFault::Failed) {
+        if make(alloc, serializer, *call)? != Err(SerializeFault::Failed) {
             return Ok(false);
         }
     }
-    Ok(serializer.writer.written().len() == count)
+    Ok(true)
+}
+
+// Whether a write fails, and behind it each call is refused and writes nothing.
+fn is_broken(
+    alloc: Global,
+    serializer: &mut HtmlSerializer<MemWriter>,
+) -> Result<bool, ParseFault> {
+    if make_each(alloc, serializer, &EACH)? != Err(SerializeFault::Write) {
+        return Ok(false);
+    }
+    let count = serializer.writer.written().len();
+    Ok(stays_failed(alloc, serializer)? && serializer.writer.written().len() == count)
+}
+
+fn breaks(alloc: Global, way: &Way<'_>) -> Result<bool, ParseFault> {
+    let mut serializer = started(alloc, way)?;
+    is_broken(alloc, &mut serializer)
+}
+
+// Whether the whole text is written; or a write fails behind a beginning of it, and each later call is refused.
+fn ends_well(alloc: Global, way: &Way<'_>) -> Result<bool, ParseFault> {
+    let found = written_by(alloc, way, &EACH)?;
+    if is_cut_off(&found, EACH_TEXT) {
+        breaks(alloc, way)
+    } else {
+        Ok(is_whole(&found, EACH_TEXT))
+    }
 }
 
 #[test]
-fn writers_that_fail(rt: HostRuntime) -> Result<(), Fail> {
+fn writers_that_fail(rt: HostRuntime) {
     for zero in [false, true] {
         for k in 1..=40u64 {
             let way = Way {
@@ -198,25 +227,16 @@ fn writers_that_fail(rt: HostRuntime) -> Result<(), Fail> {
                 zero,
                 ..PLAIN
             };
-            let found = written_by(rt.alloc(), &way, &EACH)?;
-            let whole = found.written.as_slice() == EACH_TEXT.as_bytes();
-            assert!(&rt; begins(&found, EACH_TEXT), "{k}");
-            assert_eq!(&rt; found.answer.is_ok(), whole, "{k}");
-            if !whole {
-                assert!(&rt; breaks(rt.alloc(), &way)?, "{k}");
-            }
+            assert!(rt; ends_well(rt.alloc(), &way) == Ok(true), "{k}");
         }
     }
-    Ok(())
 }
 
+const A_BYTE_A_CALL: RowOfCalls = (Way { piece: 1, ..PLAIN }, &EACH, Ok(()), EACH_TEXT);
+
 #[test]
-fn a_byte_a_call(rt: HostRuntime) -> Result<(), Fail> {
-    let way = Way { piece: 1, ..PLAIN };
-    let found = written_by(rt.alloc(), &way, &EACH)?;
-    assert_eq!(&rt; found.answer, Ok(()));
-    assert_eq!(&rt; found.written.as_slice(), EACH_TEXT.as_bytes());
-    Ok(())
+fn a_byte_a_call(rt: HostRuntime) {
+    assert!(rt; is_written(rt.alloc(), &A_BYTE_A_CALL) == Ok(true));
 }
 
 // Trees whose walks take memory: one call of each kind, nested elements, and elements that are missing.
@@ -254,36 +274,71 @@ const TREES: &[(Way<'static>, &'static [Call<'static>], &'static str)] = &[
     ),
 ];
 
-#[test]
-fn memory_that_is_refused(rt: HostRuntime) -> Result<(), Fail> {
-    for &(way, calls, text) in TREES {
-        let Ok(found) = written_by(rt.alloc(), &way, calls) else {
-            return Ok(());
-        };
-        let whole = found.written.as_slice() == text.as_bytes();
-        assert!(&rt; begins(&found, text), "{text}");
-        assert!(&rt;
-            (found.answer.is_ok() && whole) || found.answer == Err(SerializeFault::Memory),
-            "{text}"
-        );
-    }
-    Ok(())
+// Whether a beginning of a text is written, and the whole of it unless memory is refused.
+fn begins_at_least(
+    alloc: Global,
+    way: &Way<'_>,
+    calls: &[Call<'_>],
+    text: &str,
+) -> Result<bool, ParseFault> {
+    let found = written_by(alloc, way, calls)?;
+    Ok(
+        is_whole(&found, text)
+            || (found.answer == Err(SerializeFault::Memory) && begins(&found, text)),
+    )
 }
 
 #[test]
-fn copies(rt: HostRuntime) -> Result<(), Fail> {
+fn memory_that_is_refused(rt: HostRuntime) {
+    for &(way, calls, text) in TREES {
+        assert!(rt;
+            begins_at_least(rt.alloc(), &way, calls, text) != Ok(false),
+            "{text}"
+        );
+    }
+}
+
+// Whether the copy of a scope equals it.
+fn is_scope_copied(alloc: Global, scope: &TraversalScope) -> Result<bool, ParseFault> {
+    let copied = scope.copy(alloc)?;
+    Ok(copied == *scope)
+}
+
+// Whether the copy of options equals them.
+fn is_copied(alloc: Global, opts: &SerializeOpts) -> Result<bool, ParseFault> {
+    let copied = opts.copy(alloc)?;
+    Ok(
+        copied.traversal_scope == opts.traversal_scope
+            && copied.scripting_enabled == opts.scripting_enabled
+            && copied.create_missing_parent == opts.create_missing_parent,
+    )
+}
+
+fn are_options_copied(alloc: Global, way: &Way<'_>) -> Result<bool, ParseFault> {
+    let opts = options(alloc, way)?;
+    is_copied(alloc, &opts)
+}
+
+fn are_defaults_copied(alloc: Global) -> Result<bool, ParseFault> {
+    let copied = SerializeOpts::default().copy(alloc)?;
+    Ok(matches!(
+        copied,
+        SerializeOpts {
+            scripting_enabled: true,
+            traversal_scope: TraversalScope::ChildrenOnly(None),
+            create_missing_parent: false,
+        }
+    ))
+}
+
+#[test]
+fn copies(rt: HostRuntime) {
     let under_style = Way {
         under: Some("style"),
         creates: true,
         ..PLAIN
     };
-    let opts = options(rt.alloc(), &under_style)?;
-    let copied = opts.copy(rt.alloc())?;
-    assert!(&rt; copied.traversal_scope == opts.traversal_scope);
-    assert!(&rt; copied.create_missing_parent);
-    let plain = SerializeOpts::default().copy(rt.alloc())?;
-    assert!(&rt; plain.traversal_scope == TraversalScope::ChildrenOnly(None));
-    assert!(&rt; plain.scripting_enabled && !plain.create_missing_parent);
-    assert!(&rt; TraversalScope::IncludeNode.copy(rt.alloc())? == TraversalScope::IncludeNode);
-    Ok(())
+    assert!(rt; are_options_copied(rt.alloc(), &under_style) == Ok(true));
+    assert!(rt; are_defaults_copied(rt.alloc()) == Ok(true));
+    assert!(rt; is_scope_copied(rt.alloc(), &TraversalScope::IncludeNode) == Ok(true));
 }
