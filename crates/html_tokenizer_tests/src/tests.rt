@@ -199,6 +199,23 @@ fn feed_to_end<S: TokenSink>(
     tokenizer.end()
 }
 
+/// Whether a tokenizer refuses both calls by this fault.
+fn refuses<S: TokenSink>(
+    tokenizer: &mut Tokenizer<S>,
+    input: &mut BufferQueue,
+    fault: ParseFault,
+) -> bool
+    requires { IsReadyIf S.TokenSink (refusal tokenizer.old.stream) tokenizer.old }
+    ensures { IsReadyIf S.TokenSink (refusal tokenizer.new.stream) tokenizer.new }
+{
+    let refuses_input = match tokenizer.feed(input) {
+        Ok(_) => false,
+        Err(found) => found == fault,
+    };
+    let refuses_end = tokenizer.end() == Err(fault);
+    refuses_input && refuses_end
+}
+
 /// What takes the tokens. Tokenizers are let go of here alone, since each place that lets one go takes long to prove.
 fn sink_of<S: TokenSink + Drop>(tokenizer: Tokenizer<S>) -> S {
     tokenizer.sink

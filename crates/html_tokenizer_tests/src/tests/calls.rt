@@ -4,7 +4,8 @@ ghost use Rattle.html_tokenizer.specs.Calls.{IsReadyIf, refusal};
 
 use super::words::is_in_words;
 use super::{
-    PAGE, Setting, Table, feed_piece, feed_pieces, list_of, put, sink_if, sink_of, tokenizer_over,
+    PAGE, Setting, Table, feed_piece, feed_pieces, list_of, put, refuses, sink_if, sink_of,
+    tokenizer_over,
 };
 use html_tokenizer::{BufferQueue, Listed, State, TokenSink, Tokenizer};
 use html_tokens::states::RawKind;
@@ -288,9 +289,7 @@ fn is_ended<S: TokenSink>(tokenizer: &mut Tokenizer<S>, input: &mut BufferQueue)
     ensures { IsReadyIf S.TokenSink (refusal tokenizer.new.stream) tokenizer.new }
 {
     let has_ended = tokenizer.has_ended() && !tokenizer.nothing_pending();
-    let refuses_input = matches!(tokenizer.feed(input), Err(ParseFault::Ended));
-    let refuses_end = matches!(tokenizer.end(), Err(ParseFault::Ended));
-    has_ended && refuses_input && refuses_end
+    refuses(tokenizer, input, ParseFault::Ended) && has_ended
 }
 
 /// Feeds a text and the end.

@@ -5,7 +5,9 @@ ghost use Rattle.html_tokenizer.specs.Calls.{IsReadyIf, refusal};
 use super::calls::feed_text;
 use super::refusing::Refusing;
 use super::words::in_words;
-use super::{PAGE, Row, Setting, exact, feed_all, list_of, put, sink_if, sink_of, tokenizer_over};
+use super::{
+    PAGE, Row, Setting, exact, feed_all, list_of, put, refuses, sink_if, sink_of, tokenizer_over,
+};
 use html_tokenizer::{BufferQueue, Listed, TokenSink, Tokenizer};
 use markup::ParseFault;
 use std::alloc::Global;
@@ -15,10 +17,9 @@ fn is_failing<S: TokenSink>(tokenizer: &mut Tokenizer<S>) -> bool
     requires { IsReadyIf S.TokenSink (refusal tokenizer.old.stream) tokenizer.old }
     ensures { IsReadyIf S.TokenSink (refusal tokenizer.new.stream) tokenizer.new }
 {
-    let mut input = BufferQueue::new();
-    let refuses_input = matches!(tokenizer.feed(&mut input), Err(ParseFault::Failed));
-    let refuses_end = matches!(tokenizer.end(), Err(ParseFault::Failed));
-    refuses_input && refuses_end && !tokenizer.has_ended() && !tokenizer.nothing_pending()
+    refuses(tokenizer, &mut BufferQueue::new(), ParseFault::Failed)
+        && !tokenizer.has_ended()
+        && !tokenizer.nothing_pending()
 }
 
 /// The same of every call.
