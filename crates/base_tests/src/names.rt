@@ -22,23 +22,13 @@ fn prefix(alloc: Global, characters: &str) -> Result<Prefix, AllocError> {
     Ok(Prefix::new(String::from_str(alloc, characters)?))
 }
 
-fn name(
-    alloc: Global,
-    before: Option<&str>,
-    ns: &str,
-    local: &str,
-) -> Result<QualName, AllocError> {
-    let before = match before {
-        None => None,
-        Some(before) => Some(prefix(alloc, before)?),
-    };
-    Ok(QualName::new(before, namespace(alloc, ns)?, local_name(alloc, local)?))
-}
-
+// An attribute with no namespace.
 fn attribute(alloc: Global, local: &str, value: &str) -> Result<Attribute, AllocError> {
+    let value = text(alloc, value)?;
+    let local = local_name(alloc, local)?;
     Ok(Attribute {
-        name: name(alloc, None, namespaces::NONE, local)?,
-        value: text(alloc, value)?,
+        name: QualName::new(None, Namespace::none(), local),
+        value,
     })
 }
 
@@ -67,37 +57,51 @@ const GROWN: &[(&str, &str, &str)] = &[
     ),
 ];
 
-fn push_characters(made: &mut Text, more: &str) -> Result<(), ParseFault> {
+fn grows_by_text(alloc: Global, start: &str, more: &str, whole: &str) -> bool {
+    let Ok(mut made) = Text::from_str(alloc, start) else {
+        return false;
+    };
+    made.push_str(more).is_ok() && made.as_str() == whole
+}
+
+fn push_characters(made: &mut Text, more: &str) -> bool {
     for character in more.chars() {
-        made.push(character)?;
+        if made.push(character).is_err() {
+            return false;
+        }
     }
-    Ok(())
+    true
+}
+
+fn grows_by_characters(alloc: Global, start: &str, more: &str, whole: &str) -> bool {
+    let Ok(mut made) = text(alloc, start) else {
+        return false;
+    };
+    push_characters(&mut made, more) && made.as_str() == whole
 }
 
 fn append(alloc: Global, made: &mut Text, more: &str) -> Result<(), ParseFault> {
     made.append(&Text::from_str(alloc, more)?)
 }
 
+fn grows_by_own(alloc: Global, start: &str, more: &str, whole: &str) -> bool {
+    let Ok(mut made) = text(alloc, start) else {
+        return false;
+    };
+    append(alloc, &mut made, more).is_ok() && made.as_str() == whole
+}
+
 // Whether a text grows so by a text, by its characters, and by a text of its own. It is made anew for each.
-fn is_grown(alloc: Global, start: &str, more: &str, whole: &str) -> Result<bool, ParseFault> {
-    let mut made = Text::from_str(alloc, start)?;
-    let pushed = made.push_str(more);
-    let by_str = pushed == Ok(()) && made.as_str() == whole;
-    made = text(alloc, start)?;
-    let pushed = push_characters(&mut made, more);
-    let by_characters = pushed == Ok(()) && made.as_str() == whole;
-    made = text(alloc, start)?;
-    let pushed = append(alloc, &mut made, more);
-    Ok(by_str && by_characters && pushed == Ok(()) && made.as_str() == whole)
+fn is_grown(alloc: Global, start: &str, more: &str, whole: &str) -> bool {
+    grows_by_text(alloc, start, more, whole)
+        && grows_by_characters(alloc, start, more, whole)
+        && grows_by_own(alloc, start, more, whole)
 }
 
 #[test]
 fn texts_grow_at_their_end(rt: HostRuntime) {
     for &(start, more, whole) in GROWN {
-        assert!(rt;
-            is_grown(rt.alloc(), start, more, whole) == Ok(true),
-            "{whole}"
-        );
+        assert!(rt; is_grown(rt.alloc(), start, more, whole), "{whole}");
     }
 }
 
@@ -114,18 +118,18 @@ const LOWERED: &[(&str, &str)] = &[
     ),
 ];
 
-fn is_lowered(alloc: Global, more: &str, want: &str) -> Result<bool, ParseFault> {
-    let mut made = Text::from_str(alloc, "let go")?;
+fn is_lowered(alloc: Global, more: &str, want: &str) -> bool {
+    let Ok(mut made) = Text::from_str(alloc, "let go") else {
+        return false;
+    };
     made.clear();
-    let pushed = made.push_str("X");
-    let lowered = made.push_lowered(more);
-    Ok(pushed == Ok(()) && lowered == Ok(()) && made.as_str() == want)
+    made.push_str("X").is_ok() && made.push_lowered(more).is_ok() && made.as_str() == want
 }
 
 #[test]
 fn texts_are_lowered_at_their_end(rt: HostRuntime) {
     for &(more, want) in LOWERED {
-        assert!(rt; is_lowered(rt.alloc(), more, want) == Ok(true), "{want}");
+        assert!(rt; is_lowered(rt.alloc(), more, want), "{want}");
     }
 }
 
@@ -136,32 +140,42 @@ const MORE: &str = "tes and as many again, and then some more";
 const LONG: &str = "a text of twenty-four bytes and as many again, and then some more";
 
 // Whether a text has grown, or stands as it did where memory was refused.
-fn is_whole_or_unchanged(alloc: Global) -> Result<bool, ParseFault> {
-    let mut grown = text(alloc, SHORT)?;
-    Ok(match grown.push_str(MORE) {
+fn is_whole_or_unchanged(alloc: Global) -> bool {
+    let Ok(mut grown) = text(alloc, SHORT) else {
+        return false;
+    };
+    match grown.push_str(MORE) {
         Ok(()) => grown.as_str() == LONG,
         Err(fault) => fault == ParseFault::Memory && grown.as_str() == SHORT,
-    })
+    }
 }
 
 #[test]
 fn a_refused_text_is_unchanged(rt: HostRuntime) {
-    assert!(rt; is_whole_or_unchanged(rt.alloc()) == Ok(true));
+    assert!(rt; is_whole_or_unchanged(rt.alloc()));
 }
 
 // The same of an empty list to which an attribute comes.
-fn is_longer_or_unchanged(alloc: Global) -> Result<bool, ParseFault> {
-    let first = attribute(alloc, "id", "x")?;
+fn is_longer_or_unchanged(alloc: Global) -> bool {
+    let Ok(first) = attribute(alloc, "id", "x") else {
+        return false;
+    };
     let mut list = Attributes::new(alloc);
-    Ok(match list.push(first) {
+    match list.push(first) {
         Ok(()) => list.len() == 1 && !list.is_empty(),
         Err(fault) => fault == ParseFault::Memory && list.is_empty(),
-    })
+    }
 }
 
 #[test]
 fn a_refused_list_is_unchanged(rt: HostRuntime) {
-    assert!(rt; is_longer_or_unchanged(rt.alloc()) == Ok(true));
+    assert!(rt; is_longer_or_unchanged(rt.alloc()));
+}
+
+// The attribute `a0`, `a1` or so on, with this value.
+fn numbered_attribute(alloc: Global, number: usize, value: &str) -> Result<Attribute, ParseFault> {
+    let local = format!(in alloc; "a{number}")?;
+    Ok(attribute(alloc, local.as_str(), value)?)
 }
 
 // So many attributes `a0`, `a1` and so on, with this value, are put behind others.
@@ -172,8 +186,7 @@ fn push_numbered(
     value: &str,
 ) -> Result<(), ParseFault> {
     for number in 0..count {
-        let local = format!(in alloc; "a{number}")?;
-        list.push(attribute(alloc, local.as_str(), value)?)?;
+        list.push(numbered_attribute(alloc, number, value)?)?;
     }
     Ok(())
 }
@@ -202,20 +215,20 @@ const MISSING: &[(usize, usize, usize)] = &[
 ];
 
 // Whether those of so many that are missing are added to so many attributes.
-fn are_added(alloc: Global, has: usize, more: usize, want: usize) -> Result<bool, ParseFault> {
-    let coming = numbered(alloc, more, "y")?;
-    let mut list = numbered(alloc, has, "x")?;
-    let added = list.add_missing(coming);
-    Ok(added == Ok(()) && are_filled(&list, has, want))
+fn are_added(alloc: Global, has: usize, more: usize, want: usize) -> bool {
+    let Ok(mut list) = numbered(alloc, has, "x") else {
+        return false;
+    };
+    let Ok(coming) = numbered(alloc, more, "y") else {
+        return false;
+    };
+    list.add_missing(coming).is_ok() && are_filled(&list, has, want)
 }
 
 #[test]
 fn missing_attributes_are_added(rt: HostRuntime) {
     for &(has, more, want) in MISSING {
-        assert!(rt;
-            are_added(rt.alloc(), has, more, want) == Ok(true),
-            "{has} and {more}"
-        );
+        assert!(rt; are_added(rt.alloc(), has, more, want), "{has} and {more}");
     }
 }
 
@@ -229,37 +242,68 @@ const PREFIXES: &[(KnownNamespace, &str)] = &[
     (KnownNamespace::Xmlns, "xmlns"),
 ];
 
+// Whether the copy of a prefix equals another, which is this text.
+fn is_prefix_copied(alloc: Global, made: &Prefix, other: &Prefix, characters: &str) -> bool {
+    let Ok(copied) = made.copy(alloc) else {
+        return false;
+    };
+    copied == *other && copied.as_str() == characters
+}
+
 // Whether a prefix of a known namespace is the prefix of a text, and so is its copy.
-fn is_usual(alloc: Global, known: KnownNamespace, want: &str) -> Result<bool, ParseFault> {
-    let text = prefix(alloc, want)?;
-    let copied = Prefix::from_known(known).copy(alloc)?;
-    Ok(copied == text && copied.as_str() == want && Prefix::from_known(known) == text)
+fn is_usual(alloc: Global, known: KnownNamespace, want: &str) -> bool {
+    let Ok(other) = prefix(alloc, want) else {
+        return false;
+    };
+    let made = Prefix::from_known(known);
+    made == other && is_prefix_copied(alloc, &made, &other, want)
 }
 
 #[test]
 fn prefixes_of_namespaces_are_their_texts(rt: HostRuntime) {
     for &(known, want) in PREFIXES {
-        assert!(rt; is_usual(rt.alloc(), known, want) == Ok(true), "{want}");
+        assert!(rt; is_usual(rt.alloc(), known, want), "{want}");
     }
 }
 
 // Texts that are copied below.
 const WORDS: &[&str] = &["", "href", "Ünïcode"];
 
-fn is_text_copied(alloc: Global, characters: &str) -> Result<bool, ParseFault> {
-    Ok(text(alloc, characters)?.copy(alloc)?.as_str() == characters)
+fn is_text_copied(alloc: Global, characters: &str) -> bool {
+    let Ok(made) = text(alloc, characters) else {
+        return false;
+    };
+    let Ok(copied) = made.copy(alloc) else {
+        return false;
+    };
+    copied.as_str() == characters
 }
 
-fn is_local_name_copied(alloc: Global, characters: &str) -> Result<bool, ParseFault> {
-    Ok(local_name(alloc, characters)?.copy(alloc)?.as_str() == characters)
+fn is_local_name_copied(alloc: Global, characters: &str) -> bool {
+    let Ok(made) = local_name(alloc, characters) else {
+        return false;
+    };
+    let Ok(copied) = made.copy(alloc) else {
+        return false;
+    };
+    copied.as_str() == characters
 }
 
-fn is_namespace_copied(alloc: Global, characters: &str) -> Result<bool, ParseFault> {
-    Ok(namespace(alloc, characters)?.copy(alloc)?.as_str() == characters)
+fn is_namespace_copied(alloc: Global, characters: &str) -> bool {
+    let Ok(made) = namespace(alloc, characters) else {
+        return false;
+    };
+    let Ok(copied) = made.copy(alloc) else {
+        return false;
+    };
+    copied.as_str() == characters
 }
 
-fn is_prefix_copied(alloc: Global, characters: &str) -> Result<bool, ParseFault> {
-    Ok(prefix(alloc, characters)?.copy(alloc)?.as_str() == characters)
+fn is_word_of_prefix_copied(alloc: Global, characters: &str) -> bool {
+    let Ok(made) = prefix(alloc, characters) else {
+        return false;
+    };
+    is_prefix_copied(alloc, &made, &made, characters)
 }
 
 // A name of a text.
@@ -267,53 +311,66 @@ fn name_of_text(alloc: Global, characters: &str) -> Result<LocalName, ParseFault
     Ok(LocalName::from_text(Text::from_str(alloc, characters)?))
 }
 
+// The characters of a text.
+fn whole_text(alloc: Global, characters: &str) -> Result<String, ParseFault> {
+    Text::from_str(alloc, characters)?.into_string()
+}
+
+// Whether a name is this text once more, by the calls that take its characters.
+fn is_name_again(alloc: Global, name: &str, characters: &str) -> bool {
+    let Ok(again) = LocalName::from_str(alloc, name) else {
+        return false;
+    };
+    let Ok(whole) = whole_text(alloc, again.as_str()) else {
+        return false;
+    };
+    whole.as_str() == characters
+}
+
 // Whether a text is itself once more, by the calls that take it or its characters.
-fn is_same_again(alloc: Global, characters: &str) -> Result<bool, ParseFault> {
-    let again = LocalName::from_str(alloc, name_of_text(alloc, characters)?.as_str())?;
-    let whole = Text::from_str(alloc, again.as_str())?.into_string()?;
-    Ok(whole.as_str() == characters)
+fn is_same_again(alloc: Global, characters: &str) -> bool {
+    let Ok(name) = name_of_text(alloc, characters) else {
+        return false;
+    };
+    is_name_again(alloc, name.as_str(), characters)
+}
+
+// Whether a text is copied as each kind of word.
+fn is_copied(alloc: Global, characters: &str) -> bool {
+    is_text_copied(alloc, characters)
+        && is_local_name_copied(alloc, characters)
+        && is_namespace_copied(alloc, characters)
+        && is_word_of_prefix_copied(alloc, characters)
+        && is_same_again(alloc, characters)
 }
 
 #[test]
 fn copies_equal_their_source(rt: HostRuntime) {
     for &characters in WORDS {
-        assert!(rt;
-            is_text_copied(rt.alloc(), characters) == Ok(true),
-            "{characters}"
-        );
-        assert!(rt;
-            is_local_name_copied(rt.alloc(), characters) == Ok(true),
-            "{characters}"
-        );
-        assert!(rt;
-            is_namespace_copied(rt.alloc(), characters) == Ok(true),
-            "{characters}"
-        );
-        assert!(rt;
-            is_prefix_copied(rt.alloc(), characters) == Ok(true),
-            "{characters}"
-        );
-        assert!(rt;
-            is_same_again(rt.alloc(), characters) == Ok(true),
-            "{characters}"
-        );
+        assert!(rt; is_copied(rt.alloc(), characters), "{characters}");
     }
 }
 
-fn is_name_copied(alloc: Global, name: &QualName) -> Result<bool, ParseFault> {
-    Ok(name.copy(alloc)? == *name)
+// The name `xlink:href`.
+fn link(alloc: Global) -> Result<QualName, AllocError> {
+    let before = prefix(alloc, "xlink")?;
+    let ns = namespace(alloc, namespaces::XLINK)?;
+    Ok(QualName::new(Some(before), ns, local_name(alloc, "href")?))
 }
 
-fn is_link_copied(alloc: Global) -> Result<bool, ParseFault> {
-    is_name_copied(
-        alloc,
-        &name(alloc, Some("xlink"), namespaces::XLINK, "href")?,
-    )
+fn is_link_copied(alloc: Global) -> bool {
+    let Ok(name) = link(alloc) else {
+        return false;
+    };
+    let Ok(copied) = name.copy(alloc) else {
+        return false;
+    };
+    copied == name
 }
 
 #[test]
 fn copied_names_equal_their_source(rt: HostRuntime) {
-    assert!(rt; is_link_copied(rt.alloc()) == Ok(true));
+    assert!(rt; is_link_copied(rt.alloc()));
 }
 
 fn push_two(alloc: Global, list: &mut Attributes) -> Result<(), ParseFault> {
@@ -327,41 +384,50 @@ fn two_attributes(alloc: Global) -> Result<Attributes, ParseFault> {
     Ok(list)
 }
 
-fn are_copied(alloc: Global, list: &Attributes) -> Result<bool, ParseFault> {
-    Ok(list.copy(alloc)? == *list)
-}
-
-fn are_two_copied(alloc: Global) -> Result<bool, ParseFault> {
-    are_copied(alloc, &two_attributes(alloc)?)
+fn are_two_copied(alloc: Global) -> bool {
+    let Ok(list) = two_attributes(alloc) else {
+        return false;
+    };
+    let Ok(copied) = list.copy(alloc) else {
+        return false;
+    };
+    copied == list
 }
 
 #[test]
 fn copied_attributes_equal_their_source(rt: HostRuntime) {
-    assert!(rt; are_two_copied(rt.alloc()) == Ok(true));
+    assert!(rt; are_two_copied(rt.alloc()));
 }
 
 // Whether the two attributes without the second are the first alone.
-fn is_first_alone(alloc: Global) -> Result<bool, ParseFault> {
-    let mut vector = two_attributes(alloc)?.into_vec();
+fn is_first_alone(alloc: Global) -> bool {
+    let Ok(list) = two_attributes(alloc) else {
+        return false;
+    };
+    let mut vector = list.into_vec();
     drop(vector.pop());
-    let list = Attributes::from_vec(vector);
-    Ok(
-        list.len() == 1
-            && list.as_slice().iter().all(|attribute| {
-                attribute.name.local.as_str() == "id" && attribute.value.as_str() == "x"
-            }),
-    )
+    is_first(Attributes::from_vec(vector).as_slice())
+}
+
+fn is_first(attributes: &[Attribute]) -> bool {
+    match attributes {
+        [first] => first.name.local.as_str() == "id" && first.value.as_str() == "x",
+        _ => false,
+    }
 }
 
 #[test]
 fn attributes_are_a_vector(rt: HostRuntime) {
-    assert!(rt; is_first_alone(rt.alloc()) == Ok(true));
+    assert!(rt; is_first_alone(rt.alloc()));
 }
 
 // The place of a name in the table of known names.
 fn place_of(alloc: Global, characters: &str) -> Result<Option<usize>, ParseFault> {
     let made = LocalName::from_str(alloc, characters)?;
-    Ok(made.known().map(|known| usize::from(known.place)))
+    Ok(match made.known() {
+        Some(known) => Some(usize::from(known.place)),
+        None => None,
+    })
 }
 
 // Texts, and their places in the table of known names, if they are known.

@@ -2,7 +2,7 @@
 
 use html_queue::{BufferQueue, SetResult, SmallCharSet};
 use markup::ParseFault;
-use std::alloc::Global;
+use std::alloc::{AllocError, Global};
 
 const ANGLE: SmallCharSet = SmallCharSet { bits: 1 << 60 };
 
@@ -20,40 +20,46 @@ fn left(alloc: Global, queue: &mut BufferQueue) -> Result<String, ParseFault> {
     Ok(text)
 }
 
-fn queue_of(alloc: Global, text: &str) -> Result<BufferQueue, ParseFault> {
+fn queue_of(alloc: Global, text: &str) -> Option<BufferQueue> {
     let mut queue = BufferQueue::new();
-    queue.push_back(String::from_str(alloc, text)?)?;
-    Ok(queue)
+    if put_behind(alloc, &mut queue, text).is_err() {
+        return None;
+    }
+    Some(queue)
 }
 
 // What is put at the back and at the front of a queue.
 fn put_around(alloc: Global, queue: &mut BufferQueue) -> Result<(), ParseFault> {
-    queue.push_back(String::from_str(alloc, "\u{e9}\u{20ac}")?)?;
-    queue.push_front(String::from_str(alloc, "ab")?)?;
-    queue.push_back(String::from_str(alloc, "\u{1f600}z")?)
+    put_behind(alloc, queue, "\u{e9}\u{20ac}")?;
+    put_before(alloc, queue, "ab")?;
+    put_behind(alloc, queue, "\u{1f600}z")
 }
 
-// Whether a queue gives these characters, each seen before it is taken, and then no more.
+// Whether a queue gives this character, seen before it is taken.
+fn gives_one(queue: &mut BufferQueue, want: char) -> bool {
+    !queue.is_empty() && queue.peek() == Some(want) && queue.next() == Some(want)
+}
+
+// Whether a queue gives these characters, and then no more.
 fn gives(queue: &mut BufferQueue, wanted: &str) -> bool {
     for want in wanted.chars() {
-        if queue.is_empty() || queue.peek() != Some(want) || queue.next() != Some(want) {
+        if !gives_one(queue, want) {
             return false;
         }
     }
-    queue.is_empty() && queue.peek() == None && queue.next() == None
+    queue.is_empty() && queue.peek().is_none() && queue.next().is_none()
 }
 
 // Whether what is put around comes in order, from a queue that was empty.
-fn comes_in_order(alloc: Global) -> bool {
-    let mut queue = BufferQueue::new();
-    let was_empty = gives(&mut queue, "");
-    let put = put_around(alloc, &mut queue);
-    was_empty && put == Ok(()) && gives(&mut queue, "ab\u{e9}\u{20ac}\u{1f600}z")
+fn comes_in_order(alloc: Global, queue: &mut BufferQueue) -> bool {
+    gives(queue, "")
+        && put_around(alloc, queue).is_ok()
+        && gives(queue, "ab\u{e9}\u{20ac}\u{1f600}z")
 }
 
 #[test]
 fn takes_in_order(rt: HostRuntime) {
-    assert!(rt; comes_in_order(rt.alloc()));
+    assert!(rt; comes_in_order(rt.alloc(), &mut BufferQueue::new()));
 }
 
 /// What is put back, and what then stands in the queue `abc<d` of which `ab` was taken.
@@ -68,23 +74,27 @@ const PUT_BACK: &[(&str, &str)] = &[
 ];
 
 // Whether a queue holds this text. It is empty afterwards.
-fn holds(alloc: Global, queue: &mut BufferQueue, want: &str) -> Result<bool, ParseFault> {
-    Ok(left(alloc, queue)?.as_str() == want)
+fn holds(alloc: Global, queue: &mut BufferQueue, want: &str) -> bool {
+    let Ok(held) = left(alloc, queue) else {
+        return false;
+    };
+    held.as_str() == want
 }
 
-fn is_put_back(alloc: Global, front: &str, want: &str) -> Result<bool, ParseFault> {
-    let mut queue = queue_of(alloc, "abc<d")?;
-    let first = queue.next();
-    let second = queue.next();
-    let put = put_before(alloc, &mut queue, front);
-    let held = holds(alloc, &mut queue, want)?;
-    Ok(first == Some('a') && second == Some('b') && put == Ok(()) && held)
+fn is_put_back(alloc: Global, front: &str, want: &str) -> bool {
+    let Some(mut queue) = queue_of(alloc, "abc<d") else {
+        return false;
+    };
+    queue.next() == Some('a')
+        && queue.next() == Some('b')
+        && put_before(alloc, &mut queue, front).is_ok()
+        && holds(alloc, &mut queue, want)
 }
 
 #[test]
 fn puts_back_what_was_taken(rt: HostRuntime) {
     for &(front, want) in PUT_BACK {
-        assert!(rt; is_put_back(rt.alloc(), front, want) == Ok(true), "{front}");
+        assert!(rt; is_put_back(rt.alloc(), front, want), "{front}");
     }
 }
 
@@ -100,31 +110,43 @@ const TAKEN: &[(&str, &str, &str)] = &[
     ("\u{e9}\u{20ac}&", "the run \u{e9}\u{20ac}", "&"),
 ];
 
+/// What is taken in words.
+fn in_words(alloc: Global, piece: &SetResult) -> Result<String, AllocError> {
+    match piece {
+        SetResult::FromSet(c) => format!(in alloc; "the member {c}"),
+        SetResult::NotFromSet(run) => format!(in alloc; "the run {}", run.as_str()),
+    }
+}
+
 /// What is taken first of a queue, by the set of NUL, `&` and `<`, in words.
 fn taken(alloc: Global, queue: &mut BufferQueue) -> Result<String, ParseFault> {
     let set = SmallCharSet {
         bits: 1 << 60 | 1 << 38 | 1,
     };
-    Ok(match queue.pop_except_from(set)? {
-        None => String::from_str(alloc, "nothing")?,
-        Some(SetResult::FromSet(c)) => format!(in alloc; "the member {c}")?,
-        Some(SetResult::NotFromSet(run)) => format!(in alloc; "the run {}", run.as_str())?,
-    })
+    match queue.pop_except_from(set)? {
+        None => Ok(String::from_str(alloc, "nothing")?),
+        Some(piece) => Ok(in_words(alloc, &piece)?),
+    }
 }
 
-fn is_taken(alloc: Global, text: &str, want: &str, rest: &str) -> Result<bool, ParseFault> {
-    let mut queue = queue_of(alloc, text)?;
-    let first = taken(alloc, &mut queue)?;
-    Ok(first.as_str() == want && holds(alloc, &mut queue, rest)?)
+fn takes(alloc: Global, queue: &mut BufferQueue, want: &str) -> bool {
+    let Ok(first) = taken(alloc, queue) else {
+        return false;
+    };
+    first.as_str() == want
+}
+
+fn is_taken(alloc: Global, text: &str, want: &str, rest: &str) -> bool {
+    let Some(mut queue) = queue_of(alloc, text) else {
+        return false;
+    };
+    takes(alloc, &mut queue, want) && holds(alloc, &mut queue, rest)
 }
 
 #[test]
 fn takes_runs_and_members(rt: HostRuntime) {
     for &(text, want, rest) in TAKEN {
-        assert!(rt;
-            is_taken(rt.alloc(), text, want, rest) == Ok(true),
-            "{text}"
-        );
+        assert!(rt; is_taken(rt.alloc(), text, want, rest), "{text}");
     }
 }
 
@@ -139,34 +161,41 @@ const EATEN: &[(&str, Option<bool>, &str)] = &[
     ("x", Some(false), "x"),
 ];
 
-fn is_eaten(alloc: Global, text: &str, want: Option<bool>, rest: &str) -> Result<bool, ParseFault> {
-    let mut queue = queue_of(alloc, text)?;
-    let eaten = queue.eat("doctype", u8::eq_ignore_ascii_case);
-    Ok(eaten == want && holds(alloc, &mut queue, rest)?)
+fn is_eaten(alloc: Global, text: &str, want: Option<bool>, rest: &str) -> bool {
+    let Some(mut queue) = queue_of(alloc, text) else {
+        return false;
+    };
+    queue.eat("doctype", u8::eq_ignore_ascii_case) == want && holds(alloc, &mut queue, rest)
 }
 
 #[test]
 fn eats_a_whole_pattern_or_nothing(rt: HostRuntime) {
     for &(text, want, rest) in EATEN {
-        assert!(rt;
-            is_eaten(rt.alloc(), text, want, rest) == Ok(true),
-            "{text}"
-        );
+        assert!(rt; is_eaten(rt.alloc(), text, want, rest), "{text}");
     }
 }
 
-fn is_exchanged(alloc: Global) -> Result<bool, ParseFault> {
-    let mut second = queue_of(alloc, "two")?;
-    let mut first = queue_of(alloc, "one")?;
+// Whether the first queue gets what the second has, and then what it had itself.
+fn is_exchanged(alloc: Global, first: &mut BufferQueue, mut second: BufferQueue) -> bool {
     first.swap_with(&mut second);
-    let (begins, ends) = (first.peek(), second.peek());
+    let begins = first.peek() == Some('t') && second.peek() == Some('o');
     first.replace_with(second);
-    Ok(begins == Some('t') && ends == Some('o') && holds(alloc, &mut first, "one")?)
+    begins && holds(alloc, first, "one")
+}
+
+fn are_exchanged(alloc: Global) -> bool {
+    let Some(mut first) = queue_of(alloc, "one") else {
+        return false;
+    };
+    match queue_of(alloc, "two") {
+        Some(second) => is_exchanged(alloc, &mut first, second),
+        None => false,
+    }
 }
 
 #[test]
 fn exchanges_and_replaces(rt: HostRuntime) {
-    assert!(rt; is_exchanged(rt.alloc()) == Ok(true));
+    assert!(rt; are_exchanged(rt.alloc()));
 }
 
 // A text is put at the back, once more where memory was refused.
@@ -185,16 +214,27 @@ fn put_before(alloc: Global, queue: &mut BufferQueue, text: &str) -> Result<(), 
     queue.push_front(String::from_str(alloc, text)?)
 }
 
-// Whether the run before the first `<` is this one; it is asked for once more where memory was refused.
-fn begins_with_run(queue: &mut BufferQueue, want: &str) -> Result<bool, ParseFault> {
-    let run = match queue.pop_except_from(ANGLE) {
-        Ok(run) => run,
-        Err(_) => queue.pop_except_from(ANGLE)?,
-    };
-    Ok(match run {
-        Some(SetResult::NotFromSet(run)) => run.as_str() == want,
+// Whether a run is this one.
+fn is_run(piece: &SetResult, want: &str) -> bool {
+    match piece {
+        SetResult::NotFromSet(run) => run.as_str() == want,
+        SetResult::FromSet(_) => false,
+    }
+}
+
+// The run before the first `<`; it is asked for once more where memory was refused.
+fn first_run(queue: &mut BufferQueue) -> Result<Option<SetResult>, ParseFault> {
+    match queue.pop_except_from(ANGLE) {
+        Ok(run) => Ok(run),
+        Err(_) => queue.pop_except_from(ANGLE),
+    }
+}
+
+fn begins_with_run(queue: &mut BufferQueue, want: &str) -> bool {
+    match first_run(queue) {
+        Ok(Some(piece)) => is_run(&piece, want),
         _ => false,
-    })
+    }
 }
 
 fn push_three(alloc: Global, queue: &mut BufferQueue) -> Result<(), ParseFault> {
@@ -213,11 +253,14 @@ fn put_longer(alloc: Global, queue: &mut BufferQueue) -> Result<(), ParseFault> 
 
 /// Any one allocation may be refused: the call that asked for it changes nothing, so that it can be
 /// made again.
+fn stands_after_a_refusal(alloc: Global, queue: &mut BufferQueue) -> bool {
+    push_three(alloc, queue).is_ok()
+        && begins_with_run(queue, "ab\u{e9}")
+        && put_longer(alloc, queue).is_ok()
+        && gives(queue, "a longer text<cde")
+}
+
 #[test]
 fn stands_after_a_refused_growth(rt: HostRuntime) {
-    let mut queue = BufferQueue::new();
-    assert!(rt; push_three(rt.alloc(), &mut queue) == Ok(()));
-    assert!(rt; begins_with_run(&mut queue, "ab\u{e9}") == Ok(true));
-    assert!(rt; put_longer(rt.alloc(), &mut queue) == Ok(()));
-    assert!(rt; gives(&mut queue, "a longer text<cde"));
+    assert!(rt; stands_after_a_refusal(rt.alloc(), &mut BufferQueue::new()));
 }

@@ -18,61 +18,67 @@ fn table(alloc: Global, rows: &[Row]) -> Result<References, TableFault> {
     References::new(alloc, rows_of(alloc, rows)?)
 }
 
-fn fault_of(alloc: Global, rows: &[Row]) -> Option<TableFault> {
-    table(alloc, rows).err()
+fn has_fault(alloc: Global, rows: &[Row], want: TableFault) -> bool {
+    match table(alloc, rows) {
+        Ok(_) => false,
+        Err(fault) => fault == want,
+    }
 }
 
 fn lookups(alloc: Global) -> Result<References, TableFault> {
     table(alloc, &[("not", 0xAC, None), ("notin;", 0x2209, None)])
 }
 
+type FaultyRows<'a> = (&'a [Row<'a>], TableFault);
+
+const FAULTY: &[FaultyRows] = &[
+    (
+        &[("amp;", 0x26, None), ("a;b", 0x41, None)],
+        TableFault::BadName(2),
+    ),
+    (
+        &[("x", 0x41, None), ("x", 0, None)],
+        TableFault::BadValue(2),
+    ),
+    (
+        &[("x", 0x41, None), ("x", 0x42, None)],
+        TableFault::Duplicate(2),
+    ),
+    (&[("", 0x41, None)], TableFault::BadName(1)),
+    (&[(";", 0x41, None)], TableFault::BadName(1)),
+    (&[("a;;", 0x41, None)], TableFault::BadName(1)),
+    (&[("a b", 0x41, None)], TableFault::BadName(1)),
+    (&[("é", 0x41, None)], TableFault::BadName(1)),
+    (&[("&amp", 0x26, None)], TableFault::BadName(1)),
+    (&[("a;b", 0, None)], TableFault::BadName(1)),
+    (
+        &[("x", 0x41, None), ("x;;", 0, None), ("x", 0x41, None)],
+        TableFault::BadName(2),
+    ),
+    (
+        &[("x", 0, None), ("a;b", 0x41, None)],
+        TableFault::BadValue(1),
+    ),
+    (&[("x", 0xD800, None)], TableFault::BadValue(1)),
+    (&[("x", 0xDFFF, None)], TableFault::BadValue(1)),
+    (&[("x", 0x11_0000, None)], TableFault::BadValue(1)),
+    (&[("x", 0x41, Some(0))], TableFault::BadValue(1)),
+    (&[("x", 0x41, Some(0xD900))], TableFault::BadValue(1)),
+    (
+        &[
+            ("y", 0x41, None),
+            ("x", 0x41, None),
+            ("x", 0x42, None),
+            ("y", 0x42, None),
+        ],
+        TableFault::Duplicate(3),
+    ),
+];
+
 #[test]
 fn the_first_faulty_row_is_told(rt: HostRuntime) {
-    let cases: &[(&[Row], TableFault)] = &[
-        (
-            &[("amp;", 0x26, None), ("a;b", 0x41, None)],
-            TableFault::BadName(2),
-        ),
-        (
-            &[("x", 0x41, None), ("x", 0, None)],
-            TableFault::BadValue(2),
-        ),
-        (
-            &[("x", 0x41, None), ("x", 0x42, None)],
-            TableFault::Duplicate(2),
-        ),
-        (&[("", 0x41, None)], TableFault::BadName(1)),
-        (&[(";", 0x41, None)], TableFault::BadName(1)),
-        (&[("a;;", 0x41, None)], TableFault::BadName(1)),
-        (&[("a b", 0x41, None)], TableFault::BadName(1)),
-        (&[("é", 0x41, None)], TableFault::BadName(1)),
-        (&[("&amp", 0x26, None)], TableFault::BadName(1)),
-        (&[("a;b", 0, None)], TableFault::BadName(1)),
-        (
-            &[("x", 0x41, None), ("x;;", 0, None), ("x", 0x41, None)],
-            TableFault::BadName(2),
-        ),
-        (
-            &[("x", 0, None), ("a;b", 0x41, None)],
-            TableFault::BadValue(1),
-        ),
-        (&[("x", 0xD800, None)], TableFault::BadValue(1)),
-        (&[("x", 0xDFFF, None)], TableFault::BadValue(1)),
-        (&[("x", 0x11_0000, None)], TableFault::BadValue(1)),
-        (&[("x", 0x41, Some(0))], TableFault::BadValue(1)),
-        (&[("x", 0x41, Some(0xD900))], TableFault::BadValue(1)),
-        (
-            &[
-                ("y", 0x41, None),
-                ("x", 0x41, None),
-                ("x", 0x42, None),
-                ("y", 0x42, None),
-            ],
-            TableFault::Duplicate(3),
-        ),
-    ];
-    for &(rows, fault) in cases {
-        assert!(rt; fault_of(rt.alloc(), rows) == Some(fault));
+    for &(rows, fault) in FAULTY {
+        assert!(rt; has_fault(rt.alloc(), rows, fault));
     }
 }
 
@@ -90,30 +96,36 @@ fn is_kept(found: &ReferenceRow, row: &Row) -> bool {
 }
 
 // Whether a table of rows has them, and so does its copy.
-fn is_table_of(alloc: Global, rows: &[Row]) -> Result<bool, TableFault> {
-    let made = table(alloc, rows)?;
-    Ok(are_kept(made.rows(), rows) && is_copy_of(alloc, &made, rows)?)
+fn is_table_of(alloc: Global, rows: &[Row]) -> bool {
+    let Ok(made) = table(alloc, rows) else {
+        return false;
+    };
+    are_kept(made.rows(), rows) && is_copy_of(alloc, &made, rows)
 }
 
-fn is_copy_of(alloc: Global, made: &References, rows: &[Row]) -> Result<bool, TableFault> {
-    Ok(are_kept(made.copy(alloc)?.rows(), rows))
+fn is_copy_of(alloc: Global, made: &References, rows: &[Row]) -> bool {
+    let Ok(copied) = made.copy(alloc) else {
+        return false;
+    };
+    are_kept(copied.rows(), rows)
 }
+
+const KEPT: &[&[Row]] = &[
+    &[],
+    &[("x;", 0x41, None), ("x", 0x42, None), ("X", 0x43, None)],
+    &[
+        ("b", 0xD7FF, None),
+        ("a", 0xE000, None),
+        ("c", 0x10_FFFF, None),
+    ],
+    &[("0;", 1, Some(2))],
+    &[("z9Z", 0x3C, Some(0x20D2)), ("q", 0x10000, None)],
+];
 
 #[test]
 fn checked_tables_keep_their_rows(rt: HostRuntime) {
-    let cases: &[&[Row]] = &[
-        &[],
-        &[("x;", 0x41, None), ("x", 0x42, None), ("X", 0x43, None)],
-        &[
-            ("b", 0xD7FF, None),
-            ("a", 0xE000, None),
-            ("c", 0x10_FFFF, None),
-        ],
-        &[("0;", 1, Some(2))],
-        &[("z9Z", 0x3C, Some(0x20D2)), ("q", 0x10000, None)],
-    ];
-    for &rows in cases {
-        assert!(rt; is_table_of(rt.alloc(), rows) == Ok(true));
+    for &rows in KEPT {
+        assert!(rt; is_table_of(rt.alloc(), rows));
     }
 }
 
@@ -125,36 +137,50 @@ const FIVE: &[Row] = &[
     ("nbsp;", 0xA0, None),
 ];
 
+// Whether a table finds each of the five rows by its name.
+fn finds_the_five(table: &References) -> bool {
+    for row in FIVE {
+        if !finds(table, row) {
+            return false;
+        }
+    }
+    true
+}
+
+fn finds(table: &References, row: &Row) -> bool {
+    match table.longest(row.0) {
+        Some(found) => is_kept(found, row),
+        None => false,
+    }
+}
+
 // Whether the table of five finds each row by its name, and has no more.
-fn are_the_five(alloc: Global) -> Result<bool, TableFault> {
-    let five = References::five(alloc)?;
-    Ok(
-        five.rows().len() == FIVE.len()
-            && FIVE.iter().all(|row| match five.longest(row.0) {
-                Some(found) => is_kept(found, row),
-                None => false,
-            }),
-    )
+fn are_the_five(alloc: Global) -> bool {
+    let Ok(five) = References::five(alloc) else {
+        return false;
+    };
+    five.rows().len() == FIVE.len() && finds_the_five(&five)
 }
 
 #[test]
 fn the_five_stand_for_their_characters(rt: HostRuntime) {
-    assert!(rt; are_the_five(rt.alloc()) == Ok(true));
+    assert!(rt; are_the_five(rt.alloc()));
 }
 
-// How many rows a table has that is copied.
-fn copied_rows(alloc: Global) -> Result<usize, TableFault> {
-    Ok(lookups(alloc)?.copy(alloc)?.rows().len())
+// Whether a table has so many rows, or memory for it was refused.
+fn has_rows_or_no_memory(table: Result<References, TableFault>, count: usize) -> bool {
+    match table {
+        Ok(table) => table.rows().len() == count,
+        Err(fault) => fault == TableFault::Memory,
+    }
 }
 
-fn rows_of_five(alloc: Global) -> Result<usize, TableFault> {
-    Ok(References::five(alloc)?.rows().len())
+fn copied(alloc: Global) -> Result<References, TableFault> {
+    lookups(alloc)?.copy(alloc)
 }
 
 #[test]
 fn refused_memory_is_told(rt: HostRuntime) {
-    let rows = copied_rows(rt.alloc());
-    assert!(rt; rows == Ok(2) || rows == Err(TableFault::Memory));
-    let rows = rows_of_five(rt.alloc());
-    assert!(rt; rows == Ok(5) || rows == Err(TableFault::Memory));
+    assert!(rt; has_rows_or_no_memory(copied(rt.alloc()), 2));
+    assert!(rt; has_rows_or_no_memory(References::five(rt.alloc()), 5));
 }

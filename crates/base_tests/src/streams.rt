@@ -21,12 +21,8 @@ fn write_once<T: Target>(target: &mut T, bytes: &[u8]) -> Result<usize, DeviceFa
     target.write_some(bytes)
 }
 
-// Five bytes.
-fn five_bytes(alloc: Global) -> Result<Vec<u8>, ReadFault> {
-    match Vec::from_slice(alloc, b"abcde") {
-        Ok(bytes) => Ok(bytes),
-        Err(_) => Err(ReadFault::Memory),
-    }
+fn five_bytes(alloc: Global) -> Result<Vec<u8>, AllocError> {
+    Vec::from_slice(alloc, b"abcde")
 }
 
 // The most bytes a call, and what four reads of "abcde" into a buffer of three bytes leave there.
@@ -42,71 +38,96 @@ fn reads(reader: &mut MemReader, given: &[u8; 3]) -> bool {
     read_once(reader, &mut buffer).is_ok() && buffer == *given
 }
 
-fn reads_each(alloc: Global, piece: usize, wanted: &[&[u8; 3]; 4]) -> Result<bool, ReadFault>
+fn reads_each(alloc: Global, piece: usize, wanted: &[&[u8; 3]; 4]) -> bool
     requires { 0 < piece }
 {
-    let mut reader = MemReader::new(five_bytes(alloc)?, piece, None);
+    let Ok(bytes) = five_bytes(alloc) else {
+        return false;
+    };
+    are_read(&mut MemReader::new(bytes, piece, None), wanted)
+}
+
+// Whether reads leave these.
+fn are_read(reader: &mut MemReader, wanted: &[&[u8; 3]; 4]) -> bool {
     for given in wanted {
-        if !reads(&mut reader, *given) {
-            return Ok(false);
+        if !reads(reader, *given) {
+            return false;
         }
     }
-    Ok(true)
+    true
 }
 
 #[test]
 fn reads_once_a_call(rt: HostRuntime) {
     for (piece, wanted) in READS {
         assert!(rt; *piece > 0);
-        assert!(rt;
-            reads_each(rt.alloc(), *piece, wanted) == Ok(true),
-            "{piece}"
-        );
+        assert!(rt; reads_each(rt.alloc(), *piece, wanted), "{piece}");
     }
 }
 
-fn reads_nothing(alloc: Global) -> Result<bool, ReadFault> {
-    let mut reader = MemReader::new(five_bytes(alloc)?, 1, Some(2));
-    let first = read_once(&mut reader, &mut []);
-    let second = read_once(&mut reader, &mut []);
-    let third = read_once(&mut reader, &mut [0; 2]);
-    Ok(first == Ok(0) && second == FAULT && third == Ok(1))
+fn reads_nothing(reader: &mut MemReader) -> bool {
+    read_once(reader, &mut []) == Ok(0)
+        && read_once(reader, &mut []) == FAULT
+        && read_once(reader, &mut [0; 2]) == Ok(1)
+}
+
+fn five_are_not_read(alloc: Global) -> bool {
+    let Ok(bytes) = five_bytes(alloc) else {
+        return false;
+    };
+    reads_nothing(&mut MemReader::new(bytes, 1, Some(2)))
 }
 
 #[test]
 fn reads_into_no_room(rt: HostRuntime) {
-    assert!(rt; reads_nothing(rt.alloc()) == Ok(true));
+    assert!(rt; five_are_not_read(rt.alloc()));
 }
 
 // The call that fails, and what the calls behind it give: as if it had not been made.
 const FAILED: &[(u64, &str)] = &[(1, "abcde"), (2, "cde"), (3, "e"), (4, "")];
 
 // Whether the rest of a reader is this.
-fn has_left(alloc: Global, reader: &mut MemReader, rest: &str) -> Result<bool, ReadFault> {
-    Ok(read_whole(alloc, reader)?.as_slice() == rest.as_bytes())
+fn has_left(alloc: Global, reader: &mut MemReader, rest: &str) -> bool {
+    let Ok(bytes) = read_whole(alloc, reader) else {
+        return false;
+    };
+    bytes.as_slice() == rest.as_bytes()
 }
 
-fn fails_once(alloc: Global, fail_at: u64, rest: &str) -> Result<bool, ReadFault> {
-    let mut reader = MemReader::new(five_bytes(alloc)?, 2, Some(fail_at));
-    let failed = has_left(alloc, &mut reader, "");
-    Ok(failed == Err(ReadFault::Read) && has_left(alloc, &mut reader, rest)?)
+// Whether a reader refuses to read.
+fn fails(alloc: Global, reader: &mut MemReader) -> bool {
+    matches!(read_whole(alloc, reader), Err(ReadFault::Read))
 }
 
-fn never_fails(alloc: Global, fail_at: Option<u64>) -> Result<bool, ReadFault> {
-    let mut reader = MemReader::new(five_bytes(alloc)?, 2, fail_at);
-    has_left(alloc, &mut reader, "abcde")
+fn fails_once(alloc: Global, fail_at: u64, rest: &str) -> bool {
+    let Ok(bytes) = five_bytes(alloc) else {
+        return false;
+    };
+    let mut reader = MemReader::new(bytes, 2, Some(fail_at));
+    fails(alloc, &mut reader) && has_left(alloc, &mut reader, rest)
 }
+
+fn never_fails(alloc: Global, fail_at: Option<u64>) -> bool {
+    let Ok(bytes) = five_bytes(alloc) else {
+        return false;
+    };
+    has_left(alloc, &mut MemReader::new(bytes, 2, fail_at), "abcde")
+}
+
+// Calls that no reading of five bytes comes to.
+const NOT_REACHED: &[Option<u64>] = &[None, Some(0), Some(5)];
 
 #[test]
 fn reads_fail_once(rt: HostRuntime) {
     for &(fail_at, rest) in FAILED {
-        assert!(rt;
-            fails_once(rt.alloc(), fail_at, rest) == Ok(true),
-            "{fail_at}"
-        );
+        assert!(rt; fails_once(rt.alloc(), fail_at, rest), "{fail_at}");
     }
-    for fail_at in [None, Some(0), Some(5)] {
-        assert!(rt; never_fails(rt.alloc(), fail_at) == Ok(true));
+}
+
+#[test]
+fn reads_never_fail(rt: HostRuntime) {
+    for &fail_at in NOT_REACHED {
+        assert!(rt; never_fails(rt.alloc(), fail_at));
     }
 }
 
@@ -141,23 +162,21 @@ fn writes_each(writer: &mut MemWriter, answers: &[Result<usize, DeviceFault>; 3]
     true
 }
 
-fn is_written(
-    mut writer: MemWriter,
-    answers: &[Result<usize, DeviceFault>; 3],
-    held: &str,
-) -> bool {
-    writes_each(&mut writer, answers) && writer.written() == held.as_bytes()
+fn is_written(alloc: Global, row: &Writes) -> bool
+    requires { 0 < row.now.0.1 }
+{
+    let &((room, piece), (fail_at, zero), answers, held) = row;
+    let Ok(mut writer) = MemWriter::new(alloc, room, piece, fail_at, zero) else {
+        return false;
+    };
+    writes_each(&mut writer, &answers) && writer.written() == held.as_bytes()
 }
 
 #[test]
 fn writes_once_a_call(rt: HostRuntime) {
-    for ((room, piece), (fail_at, zero), answers, held) in WRITES {
-        assert!(rt; *piece > 0);
-        let made = MemWriter::new(rt.alloc(), *room, *piece, *fail_at, *zero);
-        assert!(rt;
-            made.is_ok_and(|writer| is_written(writer, answers, held)),
-            "{held}"
-        );
+    for row in WRITES {
+        assert!(rt; row.0.1 > 0);
+        assert!(rt; is_written(rt.alloc(), row), "{}", row.3);
     }
 }
 
@@ -171,18 +190,19 @@ const EMPTY: &[Empty] = &[
     (1, Some(1), false, FAULT),
 ];
 
-fn is_nothing_written(alloc: Global, row: &Empty) -> Result<bool, AllocError> {
-    let mut writer = MemWriter::new(alloc, row.0, 1, row.1, row.2)?;
-    let first = write_once(&mut writer, b"");
-    let whole = write_whole(&mut writer, b"");
-    let one = write_once(&mut writer, b"a");
-    Ok(first == row.3 && whole.is_ok() && one.is_ok() == (row.0 == 1))
+fn is_nothing_written(alloc: Global, row: &Empty) -> bool {
+    let Ok(mut writer) = MemWriter::new(alloc, row.0, 1, row.1, row.2) else {
+        return false;
+    };
+    write_once(&mut writer, b"") == row.3
+        && write_whole(&mut writer, b"").is_ok()
+        && write_once(&mut writer, b"a").is_ok() == (row.0 == 1)
 }
 
 #[test]
 fn writes_nothing(rt: HostRuntime) {
     for row in EMPTY {
-        assert!(rt; is_nothing_written(rt.alloc(), row) == Ok(true));
+        assert!(rt; is_nothing_written(rt.alloc(), row));
     }
 }
 
@@ -200,48 +220,64 @@ fn is_whole_written(
     alloc: Global,
     &(room, fail_at, held): &(usize, u64, &str),
     zero: bool,
-) -> Result<bool, AllocError> {
-    let mut writer = MemWriter::new(alloc, room, 2, Some(fail_at), zero)?;
-    let written = write_whole(&mut writer, b"abcde");
-    Ok(written.is_ok() == (held.len() == 5) && writer.written() == held.as_bytes())
+) -> bool {
+    let Ok(mut writer) = MemWriter::new(alloc, room, 2, Some(fail_at), zero) else {
+        return false;
+    };
+    write_whole(&mut writer, b"abcde").is_ok() == (held.len() == 5)
+        && writer.written() == held.as_bytes()
 }
 
 #[test]
 fn writes_the_whole(rt: HostRuntime) {
     for row in WHOLE {
-        assert!(rt; is_whole_written(rt.alloc(), row, false) == Ok(true));
-        assert!(rt; is_whole_written(rt.alloc(), row, true) == Ok(true));
+        assert!(rt; is_whole_written(rt.alloc(), row, false));
+        assert!(rt; is_whole_written(rt.alloc(), row, true));
     }
 }
 
-fn is_lent(alloc: Global) -> Result<bool, AllocError> {
-    let mut writer = MemWriter::new(alloc, 9, 2, None, false)?;
-    let once = put_by_loan(&mut writer, b"abc");
-    let twice = put_by_loan(&mut &mut writer, b"def");
-    let mut keeper = Keeper { inner: writer };
-    let kept = keeper.put(b"ghi");
-    let full = keeper.put(b"j");
-    let written = keeper.inner.written() == b"abcdefghi".as_slice();
-    Ok(once.is_ok() && twice.is_ok() && kept.is_ok() && full.is_err() && written)
+fn is_put(writer: &mut MemWriter) -> bool {
+    put_by_loan(&mut *writer, b"abc").is_ok() && put_by_loan(&mut &mut *writer, b"def").is_ok()
+}
+
+fn is_kept(keeper: &mut Keeper<MemWriter>) -> bool {
+    keeper.put(b"ghi").is_ok()
+        && keeper.put(b"j").is_err()
+        && keeper.inner.written() == b"abcdefghi".as_slice()
+}
+
+fn is_lent(alloc: Global) -> bool {
+    let Ok(mut writer) = MemWriter::new(alloc, 9, 2, None, false) else {
+        return false;
+    };
+    is_put(&mut writer) && is_kept(&mut Keeper { inner: writer })
 }
 
 #[test]
 fn writes_through_loans(rt: HostRuntime) {
-    assert!(rt; is_lent(rt.alloc()) == Ok(true));
+    assert!(rt; is_lent(rt.alloc()));
 }
 
-fn is_wrapped_read(alloc: Global) -> Result<bool, ReadFault> {
+// Whether the rest of a source is this.
+fn is_rest(alloc: Global, source: &mut StdSource<Cursor<&[u8]>>, rest: &[u8]) -> bool {
+    let Ok(bytes) = read_whole(alloc, &mut &mut *source) else {
+        return false;
+    };
+    bytes.as_slice() == rest
+}
+
+fn is_wrapped_read(alloc: Global) -> bool {
     let mut source = StdSource::new(Cursor::new(b"abcde".as_slice()));
     let mut buffer = [0; 2];
-    let first = read_once(&mut source, &mut buffer);
-    let rest = read_whole(alloc, &mut &mut source)?;
-    let is_right = first == Ok(2) && buffer == *b"ab" && rest.as_slice() == b"cde".as_slice();
-    Ok(is_right && source.into_inner().position() == 5)
+    read_once(&mut source, &mut buffer) == Ok(2)
+        && buffer == *b"ab"
+        && is_rest(alloc, &mut source, b"cde")
+        && source.into_inner().position() == 5
 }
 
 #[test]
 fn wraps_readers(rt: HostRuntime) {
-    assert!(rt; is_wrapped_read(rt.alloc()) == Ok(true));
+    assert!(rt; is_wrapped_read(rt.alloc()));
 }
 
 fn is_wrapped_write() -> bool {

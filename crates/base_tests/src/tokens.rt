@@ -8,10 +8,6 @@ use html_tokens::{Doctype, ReferenceRow, TableFault, TokenizerOpts};
 use markup::{ParseFault, Text};
 use std::alloc::Global;
 
-fn text(alloc: Global, characters: &str) -> Result<Text, ParseFault> {
-    Ok(Text::new(String::from_str(alloc, characters)?))
-}
-
 #[test]
 fn options_are_defaulted(rt: HostRuntime) {
     let options = TokenizerOpts::default();
@@ -19,73 +15,96 @@ fn options_are_defaulted(rt: HostRuntime) {
     assert!(rt; options.initial_state == None && options.last_start_tag_name.is_none());
 }
 
-fn is_copied(alloc: Global, options: &TokenizerOpts) -> Result<bool, ParseFault> {
-    let copied = options.copy(alloc)?;
-    Ok(
-        copied.exact_errors
-            && !copied.discard_bom
-            && copied.initial_state == Some(State::Plaintext)
-            && matches!(&copied.last_start_tag_name, Some(name) if name.as_str() == "title"),
-    )
+// Whether these are the options below.
+fn are_of_plaintext(options: &TokenizerOpts) -> bool {
+    let is_title = match &options.last_start_tag_name {
+        Some(name) => name.as_str() == "title",
+        None => false,
+    };
+    is_title
+        && options.exact_errors
+        && !options.discard_bom
+        && options.initial_state == Some(State::Plaintext)
 }
 
-fn are_options_copied(alloc: Global) -> Result<bool, ParseFault> {
+fn is_copied(alloc: Global, options: &TokenizerOpts) -> bool {
+    let Ok(copied) = options.copy(alloc) else {
+        return false;
+    };
+    are_of_plaintext(&copied)
+}
+
+fn are_options_copied(alloc: Global) -> bool {
+    let Ok(title) = Text::from_str(alloc, "title") else {
+        return false;
+    };
     let options = TokenizerOpts {
         exact_errors: true,
         discard_bom: false,
         initial_state: Some(State::Plaintext),
-        last_start_tag_name: Some(text(alloc, "title")?),
+        last_start_tag_name: Some(title),
     };
     is_copied(alloc, &options)
 }
 
 #[test]
 fn options_are_copied(rt: HostRuntime) {
-    assert!(rt; are_options_copied(rt.alloc()) == Ok(true));
+    assert!(rt; are_options_copied(rt.alloc()));
 }
 
 // Whether the copy of a doctype equals it, and another doctype does not.
-fn is_doctype_copied(
-    alloc: Global,
-    doctype: &Doctype,
-    other: &Doctype,
-) -> Result<bool, ParseFault> {
-    let copied = doctype.copy(alloc)?;
-    Ok(copied == *doctype && copied != *other)
+fn is_doctype_copied(alloc: Global, doctype: &Doctype, other: &Doctype) -> bool {
+    let Ok(copied) = doctype.copy(alloc) else {
+        return false;
+    };
+    copied == *doctype && copied != *other
 }
 
 fn legacy(alloc: Global) -> Result<Doctype, ParseFault> {
-    let name = text(alloc, "html")?;
+    let name = Text::from_str(alloc, "html")?;
+    let system_id = Text::from_str(alloc, "about:legacy-compat")?;
     Ok(Doctype {
         name: Some(name),
         public_id: None,
-        system_id: Some(text(alloc, "about:legacy-compat")?),
+        system_id: Some(system_id),
         force_quirks: true,
     })
 }
 
-fn are_doctypes_copied(alloc: Global) -> Result<bool, ParseFault> {
-    let doctype = legacy(alloc)?;
-    let empty = Doctype::default();
-    Ok(is_doctype_copied(alloc, &doctype, &empty)? && is_doctype_copied(alloc, &empty, &doctype)?)
+fn are_doctypes_copied(alloc: Global) -> bool {
+    let Ok(doctype) = legacy(alloc) else {
+        return false;
+    };
+    are_both_copied(alloc, &doctype, &Doctype::default())
+}
+
+fn are_both_copied(alloc: Global, doctype: &Doctype, empty: &Doctype) -> bool {
+    is_doctype_copied(alloc, doctype, empty) && is_doctype_copied(alloc, empty, doctype)
 }
 
 #[test]
 fn doctypes_are_copied(rt: HostRuntime) {
-    assert!(rt; are_doctypes_copied(rt.alloc()) == Ok(true));
+    assert!(rt; are_doctypes_copied(rt.alloc()));
 }
 
-fn is_row_copied(alloc: Global) -> Result<bool, TableFault> {
+fn not_equal_tilde(alloc: Global) -> Result<ReferenceRow, TableFault> {
     let name = String::from_str(alloc, "NotEqualTilde;")?;
-    let copied = ReferenceRow::new(name, 0x2242, Some(0x338)).copy(alloc)?;
-    Ok(
-        copied.name.as_str() == "NotEqualTilde;"
-            && copied.first == 0x2242
-            && copied.second == Some(0x338),
-    )
+    Ok(ReferenceRow::new(name, 0x2242, Some(0x338)))
+}
+
+fn is_row_copied(alloc: Global) -> bool {
+    let Ok(row) = not_equal_tilde(alloc) else {
+        return false;
+    };
+    let Ok(copied) = row.copy(alloc) else {
+        return false;
+    };
+    copied.name.as_str() == "NotEqualTilde;"
+        && copied.first == 0x2242
+        && copied.second == Some(0x338)
 }
 
 #[test]
 fn rows_are_copied(rt: HostRuntime) {
-    assert!(rt; is_row_copied(rt.alloc()) == Ok(true));
+    assert!(rt; is_row_copied(rt.alloc()));
 }

@@ -19,7 +19,7 @@ const DEFAULT_BYTES: usize = 1_000_000;
 
 fn main(rt: HostRuntime) -> Result<()> {
     let bytes = wanted_bytes(&rt)?;
-    for shape in SHAPES {
+    for &shape in SHAPES {
         measure(&rt, rt.alloc(), shape, bytes)?;
     }
     Ok(())

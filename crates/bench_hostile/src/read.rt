@@ -29,6 +29,13 @@ fn feed(
     Ok(())
 }
 
+/// A piece of one character.
+fn piece_of(alloc: Global, c: char) -> Result<String, ParseFault> {
+    let mut piece = String::new(alloc);
+    piece.push(c)?;
+    Ok(piece)
+}
+
 /// Reads a text character by character.
 fn feed_cut(
     alloc: Global,
@@ -40,12 +47,28 @@ fn feed_cut(
     ensures { IsReadyIf pausing (refusal_of tokenizer.new) tokenizer.new }
 {
     for c in text.chars() {
-        let mut piece = String::new(alloc);
-        piece.push(c)?;
-        input.push_back(piece)?;
+        input.push_back(piece_of(alloc, c)?)?;
         feed(alloc, tokenizer, input)?;
     }
     Ok(())
+}
+
+/// Reads a text of a shape.
+fn feed_text(
+    alloc: Global,
+    tokenizer: &mut Tokenizer<Pausing>,
+    input: &mut BufferQueue,
+    text: String,
+    shape: Shape,
+) -> Result<(), ParseFault>
+    requires { IsReadyIf pausing (refusal_of tokenizer.old) tokenizer.old }
+    ensures { IsReadyIf pausing (refusal_of tokenizer.new) tokenizer.new }
+{
+    if shape.is_cut() {
+        return feed_cut(alloc, tokenizer, input, text.as_str());
+    }
+    input.push_back(text)?;
+    feed(alloc, tokenizer, input)
 }
 
 /// Reads a text of a shape, and its end.
@@ -57,13 +80,7 @@ fn feed_shape(
 ) -> Result<(), ParseFault>
     requires { IsReadyIf pausing (refusal_of tokenizer.old) tokenizer.old }
 {
-    let mut input = BufferQueue::new();
-    if shape.is_cut() {
-        feed_cut(alloc, tokenizer, &mut input, text.as_str())?;
-    } else {
-        input.push_back(text)?;
-        feed(alloc, tokenizer, &mut input)?;
-    }
+    feed_text(alloc, tokenizer, &mut BufferQueue::new(), text, shape)?;
     tokenizer.end()
 }
 

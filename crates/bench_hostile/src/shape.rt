@@ -24,7 +24,7 @@ pub(crate) enum Shape {
     ClosedTags,
 }
 
-pub(crate) const SHAPES: [Shape; 16] = [
+pub(crate) const SHAPES: &[Shape] = &[
     Shape::LessThanSigns,
     Shape::Ampersands,
     Shape::LongReference,
@@ -79,7 +79,7 @@ impl Shape {
             Shape::CdataBrackets => ("<![CDATA[", "]"),
             Shape::Nulls => ("", "\0"),
             Shape::LineEnds => ("", "\r\n"),
-            Shape::LongLastStartTag => ("", "</b>"),
+            Shape::LongLastStartTag => ("<", "a"),
             Shape::ScriptEnds => ("<script>", "</"),
             Shape::WrittenAtPauses => ("", "<b></script>"),
             Shape::LongDoctype => ("<!DOCTYPE html PUBLIC \"", "p"),
@@ -89,13 +89,24 @@ impl Shape {
 
     /// A text of this kind, of so many bytes or a few more.
     pub(crate) fn text(self, alloc: Global, bytes: usize) -> Result<String, ParseFault> {
+        let (front, unit) = self.parts();
+        let mut text = String::from_str(alloc, front)?;
+        self.push_rest(alloc, &mut text, unit, bytes)?;
+        Ok(text)
+    }
+
+    // Puts behind a front what repeats this unit.
+    fn push_rest(
+        self,
+        alloc: Global,
+        text: &mut String,
+        unit: &str,
+        bytes: usize,
+    ) -> Result<(), ParseFault> {
         match self {
-            Shape::ManyAttributes => many_attributes(alloc, bytes),
-            Shape::LongLastStartTag => long_last_start_tag(alloc, bytes),
-            _ => {
-                let (front, unit) = self.parts();
-                repeated(alloc, front, unit, bytes)
-            }
+            Shape::ManyAttributes => push_attributes(alloc, text, bytes),
+            Shape::LongLastStartTag => push_tags(text, unit, bytes),
+            _ => push_repeated(text, unit, bytes),
         }
     }
 
@@ -105,39 +116,39 @@ impl Shape {
     }
 }
 
-// A front, and behind it a unit until there are so many bytes.
-fn repeated(alloc: Global, front: &str, unit: &str, bytes: usize) -> Result<String, ParseFault> {
-    let mut text = String::from_str(alloc, front)?;
+// Puts a unit behind a text until that has so many bytes.
+fn push_repeated(text: &mut String, unit: &str, bytes: usize) -> Result<(), ParseFault> {
     for _unit in 0..bytes {
         if text.len() >= bytes {
             break;
         }
         text.push_str(unit)?;
     }
-    Ok(text)
+    Ok(())
 }
 
-// A tag with as many attributes, of different names, as have so many bytes.
-fn many_attributes(alloc: Global, bytes: usize) -> Result<String, ParseFault> {
-    let mut text = String::from_str(alloc, "<a")?;
-    for i in 0..bytes {
+fn push_attribute(alloc: Global, text: &mut String, number: usize) -> Result<(), ParseFault> {
+    let attribute = format!(in alloc; " a{number}")?;
+    text.push_str(attribute.as_str())?;
+    Ok(())
+}
+
+// Makes of a front a tag with as many attributes, of different names, as have so many bytes.
+fn push_attributes(alloc: Global, text: &mut String, bytes: usize) -> Result<(), ParseFault> {
+    for number in 0..bytes {
         if text.len() >= bytes {
             break;
         }
-        let Ok(attribute) = format!(in alloc; " a{i}") else {
-            return Err(ParseFault::Memory);
-        };
-        text.push_str(attribute.as_str())?;
+        push_attribute(alloc, text, number)?;
     }
     text.push_str(">")?;
-    Ok(text)
+    Ok(())
 }
 
-// A start tag of half so many bytes, and end tags.
-fn long_last_start_tag(alloc: Global, bytes: usize) -> Result<String, ParseFault> {
-    let mut text = repeated(alloc, "<", "a", bytes / 2)?;
+// Makes of a front a start tag of half so many bytes, and puts end tags behind it.
+fn push_tags(text: &mut String, unit: &str, bytes: usize) -> Result<(), ParseFault> {
+    push_repeated(text, unit, bytes / 2)?;
     text.push_str(">")?;
-    let ends = repeated(alloc, "", "</b>", bytes / 2)?;
-    text.push_str(ends.as_str())?;
-    Ok(text)
+    let whole = text.len().saturating_add(bytes / 2);
+    push_repeated(text, "</b>", whole)
 }

@@ -38,13 +38,21 @@ fn wanted_characters<R: Env + Alloc>(rt: &R) -> Result<usize> {
 }
 
 fn measure_next<R: Clock + Print + Eprint>(rt: &R, alloc: Global, characters: usize) -> Result<()> {
+    take_by_next(rt, alloc, characters, &mut BufferQueue::new())
+}
+
+/// Fills a queue and takes its characters one by one.
+fn take_by_next<R: Clock + Print + Eprint>(
+    rt: &R,
+    alloc: Global,
+    characters: usize,
+    queue: &mut BufferQueue,
+) -> Result<()> {
     let start = Instant::now(rt)?;
-    let Ok(mut queue) = queue_of(alloc, characters) else {
-        bail!("no memory");
-    };
+    fill(alloc, queue, characters)?;
     let filled = start.elapsed(rt)?.as_secs_f64();
     let start = Instant::now(rt)?;
-    let taken = characters_by_next(&mut queue);
+    let taken = characters_by_next(queue);
     let seconds = start.elapsed(rt)?.as_secs_f64();
     println!(rt; "next: {taken} characters")?;
     eprintln!(rt; "push_back: {filled} s, next: {seconds} s")?;
@@ -56,11 +64,19 @@ fn measure_pop_except_from<R: Clock + Print + Eprint>(
     alloc: Global,
     characters: usize,
 ) -> Result<()> {
-    let Ok(mut queue) = queue_of(alloc, characters) else {
-        bail!("no memory");
-    };
+    take_by_pop_except_from(rt, alloc, characters, &mut BufferQueue::new())
+}
+
+/// Fills a queue and takes its runs and the stops between them.
+fn take_by_pop_except_from<R: Clock + Print + Eprint>(
+    rt: &R,
+    alloc: Global,
+    characters: usize,
+    queue: &mut BufferQueue,
+) -> Result<()> {
+    fill(alloc, queue, characters)?;
     let start = Instant::now(rt)?;
-    let Ok(runs) = runs_by_pop_except_from(&mut queue) else {
+    let Ok(runs) = runs_by_pop_except_from(queue) else {
         bail!("no memory");
     };
     let seconds = start.elapsed(rt)?.as_secs_f64();
@@ -69,11 +85,16 @@ fn measure_pop_except_from<R: Clock + Print + Eprint>(
     Ok(())
 }
 
-/// A queue of as many whole lines as have so many characters, put in line by line.
-fn queue_of(alloc: Global, characters: usize) -> Result<BufferQueue, ParseFault> {
-    let mut queue = BufferQueue::new();
+/// Puts as many whole lines as have so many characters into a queue, line by line.
+fn fill(alloc: Global, queue: &mut BufferQueue, characters: usize) -> Result<()> {
     for _line in 0..characters / 50 {
-        queue.push_back(String::from_str(alloc, LINE)?)?;
+        if push_line(alloc, queue).is_err() {
+            bail!("no memory");
+        }
     }
-    Ok(queue)
+    Ok(())
+}
+
+fn push_line(alloc: Global, queue: &mut BufferQueue) -> Result<(), ParseFault> {
+    queue.push_back(String::from_str(alloc, LINE)?)
 }

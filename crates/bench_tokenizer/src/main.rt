@@ -9,14 +9,15 @@ mod read;
 
 use anyhow::{Context, Result, bail};
 use bench_pages::page_of;
+use counts::Counts;
 use devices::StdSource;
 use html_input::read_table;
 use html_tokenizer::References;
 use std::alloc::Global;
-use std::env;
 use std::fs::{self, File};
 use std::rt::Clock;
 use std::time::Instant;
+use std::{env, io};
 
 const DEFAULT_BYTES: usize = 50_000_000;
 
@@ -38,13 +39,19 @@ fn made_input(rt: &HostRuntime, bytes: usize) -> Result<Input> {
     Ok(Input { page, table })
 }
 
+/// The table of references in a file of this name.
+fn table_of_file(rt: &HostRuntime, name: &str) -> Result<References> {
+    let mut source = StdSource::new(File::open(rt, name)?);
+    match read_table(rt.alloc(), &mut source) {
+        Ok(table) => Ok(table),
+        Err(_) => bail!("no table of references"),
+    }
+}
+
 /// The page and the table of references in files of these names.
 fn input_of_files(rt: &HostRuntime, page: &str, table: &str) -> Result<Input> {
     let page = fs::read_to_string(rt, page)?;
-    let file = File::open(rt, table)?;
-    let Ok(table) = read_table(rt.alloc(), &mut StdSource::new(file)) else {
-        bail!("no table of references");
-    };
+    let table = table_of_file(rt, table)?;
     Ok(Input { page, table })
 }
 
@@ -57,14 +64,22 @@ fn input_of(rt: &HostRuntime, words: &[String]) -> Result<Input> {
     }
 }
 
-fn main(rt: HostRuntime) -> Result<()> {
+fn arguments(rt: &HostRuntime) -> Result<Vec<String>> {
     let mut words = Vec::new(rt.alloc());
-    for word in env::args(&rt)?.skip(1) {
+    for word in env::args(rt)?.skip(1) {
         words.push(word)?;
     }
-    let input = input_of(&rt, words.as_slice())?;
-    measure(&rt, rt.alloc(), &input, false)?;
-    measure(&rt, rt.alloc(), &input, true)
+    Ok(words)
+}
+
+fn main(rt: HostRuntime) -> Result<()> {
+    let words = arguments(&rt)?;
+    measure_both(&rt, rt.alloc(), &input_of(&rt, words.as_slice())?)
+}
+
+fn measure_both<R: Clock + Print + Eprint>(rt: &R, alloc: Global, input: &Input) -> Result<()> {
+    measure(rt, alloc, input, false)?;
+    measure(rt, alloc, input, true)
 }
 
 fn measure<R: Clock + Print + Eprint>(
@@ -82,13 +97,18 @@ fn measure<R: Clock + Print + Eprint>(
         bail!("the page was not read");
     };
     let seconds = start.elapsed(rt)?.as_secs_f64();
-    let (bytes, tokens) = (page.len(), counts.tokens);
+    tell(rt, page.len(), exact_errors, &counts)?;
+    eprintln!(rt; "exact_errors={exact_errors}: {seconds} s")?;
+    Ok(())
+}
+
+/// Tells what was counted.
+fn tell<R: Print>(rt: &R, bytes: usize, exact_errors: bool, counts: &Counts) -> io::Result<()> {
+    let tokens = counts.tokens;
     println!(rt; "exact_errors={exact_errors}: {bytes} bytes, {tokens} tokens")?;
     let (characters, tags, attributes) = (counts.characters, counts.tags, counts.attributes);
     let (comments, errors) = (counts.comments, counts.errors);
     println!(rt;
         "{characters} characters of text, {tags} tags, {attributes} attributes, {comments} comments, {errors} errors"
-    )?;
-    eprintln!(rt; "exact_errors={exact_errors}: {seconds} s")?;
-    Ok(())
+    )
 }

@@ -32,7 +32,7 @@ pub fn put_by_loan<T: Target>(target: &mut T, bytes: &[u8]) -> Result<(), Device
 }
 
 // Why a whole reading ended early.
-#[derive(Clone, Copy, Debug, PartialEq, Eq)]
+#[derive(Clone, Copy)]
 pub enum ReadFault {
     Read,
     Memory,

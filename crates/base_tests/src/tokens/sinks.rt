@@ -2,7 +2,6 @@
 ghost use Rattle.std.specs.Prelude.{◌<◌, IfOk, vec_len};
 
 use super::tags::tag;
-use super::text;
 use html_tokens::pieces::{tell_error, tell_pieces};
 use html_tokens::states::RawKind;
 use html_tokens::{Counting, Listed, TagKind, Token, TokenSink, TokenSinkResult, Told};
@@ -11,7 +10,7 @@ use std::alloc::Global;
 use std::borrow::CowStr;
 
 fn characters(alloc: Global, words: &str) -> Result<Token, ParseFault> {
-    Ok(Token::CharacterTokens(text(alloc, words)?))
+    Ok(Token::CharacterTokens(Text::from_str(alloc, words)?))
 }
 
 fn tag_token(alloc: Global, kind: TagKind, name: &str) -> Result<Token, ParseFault> {
@@ -39,19 +38,19 @@ fn is_null_at(told: &Told, line: u64, text: &str) -> bool {
     told.text.as_str() == text && told.token == Token::NullCharacterToken && told.line == line
 }
 
-fn are_listed(alloc: Global) -> Result<bool, ParseFault> {
-    let mut sink = Listed::new(alloc, false);
-    tell_three(alloc, &mut sink)?;
-    Ok(
-        sink.text.as_str() == "c"
-            && sink.told.len() == 1
-            && sink.told.iter().all(|told| is_null_at(told, 3, "ab")),
-    )
+// Whether the text of two pieces, a null and a third text are listed.
+fn are_listed(alloc: Global, sink: &mut Listed) -> bool {
+    tell_three(alloc, sink).is_ok()
+        && sink.text.as_str() == "c"
+        && match sink.told.as_slice() {
+            [told] => is_null_at(told, 3, "ab"),
+            _ => false,
+        }
 }
 
 #[test]
 fn tokens_are_listed(rt: HostRuntime) {
-    assert!(rt; are_listed(rt.alloc()) == Ok(true));
+    assert!(rt; are_listed(rt.alloc(), &mut Listed::new(rt.alloc(), false)));
 }
 
 // What a sink answers to a tag, in words.
@@ -83,15 +82,20 @@ const TAGS: &[(TagKind, &str, &str)] = &[
     (TagKind::StartTag, "style", "raw text"),
 ];
 
+// Whether a sink that stands in foreign content answers so to a tag.
+fn is_answered(alloc: Global, sink: &mut Listed, row: &(TagKind, &str, &str)) -> bool {
+    answer_to(alloc, sink, row.0, row.1) == Ok(row.2)
+        && sink.adjusted_current_node_present_but_not_in_html_namespace()
+}
+
 #[test]
 fn tags_are_answered_by_what_follows(rt: HostRuntime) {
-    for &(kind, name, want) in TAGS {
-        let mut sink = Listed::new(rt.alloc(), true);
+    for row in TAGS {
         assert!(rt;
-            answer_to(rt.alloc(), &mut sink, kind, name) == Ok(want),
-            "{name}"
+            is_answered(rt.alloc(), &mut Listed::new(rt.alloc(), true), row),
+            "{}",
+            row.1
         );
-        assert!(rt; sink.adjusted_current_node_present_but_not_in_html_namespace());
     }
 }
 
@@ -100,13 +104,16 @@ fn refused(sink: &mut Listed) -> Option<ParseFault> {
     sink.process_token(Token::NullCharacterToken, 1).err()
 }
 
+// Whether a sink refuses a token behind its end.
+fn refuses_behind_its_end(sink: &mut Listed) -> bool {
+    let was_told = tell_null(sink, 1).is_ok();
+    sink.end();
+    was_told && refused(sink) == Some(ParseFault::Ended) && sink.told.len() == 1
+}
+
 #[test]
 fn ended_sinks_refuse(rt: HostRuntime) {
-    let mut sink = Listed::new(rt.alloc(), false);
-    assert!(rt; tell_null(&mut sink, 1) == Ok(()));
-    sink.end();
-    assert!(rt; refused(&mut sink) == Some(ParseFault::Ended));
-    assert!(rt; sink.told.len() == 1);
+    assert!(rt; refuses_behind_its_end(&mut Listed::new(rt.alloc(), false)));
 }
 
 // Whether what a sink answers is right: it took a text, or memory was refused and the sink refuses every token from then on.
@@ -120,15 +127,19 @@ fn is_taken_or_failed(alloc: Global, sink: &mut Listed) -> bool {
     }
 }
 
+// The same three times, or the sink had failed before.
+fn is_taken_or_failed_thrice(alloc: Global, sink: &mut Listed) -> bool {
+    for _round in 0..3u32 {
+        if !is_taken_or_failed(alloc, sink) && refused(sink) != Some(ParseFault::Failed) {
+            return false;
+        }
+    }
+    true
+}
+
 #[test]
 fn refused_memory_fails_the_sink(rt: HostRuntime) {
-    let mut sink = Listed::new(rt.alloc(), false);
-    for _round in 0..3u32 {
-        assert!(rt;
-            is_taken_or_failed(rt.alloc(), &mut sink)
-                || refused(&mut sink) == Some(ParseFault::Failed)
-        );
-    }
+    assert!(rt; is_taken_or_failed_thrice(rt.alloc(), &mut Listed::new(rt.alloc(), false)));
 }
 
 // A text in two pieces.
@@ -136,8 +147,8 @@ fn pieces(alloc: Global) -> Result<Vec<(Text, u64)>, ParseFault>
     ensures { IfOk result (λ pieces. 0 < vec_len pieces) }
 {
     let mut pieces = Vec::new(alloc);
-    pieces.push((text(alloc, "a")?, 1))?;
-    pieces.push((text(alloc, "b")?, 2))?;
+    pieces.push((Text::from_str(alloc, "a")?, 1))?;
+    pieces.push((Text::from_str(alloc, "b")?, 2))?;
     Ok(pieces)
 }
 
@@ -146,22 +157,28 @@ fn tell_text_and_error(alloc: Global, sink: &mut Listed) -> Result<(), ParseFaul
     tell_error(sink, CowStr::Borrowed("an error"), 2)
 }
 
+fn are_text_and_error_told(alloc: Global, sink: &mut Listed) -> bool {
+    tell_text_and_error(alloc, sink).is_ok() && sink.text.as_str() == "ab" && sink.errors == 1
+}
+
 #[test]
 fn texts_and_errors_are_told(rt: HostRuntime) {
-    let mut sink = Listed::new(rt.alloc(), false);
-    assert!(rt; tell_text_and_error(rt.alloc(), &mut sink) == Ok(()));
-    assert!(rt; sink.text.as_str() == "ab" && sink.errors == 1);
+    assert!(rt; are_text_and_error_told(rt.alloc(), &mut Listed::new(rt.alloc(), false)));
+}
+
+// Whether a sink counts the tags that it takes, and none behind its end.
+fn are_tags_counted(alloc: Global, sink: &mut Counting<Listed>) -> bool {
+    let style = answer_to(alloc, sink, TagKind::StartTag, "style");
+    let is_counted = style == Ok("raw text") && sink.tags == 1;
+    sink.end();
+    let refused = answer_to(alloc, sink, TagKind::StartTag, "p");
+    is_counted && refused == Err(ParseFault::Ended) && sink.tags == 1 && sink.inner.told.len() == 1
 }
 
 #[test]
 fn tags_are_counted(rt: HostRuntime) {
     let mut sink = Counting::new(Listed::new(rt.alloc(), false));
-    let style = answer_to(rt.alloc(), &mut sink, TagKind::StartTag, "style");
-    assert!(rt; style == Ok("raw text") && sink.tags == 1);
-    sink.end();
-    let refused = answer_to(rt.alloc(), &mut sink, TagKind::StartTag, "p");
-    assert!(rt; refused == Err(ParseFault::Ended));
-    assert!(rt; sink.tags == 1 && sink.inner.told.len() == 1);
+    assert!(rt; are_tags_counted(rt.alloc(), &mut sink));
 }
 
 // Tells any sink a token, and ends it.
@@ -175,10 +192,12 @@ where
     Ok(())
 }
 
+fn takes_when_lent(sink: &mut Listed) -> bool {
+    let mut lent = &mut *sink;
+    tell_and_end(&mut lent, 7).is_ok() && sink.has_ended && sink.told.len() == 1
+}
+
 #[test]
 fn lent_sinks_take_tokens(rt: HostRuntime) {
-    let mut listed = Listed::new(rt.alloc(), false);
-    let mut lent = &mut listed;
-    assert!(rt; tell_and_end(&mut lent, 7) == Ok(()));
-    assert!(rt; listed.has_ended && listed.told.len() == 1);
+    assert!(rt; takes_when_lent(&mut Listed::new(rt.alloc(), false)));
 }

@@ -1,21 +1,17 @@
 //! Tags and their attributes.
 
-use super::text;
 use html_tokens::{Tag, TagKind};
 use markup::{Attribute, Attributes, LocalName, Namespace, ParseFault, QualName, Text};
 use std::alloc::Global;
 
 type Pair = (&'static str, &'static str);
 
-fn name(alloc: Global, characters: &str) -> Result<LocalName, ParseFault> {
-    Ok(LocalName::new(String::from_str(alloc, characters)?))
-}
-
 fn attribute(alloc: Global, pair: Pair) -> Result<Attribute, ParseFault> {
-    let namespace = Namespace::none();
+    let value = Text::from_str(alloc, pair.1)?;
+    let local = LocalName::from_str(alloc, pair.0)?;
     Ok(Attribute {
-        name: QualName::new(None, namespace, name(alloc, pair.0)?),
-        value: text(alloc, pair.1)?,
+        name: QualName::new(None, Namespace::none(), local),
+        value,
     })
 }
 
@@ -39,12 +35,13 @@ pub fn tag(
     tag_name: &str,
     pairs: &[Pair],
 ) -> Result<Tag, ParseFault> {
-    let name = name(alloc, tag_name)?;
+    let attrs = attributes(alloc, pairs)?;
+    let name = LocalName::from_str(alloc, tag_name)?;
     Ok(Tag {
         kind,
         name,
         self_closing: false,
-        attrs: attributes(alloc, pairs)?,
+        attrs,
         had_duplicate_attributes: false,
     })
 }
@@ -53,40 +50,49 @@ pub fn tag(
 const VALUES: &[(&str, Option<&str>)] = &[("b", Some("1")), ("c", Some("2")), ("d", None)];
 
 // Whether this is the value of a name in that tag.
-fn has_value(alloc: Global, sought: &str, value: Option<&str>) -> Result<bool, ParseFault> {
+fn has_value(alloc: Global, sought: &str, value: Option<&str>) -> bool {
     let pairs = &[("b", "1"), ("c", "2"), ("b", "3")];
-    let found = value_in(alloc, &tag(alloc, TagKind::StartTag, "a", pairs)?, sought)?;
-    Ok(match &found {
-        Some(text) => value == Some(text.as_str()),
-        None => value == None,
-    })
+    match tag(alloc, TagKind::StartTag, "a", pairs) {
+        Ok(tag) => has_value_in(alloc, &tag, sought, value),
+        Err(_) => false,
+    }
+}
+
+fn has_value_in(alloc: Global, tag: &Tag, sought: &str, value: Option<&str>) -> bool {
+    match value_in(alloc, tag, sought) {
+        Ok(Some(text)) => value == Some(text.as_str()),
+        Ok(None) => value.is_none(),
+        Err(_) => false,
+    }
 }
 
 fn value_in(alloc: Global, tag: &Tag, sought: &str) -> Result<Option<Text>, ParseFault> {
-    tag.get_attribute(alloc, &name(alloc, sought)?)
+    tag.get_attribute(alloc, &LocalName::from_str(alloc, sought)?)
 }
 
 #[test]
 fn first_attribute_of_a_name_is_found(rt: HostRuntime) {
     for &(sought, value) in VALUES {
-        assert!(rt;
-            has_value(rt.alloc(), sought, value) == Ok(true),
-            "{sought}"
-        );
+        assert!(rt; has_value(rt.alloc(), sought, value), "{sought}");
     }
 }
 
-fn is_tag_copied(alloc: Global, tag: &Tag) -> Result<bool, ParseFault> {
-    Ok(tag.copy(alloc)? == *tag)
+fn is_tag_copied(alloc: Global, tag: &Tag) -> bool {
+    let Ok(copied) = tag.copy(alloc) else {
+        return false;
+    };
+    copied == *tag
 }
 
-fn are_tags_copied(alloc: Global) -> Result<bool, ParseFault> {
-    let mut first = tag(alloc, TagKind::EndTag, "a", &[("b", "1")])?;
+fn are_tags_copied(alloc: Global) -> bool {
+    let Ok(mut first) = tag(alloc, TagKind::EndTag, "a", &[("b", "1")]) else {
+        return false;
+    };
     first.had_duplicate_attributes = true;
     is_tag_copied(alloc, &first)
 }
 
 #[test]
 fn tags_are_copied(rt: HostRuntime) {
-    assert!(rt; are_tags_copied(rt.alloc()) == Ok(true));
+    assert!(rt; are_tags_copied(rt.alloc()));
 }

@@ -2,20 +2,19 @@
 
 ghost use Rattle.html_tokenizer.specs.Calls.{IsReadyIf, refusal};
 
-use super::words::in_words;
+use super::words::is_in_words;
 use super::{
-    PAGE, Setting, Table, feed_piece, feed_pieces, list_of, sink_if, sink_of, tokenizer_over,
+    PAGE, Setting, Table, feed_piece, feed_pieces, list_of, put, refuses, sink_if, sink_of,
+    tokenizer_over,
 };
-use html_tokenizer::{BufferQueue, State, TokenSink, Tokenizer};
+use html_tokenizer::{BufferQueue, Listed, State, TokenSink, Tokenizer};
 use html_tokens::states::RawKind;
 use markup::ParseFault;
 use std::alloc::Global;
-use std::process::Abort;
-use std::test::Fail;
 use text_pieces::{as_given, in_two};
 
 /// Feeds a text.
-fn feed_text<S: TokenSink>(
+pub fn feed_text<S: TokenSink>(
     alloc: Global,
     tokenizer: &mut Tokenizer<S>,
     text: &str,
@@ -23,8 +22,8 @@ fn feed_text<S: TokenSink>(
     requires { IsReadyIf S.TokenSink (refusal tokenizer.old.stream) tokenizer.old }
     ensures { IsReadyIf S.TokenSink (refusal tokenizer.new.stream) tokenizer.new }
 {
-    let mut input = BufferQueue::new();
-    feed_piece(tokenizer, &mut input, String::from_str(alloc, text)?)
+    let piece = String::from_str(alloc, text)?;
+    feed_piece(tokenizer, &mut BufferQueue::new(), piece)
 }
 
 // Texts, and whether nothing is pending behind them.
@@ -70,58 +69,52 @@ const PENDING: &[(&str, bool)] = &[
     ("<plaintext>&</plaintext", true),
 ];
 
-/// Feeds a text, and sees whether nothing is pending behind it.
-fn feed_pending<S: TokenSink>(
-    rt: &impl Abort,
+/// Whether nothing is pending behind a text that is fed, or something is.
+fn is_pending_behind<S: TokenSink>(
     alloc: Global,
     tokenizer: &mut Tokenizer<S>,
     row: (&str, bool),
-) -> Result<(), ParseFault>
+) -> bool
     requires { IsReadyIf S.TokenSink (refusal tokenizer.old.stream) tokenizer.old }
 {
-    let (text, nothing_pending) = row;
-    feed_text(alloc, tokenizer, text)?;
-    assert_eq!(rt; tokenizer.nothing_pending(), nothing_pending, "{text}");
-    assert!(rt; !tokenizer.has_ended(), "{text}");
-    Ok(())
+    feed_text(alloc, tokenizer, row.0).is_ok()
+        && tokenizer.nothing_pending() == row.1
+        && !tokenizer.has_ended()
 }
 
 /// The same of a tokenizer over this sink.
-fn assert_pending<S: TokenSink + Drop>(
-    rt: &impl Abort,
-    alloc: Global,
-    sink: S,
-    row: (&str, bool),
-) -> Result<(), ParseFault>
+fn is_pending<S: TokenSink + Drop>(alloc: Global, sink: S, row: (&str, bool)) -> bool
     requires { S.is_sound (S.view sink) }
 {
-    let mut tokenizer = tokenizer_over(alloc, sink, PAGE)?;
-    let answer = feed_pending(rt, alloc, &mut tokenizer, row);
-    sink_if(tokenizer, answer)?;
-    Ok(())
+    let Ok(mut tokenizer) = tokenizer_over(alloc, sink, PAGE) else {
+        return false;
+    };
+    let is_right = is_pending_behind(alloc, &mut tokenizer, row);
+    drop(sink_of(tokenizer));
+    is_right
 }
 
 #[test]
-fn parts_of_items_are_pending(rt: HostRuntime) -> Result<(), Fail> {
+fn parts_of_items_are_pending(rt: HostRuntime) {
     for &row in PENDING {
-        assert_pending(&rt, rt.alloc(), list_of(rt.alloc(), PAGE), row)?;
+        assert!(rt;
+            is_pending(rt.alloc(), list_of(rt.alloc(), PAGE), row),
+            "{}",
+            row.0
+        );
     }
-    Ok(())
 }
 
-/// Sees that nothing is pending where nothing was read.
-fn assert_at_start<S: TokenSink + Drop>(
-    rt: &impl Abort,
-    alloc: Global,
-    sink: S,
-    setting: Setting,
-) -> Result<(), ParseFault>
+/// Whether nothing is pending where nothing was read.
+fn is_at_start<S: TokenSink + Drop>(alloc: Global, sink: S, setting: Setting) -> bool
     requires { S.is_sound (S.view sink) }
 {
-    let tokenizer = tokenizer_over(alloc, sink, setting)?;
-    assert!(rt; tokenizer.nothing_pending() && !tokenizer.has_ended());
-    sink_of(tokenizer);
-    Ok(())
+    let Ok(tokenizer) = tokenizer_over(alloc, sink, setting) else {
+        return false;
+    };
+    let is_right = tokenizer.nothing_pending() && !tokenizer.has_ended();
+    drop(sink_of(tokenizer));
+    is_right
 }
 
 // Texts, and what is told of them before the end is: tokens, and text behind them.
@@ -155,22 +148,19 @@ const TOLD: &[(&str, &str, &str)] = &[
     ("<script><!--<scr", "start script", "<!--<scr"),
 ];
 
-/// Sees what a text tells before the end.
-fn assert_told(rt: &impl Abort, alloc: Global, row: (&str, &str, &str)) -> Result<(), ParseFault> {
-    let (text, told, behind_them) = row;
-    let sink = fed(alloc, list_of(alloc, PAGE), PAGE, as_given(alloc, &[text])?)?;
-    let words = in_words(alloc, &sink)?;
-    assert_eq!(rt; words.as_str(), told, "{text}");
-    assert_eq!(rt; sink.text.as_str(), behind_them, "{text}");
-    Ok(())
+/// Whether a text tells this before the end.
+fn is_told(alloc: Global, row: (&str, &str, &str)) -> bool {
+    match fed_whole(alloc, row.0) {
+        Ok(sink) => is_in_words(alloc, &sink, row.1) && sink.text.as_str() == row.2,
+        Err(_) => false,
+    }
 }
 
 #[test]
-fn what_is_decided_is_told_before_the_end(rt: HostRuntime) -> Result<(), Fail> {
+fn what_is_decided_is_told_before_the_end(rt: HostRuntime) {
     for &row in TOLD {
-        assert_told(&rt, rt.alloc(), row)?;
+        assert!(rt; is_told(rt.alloc(), row), "{}", row.0);
     }
-    Ok(())
 }
 
 // Raw text behind a start tag of a title, and what is told of it before the end is.
@@ -199,33 +189,52 @@ fn fed<S: TokenSink + Drop>(
     sink_if(tokenizer, answer)
 }
 
-/// Sees what text these pieces tell before the end.
-fn assert_text(
-    rt: &impl Abort,
-    alloc: Global,
-    setting: Setting,
-    pieces: Vec<String>,
-    told: &str,
-) -> Result<(), ParseFault> {
-    let sink = fed(alloc, list_of(alloc, setting), setting, pieces)?;
-    assert_eq!(rt; sink.text.as_str(), told);
-    Ok(())
+/// A list behind a whole text of a page, before the end.
+fn fed_whole(alloc: Global, text: &str) -> Result<Listed, ParseFault> {
+    let pieces = as_given(alloc, &[text])?;
+    fed(alloc, list_of(alloc, PAGE), PAGE, pieces)
 }
 
-#[test]
-fn no_more_of_raw_text_is_held_than_may_end_it(rt: HostRuntime) -> Result<(), Fail> {
-    let setting = Setting {
-        initial_state: Some(State::RawData(RawKind::Rcdata)),
-        last_start_tag: Some("title"),
-        ..PAGE
-    };
-    for &(text, told) in TOLD_IN_TITLES {
-        for place in 0..=text.chars().count() {
-            let pieces = in_two(rt.alloc(), text, place)?;
-            assert_text(&rt, rt.alloc(), setting, pieces, told)?;
+/// A list behind a text that is cut at this place, before the end.
+fn fed_cut(
+    alloc: Global,
+    setting: Setting,
+    text: &str,
+    place: usize,
+) -> Result<Listed, ParseFault> {
+    let pieces = in_two(alloc, text, place)?;
+    fed(alloc, list_of(alloc, setting), setting, pieces)
+}
+
+/// Whether a text that is cut at this place tells this text before the end.
+fn is_held_cut(alloc: Global, setting: Setting, text: &str, place: usize, told: &str) -> bool {
+    match fed_cut(alloc, setting, text, place) {
+        Ok(sink) => sink.text.as_str() == told,
+        Err(_) => false,
+    }
+}
+
+/// The same at each place.
+fn is_held(alloc: Global, setting: Setting, text: &str, told: &str) -> bool {
+    for place in 0..=text.chars().count() {
+        if !is_held_cut(alloc, setting, text, place, told) {
+            return false;
         }
     }
-    Ok(())
+    true
+}
+
+const IN_TITLE: Setting = Setting {
+    initial_state: Some(State::RawData(RawKind::Rcdata)),
+    last_start_tag: Some("title"),
+    ..PAGE
+};
+
+#[test]
+fn no_more_of_raw_text_is_held_than_may_end_it(rt: HostRuntime) {
+    for &(text, told) in TOLD_IN_TITLES {
+        assert!(rt; is_held(rt.alloc(), IN_TITLE, text, told), "{text}");
+    }
 }
 
 // Text with a CDATA section, and what is told of it before the end is.
@@ -239,19 +248,16 @@ const TOLD_IN_SECTIONS: &[(&str, &str)] = &[
     ("<![CDATA[a]]>b<", "ab"),
 ];
 
+const WITH_SECTIONS: Setting = Setting {
+    asks_cdata: true,
+    ..PAGE
+};
+
 #[test]
-fn no_more_of_a_section_is_held_than_may_end_it(rt: HostRuntime) -> Result<(), Fail> {
-    let setting = Setting {
-        asks_cdata: true,
-        ..PAGE
-    };
+fn no_more_of_a_section_is_held_than_may_end_it(rt: HostRuntime) {
     for &(text, told) in TOLD_IN_SECTIONS {
-        for place in 0..=text.chars().count() {
-            let pieces = in_two(rt.alloc(), text, place)?;
-            assert_text(&rt, rt.alloc(), setting, pieces, told)?;
-        }
+        assert!(rt; is_held(rt.alloc(), WITH_SECTIONS, text, told), "{text}");
     }
-    Ok(())
 }
 
 const STARTS: &[State] = &[
@@ -260,53 +266,62 @@ const STARTS: &[State] = &[
     State::RawData(RawKind::Rcdata),
 ];
 
-#[test]
-fn nothing_is_pending_at_the_start(rt: HostRuntime) -> Result<(), Fail> {
-    for &state in STARTS {
-        let setting = Setting {
-            initial_state: Some(state),
-            table: Table::Not,
-            ..PAGE
-        };
-        assert_at_start(&rt, rt.alloc(), list_of(rt.alloc(), setting), setting)?;
-    }
-    Ok(())
+/// Whether nothing is pending where reading begins in this state.
+fn begins_with_nothing(alloc: Global, state: State) -> bool {
+    let setting = Setting {
+        initial_state: Some(state),
+        table: Table::Not,
+        ..PAGE
+    };
+    is_at_start(alloc, list_of(alloc, setting), setting)
 }
 
-/// Sees that a tokenizer that told the end refuses every call.
-fn assert_ended<S: TokenSink>(
-    rt: &impl Abort,
-    tokenizer: &mut Tokenizer<S>,
-    input: &mut BufferQueue,
-)
+#[test]
+fn nothing_is_pending_at_the_start(rt: HostRuntime) {
+    for &state in STARTS {
+        assert!(rt; begins_with_nothing(rt.alloc(), state));
+    }
+}
+
+/// Whether a tokenizer that told the end refuses every call.
+fn is_ended<S: TokenSink>(tokenizer: &mut Tokenizer<S>, input: &mut BufferQueue) -> bool
     requires { IsReadyIf S.TokenSink (refusal tokenizer.old.stream) tokenizer.old }
     ensures { IsReadyIf S.TokenSink (refusal tokenizer.new.stream) tokenizer.new }
 {
-    assert!(rt; tokenizer.has_ended() && !tokenizer.nothing_pending());
-    assert!(rt; matches!(tokenizer.feed(input), Err(ParseFault::Ended)));
-    assert!(rt; matches!(tokenizer.end(), Err(ParseFault::Ended)));
+    let has_ended = tokenizer.has_ended() && !tokenizer.nothing_pending();
+    refuses(tokenizer, input, ParseFault::Ended) && has_ended
 }
 
-/// Feeds a text and the end, and sees that each call behind that is refused.
-fn feed_refused_behind<S: TokenSink>(
-    rt: &impl Abort,
+/// Feeds a text and the end.
+fn feed_to_end<S: TokenSink>(
+    alloc: Global,
+    tokenizer: &mut Tokenizer<S>,
+    text: &str,
+) -> Result<(), ParseFault>
+    requires { IsReadyIf S.TokenSink (refusal tokenizer.old.stream) tokenizer.old }
+    ensures { IsReadyIf S.TokenSink (refusal tokenizer.new.stream) tokenizer.new }
+{
+    feed_text(alloc, tokenizer, text)?;
+    tokenizer.end()
+}
+
+/// Whether each call behind a text and the end is refused.
+fn is_refused_behind<S: TokenSink>(
     alloc: Global,
     tokenizer: &mut Tokenizer<S>,
     text: &str,
     input: &mut BufferQueue,
-) -> Result<(), ParseFault>
+) -> bool
     requires { IsReadyIf S.TokenSink (refusal tokenizer.old.stream) tokenizer.old }
 {
-    feed_text(alloc, tokenizer, text)?;
-    tokenizer.end()?;
-    assert_ended(rt, tokenizer, input);
-    assert_ended(rt, tokenizer, input);
-    Ok(())
+    let answer = feed_to_end(alloc, tokenizer, text);
+    let once = is_ended(tokenizer, input);
+    let again = is_ended(tokenizer, input);
+    answer.is_ok() && once && again
 }
 
 /// The same of a tokenizer over this sink, which is handed out.
-fn assert_refused_behind<S: TokenSink + Drop>(
-    rt: &impl Abort,
+fn refused_behind<S: TokenSink + Drop>(
     alloc: Global,
     sink: S,
     text: &str,
@@ -315,22 +330,33 @@ fn assert_refused_behind<S: TokenSink + Drop>(
     requires { S.is_sound (S.view sink) }
 {
     let mut tokenizer = tokenizer_over(alloc, sink, PAGE)?;
-    let answer = feed_refused_behind(rt, alloc, &mut tokenizer, text, input);
+    let is_refused = is_refused_behind(alloc, &mut tokenizer, text, input);
+    let answer = if is_refused {
+        Ok(())
+    } else {
+        Err(ParseFault::Shape)
+    };
     sink_if(tokenizer, answer)
 }
 
+/// Whether calls behind the end are refused, and leave the input and the sink as they are.
+fn leaves_all_behind(alloc: Global, input: &mut BufferQueue) -> bool {
+    let Ok(sink) = refused_behind(alloc, list_of(alloc, PAGE), "a<", input) else {
+        return false;
+    };
+    sink.has_ended
+        && is_in_words(alloc, &sink, "text \"a<\"; eof")
+        && input.next() == Some('b')
+        && input.is_empty()
+}
+
+fn are_refused_behind(alloc: Global, input: &mut BufferQueue) -> bool {
+    put(alloc, input, "b").is_ok() && leaves_all_behind(alloc, input)
+}
+
 #[test]
-fn calls_behind_the_end_are_refused(rt: HostRuntime) -> Result<(), Fail> {
-    let alloc = rt.alloc();
-    let mut input = BufferQueue::new();
-    input.push_back(String::from_str(alloc, "b")?)?;
-    let sink = assert_refused_behind(&rt, alloc, list_of(alloc, PAGE), "a<", &mut input)?;
-    assert!(rt; sink.has_ended);
-    assert_eq!(rt; input.next(), Some('b'));
-    assert!(rt; input.is_empty());
-    let words = in_words(alloc, &sink)?;
-    assert_eq!(rt; words.as_str(), "text \"a<\"; eof");
-    Ok(())
+fn calls_behind_the_end_are_refused(rt: HostRuntime) {
+    assert!(rt; are_refused_behind(rt.alloc(), &mut BufferQueue::new()));
 }
 
 // What is read before all that follows is text, what is read then, and the tokens.
@@ -357,9 +383,8 @@ fn turn_plain<S: TokenSink>(tokenizer: &mut Tokenizer<S>) -> Result<(), ParseFau
     Ok(())
 }
 
-/// Feeds a text, then one that is all text, and the end.
+/// Feeds a text, then one that is all text, behind which nothing is pending, and the end.
 fn feed_plainly<S: TokenSink>(
-    rt: &impl Abort,
     alloc: Global,
     tokenizer: &mut Tokenizer<S>,
     before: &str,
@@ -370,13 +395,14 @@ fn feed_plainly<S: TokenSink>(
     feed_text(alloc, tokenizer, before)?;
     turn_plain(tokenizer)?;
     feed_text(alloc, tokenizer, text)?;
-    assert!(rt; tokenizer.nothing_pending(), "{before}");
+    if !tokenizer.nothing_pending() {
+        return Err(ParseFault::Shape);
+    }
     tokenizer.end()
 }
 
 /// The same of a tokenizer over this sink, which is handed out.
 fn read_plainly<S: TokenSink + Drop>(
-    rt: &impl Abort,
     alloc: Global,
     sink: S,
     before: &str,
@@ -385,17 +411,20 @@ fn read_plainly<S: TokenSink + Drop>(
     requires { S.is_sound (S.view sink) }
 {
     let mut tokenizer = tokenizer_over(alloc, sink, PAGE)?;
-    let answer = feed_plainly(rt, alloc, &mut tokenizer, before, text);
+    let answer = feed_plainly(alloc, &mut tokenizer, before, text);
     sink_if(tokenizer, answer)
 }
 
-#[test]
-fn all_that_follows_may_be_text(rt: HostRuntime) -> Result<(), Fail> {
-    let alloc = rt.alloc();
-    for &(before, text, told) in PLAIN {
-        let sink = read_plainly(&rt, alloc, list_of(alloc, PAGE), before, text)?;
-        let words = in_words(alloc, &sink)?;
-        assert_eq!(rt; words.as_str(), told);
+fn is_read_plainly(alloc: Global, row: (&str, &str, &str)) -> bool {
+    match read_plainly(alloc, list_of(alloc, PAGE), row.0, row.1) {
+        Ok(sink) => is_in_words(alloc, &sink, row.2),
+        Err(_) => false,
     }
-    Ok(())
+}
+
+#[test]
+fn all_that_follows_may_be_text(rt: HostRuntime) {
+    for &row in PLAIN {
+        assert!(rt; is_read_plainly(rt.alloc(), row), "{}", row.0);
+    }
 }

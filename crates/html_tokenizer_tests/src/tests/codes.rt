@@ -40,16 +40,16 @@ impl Codes {
     }
 
     // Takes a token while no memory was wanting.
-    fn take(&mut self, token: Token) -> Result<TokenSinkResult<u64>, ParseFault>
+    fn take(&mut self, token: &Token) -> Result<TokenSinkResult<u64>, ParseFault>
         ensures taken { IfOk result (λ reply. numbered (λ n. n) reply ≡ Continue) }
-        ensures counts { Counts true token result self.old.errors self.new.errors }
+        ensures counts { Counts true token.now result self.old.errors self.new.errors }
         ensures memory { IfErr result (λ fault. fault ≡ Memory) }
         ensures kept { self.new.has_failed ≡ self.old.has_failed }
         ensures asks { self.new.asks_cdata ≡ self.old.asks_cdata }
     {
         if let Token::ParseError(code) = token {
             self.errors = self.errors.saturating_add(1);
-            self.keep(&code)?;
+            self.keep(code)?;
         }
         Ok(TokenSinkResult::Continue)
     }
@@ -92,7 +92,7 @@ impl TokenSink for Codes {
         if self.has_failed {
             return Err(ParseFault::Failed);
         }
-        let answer = self.take(token);
+        let answer = self.take(&token);
         if answer.is_err() {
             self.has_failed = true;
         }

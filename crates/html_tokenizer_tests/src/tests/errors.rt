@@ -1,13 +1,13 @@
 //! Which texts tell errors, by their codes.
 
 use super::codes::Codes;
-use super::{PAGE, Setting, Table, exact, read, read_over};
+use super::{PAGE, Setting, Table, exact, read_over, read_whole};
 use html_tokenizer::State;
 use html_tokenizer::states::RawKind;
 use markup::{ParseFault, Text};
 use std::alloc::Global;
 use std::process::Abort;
-use text_pieces::{as_given, in_two};
+use text_pieces::in_two;
 
 /// A text, and the codes of its errors, each behind a space.
 type Row = (&'static str, &'static str);
@@ -18,20 +18,38 @@ fn codes(alloc: Global, setting: Setting, pieces: Vec<String>) -> Result<Text, P
     Ok(read_over(alloc, sink, setting, pieces)?.codes)
 }
 
-/// Sees that each text tells just these errors, whole and cut at each place. No memory is refused.
-fn assert_codes(rt: &impl Abort, alloc: Global, setting: Setting, rows: &[Row]) {
-    for (text, wanted) in rows {
-        assert!(rt; tells(alloc, setting, text, wanted) == Ok(true), "{text}");
+/// The same of a text that is cut at this place.
+fn codes_cut(
+    alloc: Global,
+    setting: Setting,
+    text: &str,
+    place: usize,
+) -> Result<Text, ParseFault> {
+    codes(alloc, setting, in_two(alloc, text, place)?)
+}
+
+/// Whether a text that is cut at this place tells just these errors.
+fn tells_cut(alloc: Global, setting: Setting, row: &Row, place: usize) -> bool {
+    match codes_cut(alloc, setting, row.0, place) {
+        Ok(codes) => codes.as_str() == row.1,
+        Err(_) => false,
     }
 }
 
-fn tells(alloc: Global, setting: Setting, text: &str, wanted: &str) -> Result<bool, ParseFault> {
-    for place in 0..=text.chars().count() {
-        if codes(alloc, setting, in_two(alloc, text, place)?)?.as_str() != wanted {
-            return Ok(false);
+fn tells(alloc: Global, setting: Setting, row: &Row) -> bool {
+    for place in 0..=row.0.chars().count() {
+        if !tells_cut(alloc, setting, row, place) {
+            return false;
         }
     }
-    Ok(true)
+    true
+}
+
+/// Sees that each text tells just these errors, whole and cut at each place. No memory is refused.
+fn assert_codes(rt: &impl Abort, alloc: Global, setting: Setting, rows: &[Row]) {
+    for row in rows {
+        assert!(rt; tells(alloc, setting, row), "{}", row.0);
+    }
 }
 
 const COMMENTS: &[Row] = &[
@@ -269,21 +287,23 @@ const UNKNOWN_NAMES_IN_VALUES: &[Row] = &[
     ("<a b='&zz", " eof-in-tag"),
 ];
 
+const UNKNOWN: Setting = Setting {
+    table: Table::Not,
+    ..PAGE
+};
+
+const UNKNOWN_IN_TITLE: Setting = Setting {
+    initial_state: Some(State::RawData(RawKind::Rcdata)),
+    last_start_tag: Some("title"),
+    ..UNKNOWN
+};
+
 #[test]
 fn unknown_names_tell_errors(rt: HostRuntime) {
-    let page = Setting {
-        table: Table::Not,
-        ..PAGE
-    };
-    let title = Setting {
-        initial_state: Some(State::RawData(RawKind::Rcdata)),
-        last_start_tag: Some("title"),
-        ..page
-    };
-    for setting in [page, exact(page), title] {
-        assert_codes(&rt, rt.alloc(), setting, UNKNOWN_NAMES);
-    }
-    assert_codes(&rt, rt.alloc(), page, UNKNOWN_NAMES_IN_VALUES);
+    assert_codes(&rt, rt.alloc(), UNKNOWN, UNKNOWN_NAMES);
+    assert_codes(&rt, rt.alloc(), exact(UNKNOWN), UNKNOWN_NAMES);
+    assert_codes(&rt, rt.alloc(), UNKNOWN_IN_TITLE, UNKNOWN_NAMES);
+    assert_codes(&rt, rt.alloc(), UNKNOWN, UNKNOWN_NAMES_IN_VALUES);
 }
 
 const SECTIONS: &[Row] = &[
@@ -324,8 +344,7 @@ fn faulty_scripts_tell_errors(rt: HostRuntime) {
 
 /// How many errors a text tells.
 fn errors(alloc: Global, setting: Setting, text: &str) -> Result<u64, ParseFault> {
-    let sink = read(alloc, setting, as_given(alloc, &[text])?)?;
-    Ok(sink.errors)
+    Ok(read_whole(alloc, setting, text)?.errors)
 }
 
 const CLEAN_TEXTS: &[&str] = &[
@@ -340,12 +359,15 @@ const CLEAN_TEXTS: &[&str] = &[
     "<script><!--<script></script>--></script>\r\n\t\x0C",
 ];
 
+/// Whether a text tells no errors, also where characters may be errors.
+fn is_clean(alloc: Global, text: &str) -> bool {
+    errors(alloc, PAGE, text) == Ok(0) && errors(alloc, exact(PAGE), text) == Ok(0)
+}
+
 #[test]
 fn clean_texts_tell_none(rt: HostRuntime) {
     for &text in CLEAN_TEXTS {
-        for setting in [PAGE, exact(PAGE)] {
-            assert!(rt; errors(rt.alloc(), setting, text) == Ok(0), "{text}");
-        }
+        assert!(rt; is_clean(rt.alloc(), text), "{text}");
     }
 }
 

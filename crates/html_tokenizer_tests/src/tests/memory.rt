@@ -2,32 +2,33 @@
 
 ghost use Rattle.html_tokenizer.specs.Calls.{IsReadyIf, refusal};
 
+use super::calls::feed_text;
 use super::refusing::Refusing;
 use super::words::in_words;
-use super::{PAGE, Row, Setting, exact, feed_all, feed_piece, list_of, sink_if, tokenizer_over};
+use super::{
+    PAGE, Row, Setting, exact, feed_all, list_of, put, refuses, sink_if, sink_of, tokenizer_over,
+};
 use html_tokenizer::{BufferQueue, Listed, TokenSink, Tokenizer};
 use markup::ParseFault;
 use std::alloc::Global;
-use std::process::Abort;
-use std::test::Fail;
 
-/// Sees that a tokenizer refuses both calls, since an earlier one failed.
-fn assert_failing<S: TokenSink>(rt: &impl Abort, tokenizer: &mut Tokenizer<S>)
+/// Whether a tokenizer refuses both calls, since an earlier one failed.
+fn is_failing<S: TokenSink>(tokenizer: &mut Tokenizer<S>) -> bool
     requires { IsReadyIf S.TokenSink (refusal tokenizer.old.stream) tokenizer.old }
     ensures { IsReadyIf S.TokenSink (refusal tokenizer.new.stream) tokenizer.new }
 {
-    let mut input = BufferQueue::new();
-    assert!(rt; matches!(tokenizer.feed(&mut input), Err(ParseFault::Failed)));
-    assert!(rt; matches!(tokenizer.end(), Err(ParseFault::Failed)));
-    assert!(rt; !tokenizer.has_ended() && !tokenizer.nothing_pending());
+    refuses(tokenizer, &mut BufferQueue::new(), ParseFault::Failed)
+        && !tokenizer.has_ended()
+        && !tokenizer.nothing_pending()
 }
 
 /// The same of every call.
-fn assert_failed<S: TokenSink>(rt: &impl Abort, tokenizer: &mut Tokenizer<S>)
+fn has_failed<S: TokenSink>(tokenizer: &mut Tokenizer<S>) -> bool
     requires { IsReadyIf S.TokenSink (refusal tokenizer.old.stream) tokenizer.old }
 {
-    assert_failing(rt, tokenizer);
-    assert_failing(rt, tokenizer);
+    let once = is_failing(tokenizer);
+    let again = is_failing(tokenizer);
+    once && again
 }
 
 /// Feeds what stands in the input, and the end.
@@ -44,188 +45,175 @@ fn feed_to_end<S: TokenSink>(
 
 /// Feeds what stands in the input, and the end. A tokenizer that lacks memory for them serves no more.
 fn feed_or_fail<S: TokenSink>(
-    rt: &impl Abort,
     tokenizer: &mut Tokenizer<S>,
     input: &mut BufferQueue,
 ) -> Result<(), ParseFault>
     requires { IsReadyIf S.TokenSink (refusal tokenizer.old.stream) tokenizer.old }
 {
     let answer = feed_to_end(tokenizer, input);
-    if answer.is_err() {
-        assert_failed(rt, tokenizer);
+    if answer.is_err() && !has_failed(tokenizer) {
+        return Err(ParseFault::Shape);
     }
     answer
 }
 
-/// Reads a text and its end, and hands out the sink.
+/// Reads what stands in the input and its end, and hands out the sink.
 fn read_or_fail<S: TokenSink + Drop>(
-    rt: &impl Abort,
     alloc: Global,
     sink: S,
     setting: Setting,
-    text: &str,
+    input: &mut BufferQueue,
 ) -> Result<S, ParseFault>
     requires { S.is_sound (S.view sink) }
 {
-    let mut input = BufferQueue::new();
-    input.push_back(String::from_str(alloc, text)?)?;
     let mut tokenizer = tokenizer_over(alloc, sink, setting)?;
-    let answer = feed_or_fail(rt, &mut tokenizer, &mut input);
+    let answer = feed_or_fail(&mut tokenizer, input);
     sink_if(tokenizer, answer)
 }
 
-/// The tokens of a text, in words.
-fn told(
-    rt: &impl Abort,
+/// What a list is told of a text and its end. The input is empty before.
+fn read_text(
     alloc: Global,
     setting: Setting,
+    input: &mut BufferQueue,
     text: &str,
-) -> Result<String, ParseFault> {
-    let sink = read_or_fail(rt, alloc, list_of(alloc, setting), setting, text)?;
+) -> Result<Listed, ParseFault> {
+    put(alloc, input, text)?;
+    read_or_fail(alloc, list_of(alloc, setting), setting, input)
+}
+
+/// The tokens of a text, in words.
+fn told(alloc: Global, setting: Setting, text: &str) -> Result<String, ParseFault> {
+    let sink = read_text(alloc, setting, &mut BufferQueue::new(), text)?;
     Ok(in_words(alloc, &sink)?)
 }
 
-/// Sees that a text tells its tokens, or that memory was refused.
-fn assert_told_or_memory(rt: &impl Abort, alloc: Global, row: Row) {
-    for setting in [PAGE, exact(PAGE)] {
-        match told(rt, alloc, setting, row.0) {
-            Ok(words) => assert_eq!(rt; words.as_str(), row.1),
-            Err(fault) => assert_eq!(rt; fault, ParseFault::Memory),
-        }
+/// Whether a text tells its tokens, or memory was refused.
+fn is_told_or_memory(alloc: Global, setting: Setting, row: Row) -> bool {
+    match told(alloc, setting, row.0) {
+        Ok(words) => words.as_str() == row.1,
+        Err(fault) => fault == ParseFault::Memory,
     }
 }
+
+/// The same whether errors of characters are told or not.
+fn is_either_told_or_memory(alloc: Global, row: Row) -> bool {
+    is_told_or_memory(alloc, PAGE, row) && is_told_or_memory(alloc, exact(PAGE), row)
+}
+
+const TEXT: Row = (
+    "a\r\nb<1>\0c</",
+    "text \"a\nb<1>\"; null; text \"c</\"; eof",
+);
 
 #[test]
 fn memory_may_want_for_text(rt: HostRuntime) {
-    let row = (
-        "a\r\nb<1>\0c</",
-        "text \"a\nb<1>\"; null; text \"c</\"; eof",
-    );
-    assert_told_or_memory(&rt, rt.alloc(), row);
+    assert!(rt; is_either_told_or_memory(rt.alloc(), TEXT));
 }
+
+const TAGS: Row = (
+    "<A B=1 b=2 =c d></a>",
+    "start a b=\"1\" =c=\"\" d=\"\" duplicates; end a; eof",
+);
 
 #[test]
 fn memory_may_want_for_tags(rt: HostRuntime) {
-    let row = (
-        "<A B=1 b=2 =c d></a>",
-        "start a b=\"1\" =c=\"\" d=\"\" duplicates; end a; eof",
-    );
-    assert_told_or_memory(&rt, rt.alloc(), row);
+    assert!(rt; is_either_told_or_memory(rt.alloc(), TAGS));
 }
+
+const DOCTYPES: Row = (
+    "<!doctype HTML PUBLIC \"a\" 'b' c>",
+    "doctype \"html\" \"a\" \"b\"; eof",
+);
 
 #[test]
 fn memory_may_want_for_doctypes(rt: HostRuntime) {
-    let row = (
-        "<!doctype HTML PUBLIC \"a\" 'b' c>",
-        "doctype \"html\" \"a\" \"b\"; eof",
-    );
-    assert_told_or_memory(&rt, rt.alloc(), row);
+    assert!(rt; is_either_told_or_memory(rt.alloc(), DOCTYPES));
 }
+
+const REFERENCES: Row = (
+    "&#x80;&amp;&am<a b='&lt;'>&#65",
+    "text \"€&&am\"; start a b=\"<\"; text \"A\"; eof",
+);
 
 #[test]
 fn memory_may_want_for_references(rt: HostRuntime) {
-    let row = (
-        "&#x80;&amp;&am<a b='&lt;'>&#65",
-        "text \"€&&am\"; start a b=\"<\"; text \"A\"; eof",
-    );
-    assert_told_or_memory(&rt, rt.alloc(), row);
+    assert!(rt; is_either_told_or_memory(rt.alloc(), REFERENCES));
 }
+
+const SCRIPTS: Row = (
+    "<script><!--<script></script>--></script>x",
+    "start script; text \"<!--<script></script>-->\"; end script; text \"x\"; eof",
+);
 
 #[test]
 fn memory_may_want_for_scripts(rt: HostRuntime) {
-    let row = (
-        "<script><!--<script></script>--></script>x",
-        "start script; text \"<!--<script></script>-->\"; end script; text \"x\"; eof",
-    );
-    assert_told_or_memory(&rt, rt.alloc(), row);
+    assert!(rt; is_either_told_or_memory(rt.alloc(), SCRIPTS));
 }
+
+const COMMENTS: Row = (
+    "<!--a--!>b<!-c><!--d--",
+    "comment \"a\"; text \"b\"; comment \"-c\"; comment \"d\"; eof",
+);
 
 #[test]
 fn memory_may_want_for_comments(rt: HostRuntime) {
-    let row = (
-        "<!--a--!>b<!-c><!--d--",
-        "comment \"a\"; text \"b\"; comment \"-c\"; comment \"d\"; eof",
-    );
-    assert_told_or_memory(&rt, rt.alloc(), row);
+    assert!(rt; is_either_told_or_memory(rt.alloc(), COMMENTS));
 }
 
-/// Sees that an answer is this fault, unless memory was refused.
-fn assert_fault(
-    rt: &impl Abort,
-    answer: Result<(), ParseFault>,
-    fault: ParseFault,
-) -> Result<(), ParseFault> {
-    if answer == Err(ParseFault::Memory) {
-        return answer;
-    }
-    assert_eq!(rt; answer.err(), Some(fault));
-    Ok(())
-}
-
-/// Sees that a sink's refusal of a text is passed on, and that the tokenizer serves no more.
-fn feed_refused<S: TokenSink>(
-    rt: &impl Abort,
+/// Whether a sink's refusal of a text is passed on, and the tokenizer serves no more.
+fn passes_on<S: TokenSink>(
     alloc: Global,
     tokenizer: &mut Tokenizer<S>,
     text: &str,
     fault: ParseFault,
-) -> Result<(), ParseFault>
+) -> bool
     requires { IsReadyIf S.TokenSink (refusal tokenizer.old.stream) tokenizer.old }
 {
-    let mut input = BufferQueue::new();
-    let answer = feed_piece(tokenizer, &mut input, String::from_str(alloc, text)?);
-    assert_fault(rt, answer, fault)?;
-    assert_failed(rt, tokenizer);
-    Ok(())
+    feed_text(alloc, tokenizer, text) == Err(fault) && has_failed(tokenizer)
 }
 
 /// The same of a tokenizer over this sink.
-fn assert_refused<S: TokenSink + Drop>(
-    rt: &impl Abort,
-    alloc: Global,
-    sink: S,
-    text: &str,
-    fault: ParseFault,
-) -> Result<(), ParseFault>
+fn is_refused<S: TokenSink + Drop>(alloc: Global, sink: S, text: &str, fault: ParseFault) -> bool
     requires { S.is_sound (S.view sink) }
 {
-    let mut tokenizer = tokenizer_over(alloc, sink, PAGE)?;
-    let answer = feed_refused(rt, alloc, &mut tokenizer, text, fault);
-    sink_if(tokenizer, answer)?;
-    Ok(())
+    let Ok(mut tokenizer) = tokenizer_over(alloc, sink, PAGE) else {
+        return false;
+    };
+    let is_right = passes_on(alloc, &mut tokenizer, text, fault);
+    drop(sink_of(tokenizer));
+    is_right
 }
 
-/// Sees the same of the end of the input, and of what is told there of a text.
-fn feed_end_refused<S: TokenSink>(
-    rt: &impl Abort,
+/// Whether the same holds of the end of the input, and of what is told there of a text.
+fn passes_on_at_end<S: TokenSink>(
     alloc: Global,
     tokenizer: &mut Tokenizer<S>,
     text: &str,
     fault: ParseFault,
-) -> Result<(), ParseFault>
+) -> bool
     requires { IsReadyIf S.TokenSink (refusal tokenizer.old.stream) tokenizer.old }
 {
-    let mut input = BufferQueue::new();
-    feed_piece(tokenizer, &mut input, String::from_str(alloc, text)?)?;
-    assert_fault(rt, tokenizer.end(), fault)?;
-    assert_failed(rt, tokenizer);
-    Ok(())
+    feed_text(alloc, tokenizer, text).is_ok()
+        && tokenizer.end() == Err(fault)
+        && has_failed(tokenizer)
 }
 
 /// The same of a tokenizer over this sink.
-fn assert_end_refused<S: TokenSink + Drop>(
-    rt: &impl Abort,
+fn is_end_refused<S: TokenSink + Drop>(
     alloc: Global,
     sink: S,
     text: &str,
     fault: ParseFault,
-) -> Result<(), ParseFault>
+) -> bool
     requires { S.is_sound (S.view sink) }
 {
-    let mut tokenizer = tokenizer_over(alloc, sink, PAGE)?;
-    let answer = feed_end_refused(rt, alloc, &mut tokenizer, text, fault);
-    sink_if(tokenizer, answer)?;
-    Ok(())
+    let Ok(mut tokenizer) = tokenizer_over(alloc, sink, PAGE) else {
+        return false;
+    };
+    let is_right = passes_on_at_end(alloc, &mut tokenizer, text, fault);
+    drop(sink_of(tokenizer));
+    is_right
 }
 
 /// A sink that was told the end.
@@ -247,31 +235,41 @@ const REFUSED: &[&str] = &[
     "<1",
 ];
 
+/// Whether each refusal of a text is passed on.
+fn are_refused(alloc: Global, text: &str) -> bool {
+    is_refused(
+        alloc,
+        Refusing { is_shape: false },
+        text,
+        ParseFault::TokenInText,
+    ) && is_refused(alloc, Refusing { is_shape: true }, text, ParseFault::Shape)
+        && is_refused(alloc, ended(alloc), text, ParseFault::Ended)
+}
+
 #[test]
-fn refusals_are_passed_on(rt: HostRuntime) -> Result<(), Fail> {
-    let alloc = rt.alloc();
+fn refusals_are_passed_on(rt: HostRuntime) {
     for &text in REFUSED {
-        let in_text = Refusing { is_shape: false };
-        assert_refused(&rt, alloc, in_text, text, ParseFault::TokenInText)?;
-        let unfit = Refusing { is_shape: true };
-        assert_refused(&rt, alloc, unfit, text, ParseFault::Shape)?;
-        assert_refused(&rt, alloc, ended(alloc), text, ParseFault::Ended)?;
+        assert!(rt; are_refused(rt.alloc(), text), "{text}");
     }
-    Ok(())
 }
 
 // Texts of which nothing is told before the end.
 const REFUSED_AT_THE_END: &[&str] = &["", "<", "&lt", "<a", "<!--a", "<!doctype", "\u{FEFF}"];
 
+/// Whether each refusal at the end of a text is passed on.
+fn are_ends_refused(alloc: Global, text: &str) -> bool {
+    is_end_refused(
+        alloc,
+        Refusing { is_shape: false },
+        text,
+        ParseFault::TokenInText,
+    ) && is_end_refused(alloc, Refusing { is_shape: true }, text, ParseFault::Shape)
+        && is_end_refused(alloc, ended(alloc), text, ParseFault::Ended)
+}
+
 #[test]
-fn refusals_at_the_end_are_passed_on(rt: HostRuntime) -> Result<(), Fail> {
-    let alloc = rt.alloc();
+fn refusals_at_the_end_are_passed_on(rt: HostRuntime) {
     for &text in REFUSED_AT_THE_END {
-        let in_text = Refusing { is_shape: false };
-        assert_end_refused(&rt, alloc, in_text, text, ParseFault::TokenInText)?;
-        let unfit = Refusing { is_shape: true };
-        assert_end_refused(&rt, alloc, unfit, text, ParseFault::Shape)?;
-        assert_end_refused(&rt, alloc, ended(alloc), text, ParseFault::Ended)?;
+        assert!(rt; are_ends_refused(rt.alloc(), text), "{text}");
     }
-    Ok(())
 }

@@ -3,37 +3,36 @@ ghost use Rattle.html_tokenizer.specs.Calls.{IsReadyIf, refusal};
 
 use super::sinks::Naming;
 use super::words::Spoken;
-use super::{PAGE, list_of, sink_if, tokenizer_over};
+use super::{PAGE, list_of, put, sink_of, tokenizer_over};
 use html_tokenizer::{BufferQueue, TokenSink, Tokenizer};
 use markup::{ParseFault, TokenizerResult};
-use std::alloc::Global;
-use std::process::Abort;
-use std::test::Fail;
+use std::alloc::{AllocError, Global};
 
 /// Above the number of characters that are left in any queue below.
 const LONGEST: u32 = 12;
 
-fn queue_of(alloc: Global, text: &str) -> Result<BufferQueue, ParseFault> {
-    let mut queue = BufferQueue::new();
-    queue.push_back(String::from_str(alloc, text)?)?;
-    Ok(queue)
-}
-
-/// Sees that this is what stands in the queue, and leaves it there.
-fn assert_left(
-    rt: &impl Abort,
-    alloc: Global,
-    queue: &mut BufferQueue,
-    want: &str,
-) -> Result<(), ParseFault> {
+/// What stands in the queue, which is empty afterwards.
+fn left_of(alloc: Global, queue: &mut BufferQueue) -> Result<String, AllocError> {
     let mut left = String::new(alloc);
     for _place in 0..LONGEST {
         if let Some(c) = queue.next() {
             left.push(c)?;
         }
     }
-    assert_eq!(rt; left.as_str(), want);
-    queue.push_front(left)
+    Ok(left)
+}
+
+/// Whether this is what stands in the queue, which is left there.
+fn has_left(alloc: Global, queue: &mut BufferQueue, want: &str) -> bool {
+    let Ok(left) = left_of(alloc, queue) else {
+        return false;
+    };
+    left.as_str() == want && queue.push_front(left).is_ok()
+}
+
+/// Puts a text before what is left.
+fn write(alloc: Global, queue: &mut BufferQueue, text: &str) -> Result<(), ParseFault> {
+    queue.push_front(String::from_str(alloc, text)?)
 }
 
 /// A text that pauses for a script.
@@ -94,115 +93,141 @@ const SCRIPTS: &[Row] = &[
     },
 ];
 
-/// Feeds up to a pause for the script at this place.
-fn feed_to_script<S: TokenSink<Handle = u64>>(
-    rt: &impl Abort,
+/// Whether what is fed pauses for the script at this place.
+fn pauses_at<S: TokenSink<Handle = u64>>(
     tokenizer: &mut Tokenizer<S>,
     input: &mut BufferQueue,
     place: u64,
-) -> Result<(), ParseFault>
+) -> bool
     requires { IsReadyIf S.TokenSink (refusal tokenizer.old.stream) tokenizer.old }
     ensures { IsReadyIf S.TokenSink (refusal tokenizer.new.stream) tokenizer.new }
 {
-    let paused = tokenizer.feed(input)?;
-    assert!(rt; matches!(paused, TokenizerResult::Script(found) if found == place));
-    assert!(rt; tokenizer.nothing_pending());
-    Ok(())
+    let is_script = match tokenizer.feed(input) {
+        Ok(TokenizerResult::Script(found)) => found == place,
+        _ => false,
+    };
+    is_script && tokenizer.nothing_pending()
+}
+
+/// Whether all of the input is fed, and nothing in it pauses.
+fn is_fed<S: TokenSink>(tokenizer: &mut Tokenizer<S>, input: &mut BufferQueue) -> bool
+    requires { IsReadyIf S.TokenSink (refusal tokenizer.old.stream) tokenizer.old }
+    ensures { IsReadyIf S.TokenSink (refusal tokenizer.new.stream) tokenizer.new }
+{
+    let is_done = matches!(tokenizer.feed(input), Ok(TokenizerResult::Done));
+    is_done && input.is_empty()
 }
 
 /// Feeds all of the input, in which nothing pauses, and the end.
 fn feed_to_end<S: TokenSink>(
-    rt: &impl Abort,
     tokenizer: &mut Tokenizer<S>,
     input: &mut BufferQueue,
 ) -> Result<(), ParseFault>
     requires { IsReadyIf S.TokenSink (refusal tokenizer.old.stream) tokenizer.old }
     ensures { IsReadyIf S.TokenSink (refusal tokenizer.new.stream) tokenizer.new }
 {
-    let answer = tokenizer.feed(input)?;
-    assert!(rt; matches!(answer, TokenizerResult::Done) && input.is_empty());
+    if !is_fed(tokenizer, input) {
+        return Err(ParseFault::Shape);
+    }
     tokenizer.end()
 }
 
-/// Sees that this is what a sink was told, in words.
-fn assert_words<S: Spoken>(
-    rt: &impl Abort,
-    alloc: Global,
-    sink: &S,
-    want: &str,
-) -> Result<(), ParseFault> {
-    let words = sink.words(alloc)?;
-    assert_eq!(rt; words.as_str(), want);
-    Ok(())
+/// Whether this is what a sink was told, in words.
+fn was_told<S: Spoken>(alloc: Global, sink: &S, want: &str) -> bool {
+    match sink.words(alloc) {
+        Ok(words) => words.as_str() == want,
+        Err(_) => false,
+    }
 }
 
-fn assert_script<S: TokenSink<Handle = u64> + Spoken>(
-    rt: &impl Abort,
+/// Whether a text pauses, and goes on behind what its script writes.
+fn is_script<S: TokenSink<Handle = u64> + Spoken>(
     alloc: Global,
     tokenizer: &mut Tokenizer<S>,
+    input: &mut BufferQueue,
     row: &Row,
-) -> Result<(), ParseFault>
+) -> bool
     requires { IsReadyIf S.TokenSink (refusal tokenizer.old.stream) tokenizer.old }
 {
-    let mut input = queue_of(alloc, row.text)?;
-    feed_to_script(rt, tokenizer, &mut input, row.place)?;
-    assert_words(rt, alloc, &tokenizer.sink, row.before)?;
-    assert_left(rt, alloc, &mut input, row.left)?;
-    input.push_front(String::from_str(alloc, row.written)?)?;
-    feed_to_end(rt, tokenizer, &mut input)?;
-    assert_words(rt, alloc, &tokenizer.sink, row.told)
+    put(alloc, input, row.text).is_ok()
+        && pauses_at(tokenizer, input, row.place)
+        && was_told(alloc, &tokenizer.sink, row.before)
+        && has_left(alloc, input, row.left)
+        && write(alloc, input, row.written).is_ok()
+        && feed_to_end(tokenizer, input).is_ok()
+        && was_told(alloc, &tokenizer.sink, row.told)
+}
+
+/// The same of a tokenizer over this sink.
+fn runs_script<S: TokenSink<Handle = u64> + Spoken + Drop>(
+    alloc: Global,
+    sink: S,
+    row: &Row,
+) -> bool
+    requires { S.is_sound (S.view sink) }
+{
+    let Ok(mut tokenizer) = tokenizer_over(alloc, sink, PAGE) else {
+        return false;
+    };
+    let is_right = is_script(alloc, &mut tokenizer, &mut BufferQueue::new(), row);
+    drop(sink_of(tokenizer));
+    is_right
 }
 
 #[test]
-fn scripts_write_before_what_is_left(rt: HostRuntime) -> Result<(), Fail> {
+fn scripts_write_before_what_is_left(rt: HostRuntime) {
     for row in SCRIPTS {
-        let mut tokenizer = tokenizer_over(rt.alloc(), list_of(rt.alloc(), PAGE), PAGE)?;
-        let answer = assert_script(&rt, rt.alloc(), &mut tokenizer, row);
-        sink_if(tokenizer, answer)?;
+        assert!(rt;
+            runs_script(rt.alloc(), list_of(rt.alloc(), PAGE), row),
+            "{}",
+            row.text
+        );
     }
-    Ok(())
 }
 
-/// Feeds up to a pause for the name of an encoding.
-fn feed_to_name<S: TokenSink>(
-    rt: &impl Abort,
-    tokenizer: &mut Tokenizer<S>,
-    input: &mut BufferQueue,
-    name: &str,
-) -> Result<(), ParseFault>
+/// Whether what is fed pauses for the name of an encoding.
+fn names<S: TokenSink>(tokenizer: &mut Tokenizer<S>, input: &mut BufferQueue, name: &str) -> bool
     requires { IsReadyIf S.TokenSink (refusal tokenizer.old.stream) tokenizer.old }
     ensures { IsReadyIf S.TokenSink (refusal tokenizer.new.stream) tokenizer.new }
 {
-    let TokenizerResult::EncodingIndicator(named) = tokenizer.feed(input)? else {
-        panic!(rt; "no pause for {name}");
-    };
-    assert_eq!(rt; named.as_str(), name);
-    Ok(())
+    match tokenizer.feed(input) {
+        Ok(TokenizerResult::EncodingIndicator(named)) => named.as_str() == name,
+        _ => false,
+    }
 }
 
-/// Sees that each tag of a text pauses, where tags name encodings.
-fn assert_names<S: TokenSink + Spoken>(
-    rt: &impl Abort,
+/// Whether each tag of a text pauses, where tags name encodings.
+fn pauses_at_each<S: TokenSink + Spoken>(
     alloc: Global,
     tokenizer: &mut Tokenizer<S>,
-) -> Result<(), ParseFault>
+    input: &mut BufferQueue,
+) -> bool
     requires { IsReadyIf S.TokenSink (refusal tokenizer.old.stream) tokenizer.old }
 {
-    let mut input = queue_of(alloc, "x<a>b</A >\n")?;
-    feed_to_name(rt, tokenizer, &mut input, "a")?;
-    assert_words(rt, alloc, &tokenizer.sink, "x")?;
-    assert_left(rt, alloc, &mut input, "b</A >\n")?;
-    input.push_front(String::from_str(alloc, "c")?)?;
-    feed_to_name(rt, tokenizer, &mut input, "a")?;
-    assert_left(rt, alloc, &mut input, "\n")?;
-    feed_to_end(rt, tokenizer, &mut input)?;
-    assert_words(rt, alloc, &tokenizer.sink, "xcb\n")
+    put(alloc, input, "x<a>b</A >\n").is_ok()
+        && names(tokenizer, input, "a")
+        && was_told(alloc, &tokenizer.sink, "x")
+        && has_left(alloc, input, "b</A >\n")
+        && write(alloc, input, "c").is_ok()
+        && names(tokenizer, input, "a")
+        && has_left(alloc, input, "\n")
+        && feed_to_end(tokenizer, input).is_ok()
+        && was_told(alloc, &tokenizer.sink, "xcb\n")
+}
+
+/// The same of a tokenizer over this sink.
+fn is_named<S: TokenSink + Spoken + Drop>(alloc: Global, sink: S) -> bool
+    requires { S.is_sound (S.view sink) }
+{
+    let Ok(mut tokenizer) = tokenizer_over(alloc, sink, PAGE) else {
+        return false;
+    };
+    let is_right = pauses_at_each(alloc, &mut tokenizer, &mut BufferQueue::new());
+    drop(sink_of(tokenizer));
+    is_right
 }
 
 #[test]
-fn names_of_encodings_pause(rt: HostRuntime) -> Result<(), Fail> {
-    let mut tokenizer = tokenizer_over(rt.alloc(), Naming::new(rt.alloc()), PAGE)?;
-    let answer = assert_names(&rt, rt.alloc(), &mut tokenizer);
-    sink_if(tokenizer, answer)?;
-    Ok(())
+fn names_of_encodings_pause(rt: HostRuntime) {
+    assert!(rt; is_named(rt.alloc(), Naming::new(rt.alloc())));
 }

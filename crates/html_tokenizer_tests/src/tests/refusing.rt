@@ -42,9 +42,10 @@ impl TokenSink for Refusing {
 
     fn process_token(
         &mut self,
-        _token: Token,
+        token: Token,
         _line_number: u64,
     ) -> Result<TokenSinkResult<u64>, ParseFault> {
+        drop(token);
         if self.is_shape {
             return Err(ParseFault::Shape);
         }

@@ -31,19 +31,19 @@ impl Naming {
     }
 
     // Takes a token while no memory was wanting.
-    fn take(&mut self, token: Token) -> Result<TokenSinkResult<u64>, ParseFault>
-        ensures taken { IfOk result (λ reply. reply_to token ≡ numbered (λ n. n) reply) }
-        ensures counts { Counts true token result self.old.errors self.new.errors }
+    fn take(&mut self, token: &Token) -> Result<TokenSinkResult<u64>, ParseFault>
+        ensures taken { IfOk result (λ reply. reply_to token.now ≡ numbered (λ n. n) reply) }
+        ensures counts { Counts true token.now result self.old.errors self.new.errors }
         ensures memory { IfErr result (λ fault. fault ≡ Memory) }
         ensures kept { self.new.has_failed ≡ self.old.has_failed }
     {
         match token {
             Token::TagToken(tag) => {
-                let name = String::from_str(self.alloc, tag.name.as_str())?;
-                Ok(TokenSinkResult::EncodingIndicator(Text::new(name)))
+                let name = Text::from_str(self.alloc, tag.name.as_str())?;
+                Ok(TokenSinkResult::EncodingIndicator(name))
             }
             Token::CharacterTokens(text) => {
-                self.text.append(&text)?;
+                self.text.append(text)?;
                 Ok(TokenSinkResult::Continue)
             }
             Token::ParseError(_) => {
@@ -90,7 +90,7 @@ impl TokenSink for Naming {
         if self.has_failed {
             return Err(ParseFault::Failed);
         }
-        let answer = self.take(token);
+        let answer = self.take(&token);
         if answer.is_err() {
             self.has_failed = true;
         }
