@@ -14,7 +14,7 @@ use Rattle.markup.proofs.PutTexts.{element-IsNode}
 use Rattle.html_rules.specs.Names.{element_name_of}
 use Rattle.html_stack.specs.Stacks.{entries_of, open_of, opens_of}
 use Rattle.html_stack.proofs.Results.{on-err}
-use Rattle.html_stack.proofs.Adopted.{walk-count, walk-keeps}
+use Rattle.html_stack.proofs.Adopted.{grown, no-less, walk-count, walk-keeps}
 use Rattle.html_stack.proofs.Turned.{IsAdoption, adoption, block-movable, block-parent, copies-new, handle_of, is-placed, last-loose, none-between, rebuilt, relisted-is, turned-is, opens-count, opened-index, placed-stands, removed-opened, removed-stands, removed-tree, still-opened}
 use Rattle.html_stack.proofs.Walked.{made-for, opened-Walked, opened-as}
 use Rattle.html_stack.proofs.formatting.adopting.adopt.Goals as goal
@@ -224,3 +224,18 @@ returns-clause-ok g c s d on =
     ∙ ap (λ o. opens_of node (drop (suc c.args.to) xs) ++ (o ∷ open_of node (get_or xs c.args.to d) ∷ w.copies) ++ opens_of node (take c.args.from xs)) opened in
     turned-is node f0 xs es c.args.from c.args.to d c.args.foster c.args.tag w s f2 (g.Sink.TreeSink.forest c.adopt_children.new.sink) (opens_of node c.restack.new.items.items) (entries_of node c.relist.new.entries.items)
     c.requires.standing c.requires.order c.requires.within on e put_is forest_is others_is opens_is
+
+pub returns-in_err-copies-clause-kept : goal.returns-in_err-copies-clause-kept
+returns-in_err-copies-clause-kept g c = on-err c.from_residual-in_err-copies.result (c.in_err-copies.ensures.kept (opens_of g.Sink.TreeSink.node c.args.elements.now.items) c.requires.standing)
+
+pub returns-in_err-put_last-clause-grows : goal.returns-in_err-put_last-clause-grows
+returns-in_err-put_last-clause-grows g c = grown _ _ _ _ _ c.in_ok-copies.ensures.grows (ap node_count c.place_before-point.ensures.same) c.in_err-put_last.ensures.grows (no-less _)
+
+pub returns-in_err-handle-clause-grows : goal.returns-in_err-handle-clause-grows
+returns-in_err-handle-clause-grows g c = grown _ _ _ _ _ c.in_ok-copies.ensures.grows (ap node_count c.place_before-point.ensures.same) c.in_ok-put_last.ensures.grows c.in_err-handle.ensures.grows
+
+pub returns-clause-grows : goal.returns-clause-grows
+returns-clause-grows g c = grown _ _ _ _ _ c.in_ok-copies.ensures.grows (ap node_count c.place_before-point.ensures.same) c.in_ok-put_last.ensures.grows c.in_ok-handle.ensures.grows
+
+pub restack-requires-clause-within : goal.restack-requires-clause-within
+restack-requires-clause-within g c = c.requires.within
