@@ -36,8 +36,8 @@ loop-i-preserved g c = record {
   walked = λ s k.
       walk-on open_of (mode_of_open s) c.args.elements.now c.loop-i.i _ c.index-elements-i.result (c.loop-i.invariant.walked s k) (omega arith) c.index-elements-i.is
       (λ node.
-          open-other s (open_of node c.index-elements-i.result) (opens_of node (take (c.loop-i.i - 1) c.args.elements.now)) (sym c.if-is_in.ensures) (sym c.if-is_in-2.ensures) (sym c.if-is_in-3.ensures)
-          ∙ c.in_default.ensures s (node c.index-elements-i.result.handle) k (λ _. mode_of_open s (opens_of node (take (c.loop-i.i - 1) c.args.elements.now))));
+      open-other s (open_of node c.index-elements-i.result) (opens_of node (take (c.loop-i.i - 1) c.args.elements.now)) (sym c.if-is_in.ensures) (sym c.if-is_in-2.ensures) (sym c.if-is_in-3.ensures)
+      ∙ c.in_default.ensures s (node c.index-elements-i.result.handle) k (λ _. mode_of_open s (opens_of node (take (c.loop-i.i - 1) c.args.elements.now))));
 }
 
 pub returns : goal.returns
