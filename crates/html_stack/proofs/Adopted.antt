@@ -196,3 +196,10 @@ walk-count (suc left) (x ∷ xs) w =
     let rest = walk-count left xs (copy_if (listed_as x.number w.active_formatting) w) in
     let one = copy-count (listed_as x.number w.active_formatting) w in
     omega arith
+
+-- a tree grows by one step after another
+pub grown : (a b b' c d : ℕ) → a ≤ b → b' ≡ b → b' ≤ c → c ≤ d → a ≤ d
+grown a b b' c d ab same bc cd = omega arith
+
+pub no-less : (n : ℕ) → n ≤ n
+no-less n = omega arith

@@ -1,5 +1,5 @@
 -- What turns of the adoption agency come to, case by case, and one after the other.
-use Rattle.std.proofs.Common.{◌≡◌, ◌∙◌, ℕ, suc, ◌+◌, ◌<◌, Bool, true, false, List, [], ◌∷◌, ◌++◌, length, take, drop, get_or, Option, Some, None, Result, Ok, Err, refl, sym, ap, subst, arith, codes, add-one, eq-eqb, eqb-true, ne_eqb, true≢false}
+use Rattle.std.proofs.Common.{◌≡◌, ◌∙◌, ℕ, suc, ◌+◌, ◌<◌, ◌≤◌, Bool, true, false, List, [], ◌∷◌, ◌++◌, length, take, drop, get_or, Option, Some, None, Result, Ok, Err, refl, sym, ap, subst, arith, codes, add-one, eq-eqb, eqb-true, ne_eqb, true≢false}
 use Rattle.std.specs.Prelude.{◌&&◌, ◌||◌, nat_eq, not, is_some, slice_range, IfOk, MatchOption, OnErr}
 use Rattle.std.specs.List.{list_any}
 use Rattle.std.specs.Str.{bytes_eq}
@@ -249,3 +249,13 @@ misnested-ended s old mid new f e g a found error ended left =
     ap (λ v. joined s v g) left
     ∙ ap (λ t. remove_from_stack a.number (unlist a t)) (ended ∙ ap (λ h. adoption_agency (codes "a") (joined s old h)) error)
     ∙ sym (ap (λ o. close_misnested o (joined s old f)) found)
+
+-- an error more leaves the nodes
+pub told-grows : (n : ℕ) (xs : List Open) (f g : Forest) → g ≡ told n xs f → node_count f ≤ node_count g
+told-grows n xs f g e = by (current_is (is_number n) xs) e where
+  by : (b : Bool) → g ≡ choose b (λ _. f) (λ _. add_error f) → node_count f ≤ node_count g
+  by true e = let same = ap node_count e in omega arith
+  by false e = let same = ap node_count e in omega arith
+
+pub told-grows-on : (n : ℕ) (xs : List Open) (f g h : Forest) → g ≡ told n xs f → node_count g ≤ node_count h → node_count f ≤ node_count h
+told-grows-on n xs f g h e more = let first = told-grows n xs f g e in omega arith

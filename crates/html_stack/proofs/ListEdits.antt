@@ -1,5 +1,5 @@
 -- What becomes of the list around the newest entry of an element.
-use Rattle.std.proofs.Common.{◌≡◌, ◌∙◌, ℕ, true, false, List, [], ◌∷◌, ◌++◌, Option, Some, None, refl, sym, ap, suc, drop, take, get_or, map, remove, reverse}
+use Rattle.std.proofs.Common.{◌≡◌, ◌∙◌, ℕ, true, false, true≢false, List, [], ◌∷◌, ◌++◌, Option, Some, None, refl, sym, ap, suc, drop, take, get_or, map, remove, reverse}
 use Rattle.std.specs.Prelude.{◌||◌, nat_eq}
 use Rattle.std.specs.List.{list_any}
 use Rattle.html_tokens.specs.declared.tags.Tag.{Tag}
@@ -76,3 +76,13 @@ unlisted node n xs i is =
     ap (without_entry n) (split-at (entry_of node) xs i held.Marker is.within)
     ∙ without-at n (reverse (map (entry_of node) (drop (suc i) xs))) (entry_of node (get_or xs i held.Marker)) (reverse (map (entry_of node) (take i xs))) is.newer (is.here held.Marker)
     ∙ sym (removed-at (entry_of node) xs i)
+
+-- a marker stands for no element
+pub no-marker : {H : Type 0} {X : Type 0} (node : H → ℕ) (n : ℕ) (items : List (FormatEntry H)) (i : ℕ) → IsNewest (entry_of node) (stands_for n) items i → get_or items i held.Marker ≡ held.Marker → X
+no-marker node n items i is e =
+    let here : stands_for n (entry_of node (get_or items i held.Marker)) ≡ true = is.here held.Marker in
+    let none : stands_for n (entry_of node (get_or items i held.Marker)) ≡ false = ap (λ x. stands_for n (entry_of node x)) e in
+    absurd (true≢false (sym here ∙ none))
+
+pub marker-apart : {H : Type 0} {X : Type 0} (entry : FormatEntry H) (handle : H) (tag : Tag) → entry ≡ held.Element handle tag → entry ≡ held.Marker → X
+marker-apart entry handle tag e m = absurd cc

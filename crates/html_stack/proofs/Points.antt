@@ -1,7 +1,8 @@
 -- Where nodes are put, and what stands behind it.
-use Rattle.std.proofs.Common.{◌≡◌, ◌∙◌, ℕ, ◌<◌, ◌≤◌, Bool, true, false, List, [], ◌∷◌, ◌++◌, Some, refl, sym, ap, subst, codes, arith, map, reverse, take, drop, length, get_or, suc}
-use Rattle.std.specs.Prelude.{◌||◌, ◌&&◌, cond}
+use Rattle.std.proofs.Common.{◌≡◌, ◌∙◌, ℕ, ◌<◌, ◌≤◌, Bool, true, false, List, [], ◌∷◌, ◌++◌, Option, Some, None, refl, sym, ap, subst, codes, arith, map, reverse, take, drop, length, get_or, suc}
+use Rattle.std.specs.Prelude.{◌||◌, ◌&&◌, cond, IfSome}
 use Rattle.std.specs.Str.{bytes_eq}
+use Rattle.std.proofs.Math.Seq.{take-length}
 use Rattle.std.proofs.lemmas.Grind.{reverse_onto}
 use Rattle.std.proofs.lemmas.List.{map-append, reverse-append, take-append-drop}
 use Rattle.markup.specs.Forest.{Forest, IsLoose, IsNode, IsParent, IsPlace, node_count, parent_at, parent_of, place_before, place_near}
@@ -14,10 +15,10 @@ use Rattle.markup.proofs.Forests.{IsMade-create_element, IsParent-place}
 use Rattle.markup.proofs.PutTexts.{IsParent-document, IsParent-element, element-IsNode}
 use Rattle.markup.proofs.Trees.{IsPlace-before, IsPlace-near}
 use Rattle.html_rules.specs.Names.{Namespace, Html, MathMl, Svg, Other, element_name_of, flags_of, is_html, is_mathml, mathml_namespace, namespace_of, svg_namespace}
-use Rattle.html_rules.specs.Places.{create_root, insert_element, open_element, place_for, put_element}
+use Rattle.html_rules.specs.Places.{create_root, foster_place, insert_element, open_element, place_for, put_element}
 use Rattle.html_rules.specs.Sets.{is_among, mathml_names_of, names_in, names_of, svg_names_of}
 use Rattle.html_rules.specs.Stack.{number_from, root_number}
-use Rattle.html_rules.specs.State.{Entry, Open, State, current_node, current_number, is_in}
+use Rattle.html_rules.specs.State.{Entry, Open, State, current_is, current_node, current_number, is_in}
 use Rattle.html_rules.specs.declared.tag_set.TagSet.TheVariants as set
 use Rattle.html_rules_laws.specs.Soundness.{AreOpened, IsOpened, IsOwn, IsStanding}
 use Rattle.html_rules_laws.proofs.Standing.{IsPart, Stays, changed-Standing, gone, opened-Standing, part-opened, part-same}
@@ -220,3 +221,19 @@ inserted-for space name attributes twice e s is = rw (is.in_namespace, is.named,
 
 pub put-for : (space : Namespace) (name : List ℕ) (attributes : List Attribute) (twice : Bool) (e : NewElement) (s : State) → IsFor space name attributes twice e → inserted NoPush e s ≡ put_element space name attributes twice s
 put-for space name attributes twice e s is = rw (is.in_namespace, is.named, is.with_attributes, is.had_duplicate_attributes) refl
+
+-- the place of the current node
+pub current-at : {H : Type 0} (node : H → ℕ) (xs : List (OpenElement H)) (k : ℕ) (x : OpenElement H) → length xs ≡ suc k → x ≡ get_or xs k x → current_node (opens_of node xs) ≡ Some (open_of node x)
+current-at node xs k x e here = ap current_node (ap (λ ys. opens_of node ys) (sym (take-length xs)) ∙ at (open_of node) xs (length xs) k x e (omega (arith, e)) here)
+
+-- where foster parenting is asked for
+pub place-fostered : (foster : Bool) (f : Forest) (xs : List Open) (x : Open) → foster ≡ true → is_in set.FosterTarget x ≡ true → place_for foster f xs (Some x) ≡ foster_place f (root_number xs) xs
+place-fostered foster f xs x on is = rw (on, is) refl
+
+pub current-is-at : {H : Type 0} (node : H → ℕ) (p : Open → Bool) (xs : List (OpenElement H)) (k : ℕ) (x : OpenElement H) → length xs ≡ suc k → x ≡ get_or xs k x → current_is p (opens_of node xs) ≡ p (open_of node x)
+current-is-at node p xs k x e here = ap (current_is p) (ap (λ ys. opens_of node ys) (sym (take-length xs)) ∙ at (open_of node) xs (length xs) k x e (omega (arith, e)) here)
+
+-- a form stays a node
+pub owner-stays : {H : Type 0} (node : H → ℕ) (f g h : Forest) (owner : Option H) → h ≡ g → node_count f ≤ node_count g → IfSome owner (λ form. IsNode f (node form)) → IfSome owner (λ form. IsNode h (node form))
+owner-stays node f g h None e more is = tt
+owner-stays node f g h (Some form) e more is = let count = ap node_count e in omega arith

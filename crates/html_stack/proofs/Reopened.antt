@@ -3,6 +3,8 @@ use Rattle.std.proofs.Common.{◌≡◌, ◌∙◌, ℕ, suc, ◌+◌, ◌<◌, 
 use Rattle.std.specs.Prelude.{◌&&◌}
 use Rattle.std.specs.List.{list_all}
 use Rattle.std.proofs.lemmas.Bool.{and_parts}
+use Rattle.std.proofs.Math.Seq.{drop-cons}
+use Rattle.std.proofs.lemmas.Grind.{reverse_onto}
 use Rattle.std.proofs.lemmas.List.{drop-set-lt, get_or-set_same, length-map, length-reverse, length-set, nil_from_length, take-set}
 use Rattle.markup.specs.Forest.{Forest, data_of, element_name, node_count}
 use Rattle.html_tokens.specs.declared.tags.Tag.{Tag}
@@ -262,3 +264,14 @@ again-kept-at tag foster old mid new f g made place has named step go is =
 pub reopens-count : (foster : Bool) (old : Stacked) (f : Forest) (new : Stacked) (g : Forest) (i : ℕ) → Reopens foster old f new g i → length new.active_formatting ≡ length old.active_formatting
 reopens-count foster old f new g i is =
     ap length is.now ∙ length-append is.waiting is.again ∙ ap (λ n. length is.waiting + n) (is.size_again ∙ sym is.size) ∙ sym (length-append is.waiting is.past) ∙ sym (ap length is.was)
+
+-- one entry more waits
+pub more-wait : {H : Type 0} (node : H → ℕ) (xs : List Open) (items : List (FormatEntry H)) (i k : ℕ) (entry : FormatEntry H) → i ≡ suc k → k < length items → entry ≡ get_or items k entry → true ≡ waits xs (entry_of node entry) → list_all (waits xs) (entries_of node (drop i items)) ≡ true
+    → list_all (waits xs) (entries_of node (drop k items)) ≡ true
+more-wait node xs items i k entry e less here wait rest =
+    let first : drop k items ≡ entry ∷ drop i items = drop-cons items k entry less ∙ ap (λ x. x ∷ drop (suc k) items) (sym here) ∙ ap (λ n. entry ∷ drop n items) (sym e) in
+    ap (λ ys. list_all (waits xs) (entries_of node ys)) first ∙ ap (list_all (waits xs)) (reverse_onto (map (entry_of node) (drop i items)) (entry_of node entry) []) ∙ all-behind (waits xs) (entries_of node (drop i items)) (entry_of node entry) rest (sym wait)
+  where
+    all-behind : {X : Type 0} (p : X → Bool) (ys : List X) (y : X) → list_all p ys ≡ true → p y ≡ true → list_all p (ys ++ y ∷ []) ≡ true
+    all-behind p [] y h last = rw last refl
+    all-behind p (z ∷ ys) y h last = let parts = and_parts (p z) (list_all p ys) h in rw parts.0 (all-behind p ys y parts.1 last)

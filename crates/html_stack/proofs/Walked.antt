@@ -2,7 +2,7 @@
 use Rattle.std.proofs.Common.{◌≡◌, ◌∙◌, ℕ, suc, ◌<◌, true, List, [], ◌∷◌, ◌++◌, length, take, drop, get_or, set, map, Option, Some, None, refl, sym, ap, subst, arith, inl, inr, eqb-true, length-take-le}
 use Rattle.std.specs.Prelude.{nat_eq}
 use Rattle.std.proofs.lemmas.List.{map-append}
-use Rattle.markup.specs.Forest.{Above, Forest, Last, above_of, data_of, node_count, put, remove}
+use Rattle.markup.specs.Forest.{Above, Forest, Last, above_of, data_of, node_count, put, remove, reparent_children}
 use Rattle.markup.specs.Named.{IsTree}
 use Rattle.markup.proofs.PutTexts.{element-IsNode}
 use Rattle.markup.proofs.Walks.{Above-child}
@@ -16,7 +16,7 @@ use Rattle.html_rules.specs.State.{Entry, Element, Open}
 use Rattle.html_rules_laws.specs.Soundness.{AreListed, IsOpened, IsStanding}
 use Rattle.html_rules_laws.proofs.AdoptionStanding.{begun, begun-Walked, element-plain, not_above_document}
 use Rattle.html_rules_laws.proofs.AdoptionWalk.{Walked, walk-Walked}
-use Rattle.html_stack.specs.Adopting.{IsMovable, walk_of, wrapped}
+use Rattle.html_stack.specs.Adopting.{IsMovable, adopted, walk_of, wrapped}
 use Rattle.html_stack.specs.Found.{IsNewest, renamed}
 use Rattle.html_stack.specs.Inserting.{IsFor, with_made}
 use Rattle.html_stack.specs.Stacks.{entries_of, entry_of, open_of, opens_of}
@@ -63,18 +63,27 @@ listed-replaced node n items i handle new tag is e =
     count-older : {H : Type 0} (node : H → ℕ) (items : List (FormatEntry H)) (i : ℕ) → i < length items → length (entries_of node (take i items)) ≡ i
     count-older node items i less = count-entries node (take i items) ∙ length-take-le i items (omega arith)
 
+-- the element that a tag makes takes a node as its child
+pub wrapped-copy : (f g : Forest) (tag : Tag) (e : NewElement) (last : ℕ) → IsFor Html tag.name tag.attrs tag.had_duplicate_attributes e → g ≡ wrapped f e last → g ≡ put (remove (with_copy f tag) last) (Last (node_count f)) last
+wrapped-copy f g tag e last for_tag forest = forest ∙ ap (λ h. put (remove h last) (Last (node_count f)) last) (made-for tag f e for_tag)
+
+-- or its children
+pub adopted-copy : (f g : Forest) (tag : Tag) (e : NewElement) (block : ℕ) → IsFor Html tag.name tag.attrs tag.had_duplicate_attributes e → g ≡ adopted f e block → g ≡ put (reparent_children (with_copy f tag) block (node_count f)) (Last block) (node_count f)
+adopted-copy f g tag e block for_tag forest = forest ∙ ap (λ h. put (reparent_children h block (node_count f)) (Last block) (node_count f)) (made-for tag f e for_tag)
+
 -- the walk with one copy more
-pub copied : {H : Type 0} (node : H → ℕ) (f g : Forest) (items : List (FormatEntry H)) (i n : ℕ) (handle made : H) (tag : Tag) (e : NewElement) (copies copies' : Copies H) (new : OpenElement H)
-    → IsNewest (entry_of node) (stands_for n) items i → get_or items i held.Marker ≡ held.Element handle tag → IsFor Html tag.name tag.attrs tag.had_duplicate_attributes e
-    → node made ≡ node_count f → g ≡ wrapped f e (node copies.last) → open_of node new ≡ opened_for f tag → copies'.elements.items ≡ copies.elements.items ++ new ∷ [] → copies'.last ≡ made
-    → walk_of node g (set items i (renamed made (get_or items i held.Marker))) copies' ≡ copy_if (listed_as n (entries_of node items)) (walk_of node f items copies)
-copied node f g items i n handle made tag e copies copies' new is here for_tag named forest opened more last =
+pub copied : {H : Type 0} (node : H → ℕ) (f g : Forest) (items : List (FormatEntry H)) (i n : ℕ) (handle : H) (tag : Tag) (copies copies' : Copies H) (new : OpenElement H)
+    → IsNewest (entry_of node) (stands_for n) items i → get_or items i held.Marker ≡ held.Element handle tag
+    → g ≡ put (remove (with_copy f tag) (node copies.last)) (Last (node_count f)) (node copies.last) → open_of node new ≡ opened_for f tag → copies'.elements.items ≡ copies.elements.items ++ new ∷ [] → copies'.last ≡ new.handle
+    → walk_of node g (set items i (renamed new.handle (get_or items i held.Marker))) copies' ≡ copy_if (listed_as n (entries_of node items)) (walk_of node f items copies)
+copied node f g items i n handle tag copies copies' new is here forest opened more last =
     let w : Walk = walk_of node f items copies in
     let listed : Listed = record { number = node handle; tag = tag } in
+    let named : node new.handle ≡ node_count f = ap (λ (x : Open). x.number) opened in
     let said : copy_if (listed_as n (entries_of node items)) w ≡ copy_node listed w = ap (λ o. copy_if o w) (listed-said node n items i is ∙ ap (λ x. said_by (entry_of node x)) here) in
-    let step : walk_of node g (set items i (renamed made (get_or items i held.Marker))) copies' ≡ copy_node listed w = λ j. record {
-      forest = (forest ∙ ap (λ h. put (remove h (node copies.last)) (Last (node_count f)) (node copies.last)) (made-for tag f e for_tag)) j;
-      active_formatting = (sym (listed-replaced node n items i handle made tag is here) ∙ ap (λ m. with_in_place (node handle) (Element m tag) (entries_of node items)) named) j;
+    let step : walk_of node g (set items i (renamed new.handle (get_or items i held.Marker))) copies' ≡ copy_node listed w = λ j. record {
+      forest = forest j;
+      active_formatting = (sym (listed-replaced node n items i handle new.handle tag is here) ∙ ap (λ m. with_in_place (node handle) (Element m tag) (entries_of node items)) named) j;
       copies = (ap (map (open_of node)) more ∙ map-append (open_of node) copies.elements.items (new ∷ []) ∙ ap (λ o. map (open_of node) copies.elements.items ++ o ∷ []) opened) j;
       last_node = (ap node last ∙ named) j;
     } in

@@ -1,6 +1,7 @@
 -- New elements that take a node as their child, or the children of one.
-use Rattle.std.proofs.Common.{◌≡◌, ◌∙◌, ℕ, ◌<◌, Bool, true, false, List, [], ◌∷◌, Some, None, refl, ap, subst, arith, inl, inr}
-use Rattle.markup.specs.Forest.{Above, Forest, IsLoose, IsNode, IsParent, above_of, children_of, data_of, element_name, holds_children, is_among, is_contents, node_count, parent_of, remove, reparent_children}
+use Rattle.std.proofs.Common.{◌≡◌, ◌∙◌, ℕ, ◌<◌, Bool, true, false, List, [], ◌∷◌, Option, Some, None, refl, ap, subst, arith, inl, inr}
+use Rattle.markup.specs.Forest.{Above, Forest, IsLoose, IsNode, IsParent, above_of, children_of, data_of, element_name, holds_children, is_among, is_contents, node_count, parent_of, remove, remove_under, reparent_children, without}
+use Rattle.std.proofs.lemmas.List.{length-set}
 use Rattle.markup.specs.Named.{IsTree}
 use Rattle.markup.proofs.Forests.{IsMade-create_element, IsRemoved-remove}
 use Rattle.markup.proofs.PutTexts.{IsParent-element, element-IsNode}
@@ -166,3 +167,9 @@ may-adopt f e b is block =
       by : (x : Bool) → is_contents (data_of f 0) ≡ x → ⊥
       by true contents = let stays = tree.forest.contents_stay 0 contents in let given = parent in cc
       by false plain = let above : above_of f 0 ≡ Some b = rw plain parent in cc
+
+pub removed-count : (f : Forest) (n : ℕ) → node_count (remove f n) ≡ node_count f
+removed-count f n = by (parent_of f n) where
+  by : (o : Option ℕ) → node_count (remove_under f n o) ≡ node_count f
+  by None = refl
+  by (Some parent) = length-set f.nodes parent (record { about = data_of f parent; children = without n (children_of f parent) })

@@ -9,12 +9,10 @@ ghost use Rattle.html_stack.specs.Stacks.{entries_of, open_of, opens_of};
 ghost use Rattle.html_stack.specs.declared.entries.OpenElement.{OpenElement};
 
 use crate::entries::{FormatEntry, OpenElement};
-use crate::formatting::copies::{adopt_children, copy_between};
+use crate::formatting::copies::{copy_between, copy_under};
 use crate::formatting::listing::relist;
 use crate::formatting::moves::restack;
 use crate::formatting::placing::{place_before, put_last};
-use crate::inserting::new_element::NewElement;
-use html_names::ElementClass;
 use html_tokens::Tag;
 use markup::{ParseFault, TreeSink};
 use std::alloc::Global;
@@ -52,8 +50,6 @@ pub(crate) fn adopt<Sink: TreeSink>(
     ensures grows { node_count (Sink.forest sink.old) ≤ node_count (Sink.forest sink.new) }
     ensures fault { IfErr result (λ fault. fault ≡ Memory) }
 {
-    let element = NewElement::for_tag(ElementClass::html(&tag.name), tag);
-    let name = element.open_name(alloc)?;
     let formatting_element = elements[from].handle;
     let block = elements[to].handle;
     let copies = copy_between(
@@ -65,15 +61,9 @@ pub(crate) fn adopt<Sink: TreeSink>(
     )?;
     let point = place_before(sink, elements.as_slice(), from, foster);
     put_last(sink, point, copies.last)?;
-    let handle = adopt_children(sink, element, &block)?;
+    let copy = copy_under(alloc, sink, tag, &block)?;
     let first = first_of(copies.elements.as_slice());
-    relist(sink, entries, &formatting_element, handle, first);
-    restack(
-        elements,
-        from,
-        to,
-        copies.elements,
-        OpenElement { handle, name },
-    );
+    relist(sink, entries, &formatting_element, copy.handle, first);
+    restack(elements, from, to, copies.elements, copy);
     Ok(())
 }

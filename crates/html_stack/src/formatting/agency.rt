@@ -1,5 +1,5 @@
 //! The adoption agency (HTML Standard, section 13.2.6.4.7, "the adoption agency algorithm"), and the start tag that it is asked for first.
-ghost use Rattle.std.specs.Prelude.{◌≡◌, ◌≤◌, ◌&&◌, not, IfErr, IfOk, OnOk};
+ghost use Rattle.std.specs.Prelude.{◌≡◌, ◌≤◌, ◌&&◌, codes, not, IfErr, IfOk, OnOk};
 ghost use Rattle.markup.specs.Forest.{node_count};
 ghost use Rattle.markup.specs.declared.fault.ParseFault.TheVariants.{Memory};
 ghost use Rattle.html_names.specs.Classes.{IsClassOf};
@@ -132,12 +132,29 @@ impl<Sink: TreeSink> Stack<Sink> {
         ensures fault { IfErr result (λ fault. fault ≡ Memory) }
     {
         let name = LocalName::from_str(self.allocator(), "a")?;
-        let Some(misnested) = formatting_element::<Sink>(self.active_formatting.as_slice(), &name)
+        self.end_misnested_a(sink, &name, foster)
+    }
+
+    /// The same, where the name `a` is lent.
+    fn end_misnested_a(
+        &mut self,
+        sink: &mut Sink,
+        name: &LocalName,
+        foster: bool,
+    ) -> Result<(), ParseFault>
+        requires name { name.now ≡ codes "a" }
+        requires standing { IsStanding (Sink.forest sink.old) self.old.open_elems self.old.active_formatting }
+        ensures ok { OnOk result ((s : State) → s.foster_parenting ≡ foster → joined s self.new (Sink.forest sink.new) ≡ handle_misnested_a_tags (joined s self.old (Sink.forest sink.old))) }
+        ensures kept { IsStanding (Sink.forest sink.new) self.new.open_elems self.new.active_formatting }
+        ensures grows { node_count (Sink.forest sink.old) ≤ node_count (Sink.forest sink.new) }
+        ensures fault { IfErr result (λ fault. fault ≡ Memory) }
+    {
+        let Some(misnested) = formatting_element::<Sink>(self.active_formatting.as_slice(), name)
         else {
             return Ok(());
         };
         sink.parse_error(CowStr::Borrowed("an a is open where another begins"));
-        self.adoption_agency(sink, ElementClass::html(&name), &name, foster)?;
+        self.adoption_agency(sink, ElementClass::html(name), name, foster)?;
         self.unlist(sink, &misnested.node);
         self.remove_from_stack(sink, &misnested.node);
         Ok(())

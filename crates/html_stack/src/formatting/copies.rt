@@ -1,10 +1,10 @@
 //! The walk of the adoption agency: elements between the formatting element and the furthest block are replaced by copies (HTML Standard,
 //! section 13.2.6.4.7).
 ghost use Rattle.std.specs.Prelude.{◌≡◌, ◌≤◌, [], IfErr, IfOk, OnErr, OnOk};
-ghost use Rattle.markup.specs.Forest.{IsParent, node_count};
+ghost use Rattle.markup.specs.Forest.{IsParent, Last, node_count, put, remove, reparent_children};
 ghost use Rattle.markup.specs.Named.{IsTree};
 ghost use Rattle.markup.specs.declared.fault.ParseFault.TheVariants.{Memory};
-ghost use Rattle.html_rules.specs.Adoption.{copy_if, listed_as, walk};
+ghost use Rattle.html_rules.specs.Adoption.{copy_if, listed_as, opened_for, walk, with_copy};
 ghost use Rattle.html_rules_laws.specs.Soundness.{AreListed, IsOpened};
 ghost use Rattle.html_stack.specs.Adopting.{IsMovable, KeepsStanding, adopted, walk_of, wrapped};
 ghost use Rattle.html_stack.specs.Inserting.{IsNew, LeavesStanding};
@@ -15,6 +15,7 @@ use crate::formatting::opening::tag_at;
 use crate::formatting::{listing, positions};
 use crate::inserting::new_element::NewElement;
 use html_names::ElementClass;
+use html_tokens::Tag;
 use markup::{NodeOrText, ParseFault, TreeSink};
 use std::alloc::Global;
 
@@ -47,6 +48,26 @@ fn wrap<Sink: TreeSink>(
     Ok(made)
 }
 
+/// Makes the element that a tag makes, which takes a node as its child, to be opened.
+fn copy_over<Sink: TreeSink>(
+    alloc: Global,
+    sink: &mut Sink,
+    tag: Tag,
+    last: &Sink::Handle,
+) -> Result<OpenElement<Sink::Handle>, ParseFault>
+    requires { IsMovable (Sink.forest sink.old) (Sink.node last.now) }
+    ensures opened { IfOk result (λ copy. open_of Sink.node copy ≡ opened_for (Sink.forest sink.old) tag) }
+    ensures ok { OnOk result (Sink.forest sink.new ≡ put (remove (with_copy (Sink.forest sink.old) tag) (Sink.node last.now)) (Last (node_count (Sink.forest sink.old))) (Sink.node last.now)) }
+    ensures kept { OnErr result (LeavesStanding (Sink.forest sink.old) (Sink.forest sink.new)) }
+    ensures grows { node_count (Sink.forest sink.old) ≤ node_count (Sink.forest sink.new) }
+    ensures fault { IfErr result (λ fault. fault ≡ Memory) }
+{
+    let element = NewElement::for_tag(ElementClass::html(&tag.name), tag);
+    let name = element.open_name(alloc)?;
+    let handle = wrap(sink, element, last)?;
+    Ok(OpenElement { handle, name })
+}
+
 /// An element is replaced by a copy, if it is listed.
 fn copy_node<Sink: TreeSink>(
     alloc: Global,
@@ -64,15 +85,14 @@ fn copy_node<Sink: TreeSink>(
     let Some(place) = positions::in_list(sink, entries.as_slice(), node) else {
         return Ok(());
     };
+    copies.elements.reserve(1)?;
     let Some(tag) = tag_at(alloc, entries.as_slice(), place)? else {
         return Ok(());
     };
-    let element = NewElement::for_tag(ElementClass::html(&tag.name), tag);
-    let name = element.open_name(alloc)?;
-    copies.elements.reserve(1)?;
-    let handle = wrap(sink, element, &copies.last)?;
+    let copy = copy_over(alloc, sink, tag, &copies.last)?;
+    let handle = copy.handle;
     listing::rename(entries, place, handle);
-    copies.elements.push_reserved(OpenElement { handle, name });
+    copies.elements.push_reserved(copy);
     copies.last = handle;
     Ok(())
 }
@@ -114,7 +134,7 @@ pub(crate) fn copy_between<Sink: TreeSink>(
 }
 
 /// Makes an element that takes the children of a node, and becomes its only child.
-pub(crate) fn adopt_children<Sink: TreeSink>(
+fn adopt_children<Sink: TreeSink>(
     sink: &mut Sink,
     element: NewElement,
     block: &Sink::Handle,
@@ -132,4 +152,25 @@ pub(crate) fn adopt_children<Sink: TreeSink>(
     sink.reparent_children(block, &made)?;
     sink.append(block, NodeOrText::AppendNode(made))?;
     Ok(made)
+}
+
+/// Makes the element that a tag makes, which takes the children of a node and becomes its only child, to be opened.
+pub(crate) fn copy_under<Sink: TreeSink>(
+    alloc: Global,
+    sink: &mut Sink,
+    tag: Tag,
+    block: &Sink::Handle,
+) -> Result<OpenElement<Sink::Handle>, ParseFault>
+    requires block { IsMovable (Sink.forest sink.old) (Sink.node block.now) }
+    requires parent { IsParent (Sink.forest sink.old) (Sink.node block.now) }
+    ensures opened { IfOk result (λ copy. open_of Sink.node copy ≡ opened_for (Sink.forest sink.old) tag) }
+    ensures ok { OnOk result (Sink.forest sink.new ≡ put (reparent_children (with_copy (Sink.forest sink.old) tag) (Sink.node block.now) (node_count (Sink.forest sink.old))) (Last (Sink.node block.now)) (node_count (Sink.forest sink.old))) }
+    ensures kept { OnErr result (LeavesStanding (Sink.forest sink.old) (Sink.forest sink.new)) }
+    ensures grows { node_count (Sink.forest sink.old) ≤ node_count (Sink.forest sink.new) }
+    ensures fault { IfErr result (λ fault. fault ≡ Memory) }
+{
+    let element = NewElement::for_tag(ElementClass::html(&tag.name), tag);
+    let name = element.open_name(alloc)?;
+    let handle = adopt_children(sink, element, block)?;
+    Ok(OpenElement { handle, name })
 }

@@ -3,20 +3,19 @@ use Rattle.std.specs.Prelude.{slice_range}
 use Rattle.std.proofs.lemmas.List.{get_or_default, length-map}
 use Rattle.std.proofs.lemmas.List.Edits.{length-between}
 use Rattle.markup.specs.Forest.{Last, node_count, put, remove, reparent_children}
-use Rattle.html_rules.specs.Adoption.{Walk, listed_as, relist, walk}
+use Rattle.html_rules.specs.Adoption.{Walk, listed_as, relist, walk, with_copy}
 use Rattle.html_rules.specs.Places.{place_for}
-use Rattle.html_rules.specs.State.{Element, current_node}
-use Rattle.html_stack.specs.declared.entries.OpenElement.{OpenElement}
+use Rattle.html_rules.specs.State.{Element, Open, current_node}
 use Rattle.html_rules_laws.proofs.AdoptionStanding.{begun}
 use Rattle.html_rules_laws.specs.Soundness.{IsStanding}
-use Rattle.html_stack.specs.Adopting.{IsRelisted, adopted, walk_of}
+use Rattle.html_stack.specs.Adopting.{IsRelisted, walk_of}
 use Rattle.markup.proofs.PutTexts.{element-IsNode}
 use Rattle.html_rules.specs.Names.{element_name_of}
 use Rattle.html_stack.specs.Stacks.{entries_of, open_of, opens_of}
 use Rattle.html_stack.proofs.Results.{on-err}
-use Rattle.html_stack.proofs.Adopted.{walk-count, walk-keeps}
+use Rattle.html_stack.proofs.Adopted.{grown, no-less, walk-count, walk-keeps}
 use Rattle.html_stack.proofs.Turned.{IsAdoption, adoption, block-movable, block-parent, copies-new, handle_of, is-placed, last-loose, none-between, rebuilt, relisted-is, turned-is, opens-count, opened-index, placed-stands, removed-opened, removed-stands, removed-tree, still-opened}
-use Rattle.html_stack.proofs.Walked.{made-for, opened-Walked, opened-as}
+use Rattle.html_stack.proofs.Walked.{opened-Walked}
 use Rattle.html_stack.proofs.formatting.adopting.adopt.Goals as goal
 
 pub copy_between-requires-clause-block : goal.copy_between-requires-clause-block
@@ -105,8 +104,8 @@ returns-in_err-put_last-clause-kept g c =
     let stands = removed-stands node f0 xs es c.args.from c.args.to d c.args.foster w a in
     on-err c.from_residual-in_err-put_last.result (rw (c.in_err-put_last.ensures.err, c.place_before-point.ensures.same) stands)
 
-pub adopt_children-requires-clause-block : goal.adopt_children-requires-clause-block
-adopt_children-requires-clause-block g c =
+pub copy_under-requires-clause-block : goal.copy_under-requires-clause-block
+copy_under-requires-clause-block g c =
     let node = g.Sink.TreeSink.node in
     let f0 = g.Sink.TreeSink.forest c.args.sink.now in
     let f1 = g.Sink.TreeSink.forest c.copy_between.new.sink in
@@ -122,8 +121,8 @@ adopt_children-requires-clause-block g c =
     let movable = block-movable node f0 xs es c.args.from c.args.to d c.args.foster w a in
     rw (c.in_ok-put_last.ensures.ok, c.place_before-point.ensures.same, pl, block) movable
 
-pub adopt_children-requires-clause-parent : goal.adopt_children-requires-clause-parent
-adopt_children-requires-clause-parent g c =
+pub copy_under-requires-clause-parent : goal.copy_under-requires-clause-parent
+copy_under-requires-clause-parent g c =
     let node = g.Sink.TreeSink.node in
     let f0 = g.Sink.TreeSink.forest c.args.sink.now in
     let f1 = g.Sink.TreeSink.forest c.copy_between.new.sink in
@@ -139,8 +138,8 @@ adopt_children-requires-clause-parent g c =
     let parent = block-parent node f0 xs es c.args.from c.args.to d c.args.foster w a in
     rw (c.in_ok-put_last.ensures.ok, c.place_before-point.ensures.same, pl, block) parent
 
-pub returns-in_err-handle-clause-kept : goal.returns-in_err-handle-clause-kept
-returns-in_err-handle-clause-kept g c =
+pub returns-in_err-copy-clause-kept : goal.returns-in_err-copy-clause-kept
+returns-in_err-copy-clause-kept g c =
     let node = g.Sink.TreeSink.node in
     let f0 = g.Sink.TreeSink.forest c.args.sink.now in
     let f1 = g.Sink.TreeSink.forest c.copy_between.new.sink in
@@ -154,7 +153,7 @@ returns-in_err-handle-clause-kept g c =
     let pl = rw c.as_slice-2.ensures.value at (c.place_before-point.ensures.place (remove f1 (node c.in_ok-copies.copies.last))) in
     let stands = placed-stands node f0 xs es c.args.from c.args.to d c.args.foster w a in
     let now : IsStanding (g.Sink.TreeSink.forest c.put_last.new.sink) (opens_of node xs) (entries_of node c.copy_between.new.entries.items) = rw (c.in_ok-put_last.ensures.ok, c.place_before-point.ensures.same, pl) stands in
-    on-err c.from_residual-in_err-handle.result (c.in_err-handle.ensures.kept (opens_of node xs) (entries_of node c.copy_between.new.entries.items) now)
+    on-err c.from_residual-in_err-copy.result (c.in_err-copy.ensures.kept (opens_of node xs) (entries_of node c.copy_between.new.entries.items) now)
 
 pub restack-requires-clause-room : goal.restack-requires-clause-room
 restack-requires-clause-room g c =
@@ -196,31 +195,42 @@ returns-clause-ok g c s d on =
     let last = node c.in_ok-copies.copies.last in
     let b = node (handle_of (get_or xs c.args.to d)) in
     let put_is : f2 ≡ put (remove f1 last) (place_for c.args.foster (remove f1 last) (opens_of node xs) (current_node (opens_of node (take c.args.from xs)))) last = rw (c.in_ok-put_last.ensures.ok, c.place_before-point.ensures.same, pl) refl in
-    let named = c.in_ok-handle.ensures.named in
-    let for_tag = c.for_tag-element.ensures.of in
-    let element = c.for_tag-element.result in
+    let copy = c.in_ok-copy.copy in
+    let named : node copy.handle ≡ node_count f2 = ap (λ (x : Open). x.number) c.in_ok-copy.ensures.opened in
     let opened_n = opened-index f0 node xs c.args.from d c.requires.standing.opened within in
     let there : n < node_count f0 = element-IsNode f0 n (element_name_of (open_of node (get_or xs c.args.from d)).namespace (open_of node (get_or xs c.args.from d)).name) opened_n.named in
     let placed = is-placed node f0 xs es c.args.from c.args.to d c.args.foster w a in
     let more : node_count f0 ≤ node_count f2 = subst (λ h. node_count f0 ≤ node_count h) (sym put_is) placed.count in
-    let forest_is = c.in_ok-handle.ensures.ok
-    ∙ ap (λ x. adopted f2 element (node (handle_of x))) block
-    ∙ ap (λ h. put (reparent_children h b (node_count f2)) (Last b) (node_count f2)) (made-for c.args.tag f2 element for_tag) in
+    let forest_is = c.in_ok-copy.ensures.ok
+    ∙ ap (λ x. put (reparent_children (with_copy f2 c.args.tag) (node (handle_of x)) (node_count f2)) (Last (node (handle_of x))) (node_count f2)) block in
     let said : listed_as n w.active_formatting ≡ Some (record { number = n; tag = c.args.tag }) =
     ap (λ (v : Walk). listed_as n v.active_formatting) e
     ∙ walk-keeps f0 b n 3 (opens_of node (slice_range xs (c.args.from + 1) c.args.to)) (begun f0 b es) (opened-Walked f0 (open_of node (get_or xs c.args.to d)) es c.requires.standing.tree c.requires.standing.listed a.named) there
     (none-between f0 node xs c.args.from c.args.to d c.requires.standing.apart c.requires.order c.requires.within)
     ∙ (c.requires.turn d).listed in
-    let ne : node c.in_ok-handle.handle ≢ n = λ same. absurd (omega (arith, named, there, more, same)) in
-    let rel = subst (λ x. listed_as (node (handle_of x)) w.active_formatting ≡ Some (record { number = n; tag = c.args.tag }) → node c.in_ok-handle.handle ≢ node (handle_of x) → IsRelisted node (node (handle_of x)) (node c.in_ok-handle.handle) c.args.tag c.first_of-first.result w.active_formatting (entries_of node c.relist.new.entries.items)) from_is (c.relist.ensures n c.args.tag) in
+    let ne : node copy.handle ≢ n = λ same. absurd (omega (arith, named, there, more, same)) in
+    let rel = subst (λ x. listed_as (node (handle_of x)) w.active_formatting ≡ Some (record { number = n; tag = c.args.tag }) → node copy.handle ≢ node (handle_of x) → IsRelisted node (node (handle_of x)) (node copy.handle) c.args.tag c.first_of-first.result w.active_formatting (entries_of node c.relist.new.entries.items)) from_is (c.relist.ensures n c.args.tag) in
     let first = rw c.as_slice-3.ensures.value at c.first_of-first.ensures in
-    let others_is = relisted-is node n (node c.in_ok-handle.handle) c.args.tag c.first_of-first.result c.in_ok-copies.copies.elements.items w.active_formatting (entries_of node c.relist.new.entries.items) first (copies-new f0 w.forest n w.copies there a.walked.new) (rel said ne)
+    let others_is = relisted-is node n (node copy.handle) c.args.tag c.first_of-first.result c.in_ok-copies.copies.elements.items w.active_formatting (entries_of node c.relist.new.entries.items) first (copies-new f0 w.forest n w.copies there a.walked.new) (rel said ne)
     ∙ ap (λ m. relist n (Element m c.args.tag) w.copies w.active_formatting) named in
-    let new : OpenElement _ = record { handle = c.in_ok-handle.handle; name = c.in_ok-name.name } in
-    let opened = opened-as node c.in_ok-handle.handle c.in_ok-name.name f2 c.args.tag element named c.in_ok-name.ensures.ok for_tag in
     let opens_is = ap (λ ys. opens_of node ys) (c.restack.ensures d)
-    ∙ rebuilt node (take c.args.from xs) c.in_ok-copies.copies.elements.items (drop (c.args.to + 1) xs) (get_or xs c.args.to d) new
-    ∙ ap (λ k. opens_of node (drop k xs) ++ (open_of node new ∷ open_of node (get_or xs c.args.to d) ∷ w.copies) ++ opens_of node (take c.args.from xs)) (add-one c.args.to)
-    ∙ ap (λ o. opens_of node (drop (suc c.args.to) xs) ++ (o ∷ open_of node (get_or xs c.args.to d) ∷ w.copies) ++ opens_of node (take c.args.from xs)) opened in
-    turned-is node f0 xs es c.args.from c.args.to d c.args.foster c.args.tag w s f2 (g.Sink.TreeSink.forest c.adopt_children.new.sink) (opens_of node c.restack.new.items.items) (entries_of node c.relist.new.entries.items)
+    ∙ rebuilt node (take c.args.from xs) c.in_ok-copies.copies.elements.items (drop (c.args.to + 1) xs) (get_or xs c.args.to d) copy
+    ∙ ap (λ k. opens_of node (drop k xs) ++ (open_of node copy ∷ open_of node (get_or xs c.args.to d) ∷ w.copies) ++ opens_of node (take c.args.from xs)) (add-one c.args.to)
+    ∙ ap (λ o. opens_of node (drop (suc c.args.to) xs) ++ (o ∷ open_of node (get_or xs c.args.to d) ∷ w.copies) ++ opens_of node (take c.args.from xs)) c.in_ok-copy.ensures.opened in
+    turned-is node f0 xs es c.args.from c.args.to d c.args.foster c.args.tag w s f2 (g.Sink.TreeSink.forest c.copy_under.new.sink) (opens_of node c.restack.new.items.items) (entries_of node c.relist.new.entries.items)
     c.requires.standing c.requires.order c.requires.within on e put_is forest_is others_is opens_is
+
+pub returns-in_err-copies-clause-kept : goal.returns-in_err-copies-clause-kept
+returns-in_err-copies-clause-kept g c = on-err c.from_residual.result (c.in_err-copies.ensures.kept (opens_of g.Sink.TreeSink.node c.args.elements.now.items) c.requires.standing)
+
+pub returns-in_err-put_last-clause-grows : goal.returns-in_err-put_last-clause-grows
+returns-in_err-put_last-clause-grows g c = grown _ _ _ _ _ c.in_ok-copies.ensures.grows (ap node_count c.place_before-point.ensures.same) c.in_err-put_last.ensures.grows (no-less _)
+
+pub returns-in_err-copy-clause-grows : goal.returns-in_err-copy-clause-grows
+returns-in_err-copy-clause-grows g c = grown _ _ _ _ _ c.in_ok-copies.ensures.grows (ap node_count c.place_before-point.ensures.same) c.in_ok-put_last.ensures.grows c.in_err-copy.ensures.grows
+
+pub returns-clause-grows : goal.returns-clause-grows
+returns-clause-grows g c = grown _ _ _ _ _ c.in_ok-copies.ensures.grows (ap node_count c.place_before-point.ensures.same) c.in_ok-put_last.ensures.grows c.in_ok-copy.ensures.grows
+
+pub restack-requires-clause-within : goal.restack-requires-clause-within
+restack-requires-clause-within g c = c.requires.within

@@ -9,7 +9,8 @@ use Rattle.html_stack.specs.Found.{IsTagAt}
 use Rattle.html_stack.specs.Stacks.{entries_of, open_of, opens_of}
 use Rattle.html_stack.specs.declared.entries.FormatEntry.TheVariants.{Marker}
 use Rattle.html_stack.proofs.Adopted.{before-place}
-use Rattle.html_stack.proofs.Agencies.{after-is, any-of, block-place, number-place, rest-is, same-tag, told-stands, turn-adopt, turn-cut}
+use Rattle.html_stack.proofs.Agencies.{after-is, any-of, block-place, number-place, rest-is, same-tag, told-grows, told-grows-on, told-stands, turn-adopt, turn-cut}
+use Rattle.html_stack.proofs.ListEdits.{marker-apart}
 use Rattle.html_stack.proofs.Results.{on-err}
 use Rattle.html_stack.proofs.StackEdits.{newest-open, open-node}
 use Rattle.html_stack.proofs.formatting.turns.turn_open.Goals as goal
@@ -111,3 +112,54 @@ returns-clause-ok g c =
     ∙ ap (λ h. turned (with_all s h (opens_of node xs) es) (record { number = node (get_or xs c.args.from d).handle; tag = c.in-Some-2.tag }) block) told_is
     ∙ ap (λ k. turned (with_all s (told n (opens_of node xs) f) (opens_of node xs) es) (record { number = k; tag = c.in-Some-2.tag }) block) number
     ∙ ap (λ t. turned (with_all s (told n (opens_of node xs) f) (opens_of node xs) es) (record { number = n; tag = t }) block) tag_is))
+
+pub returns-in_default-2-clause-ok : goal.returns-in_default-2-clause-ok
+returns-in_default-2-clause-ok g c =
+    let items = c.args.entries.now.items in
+    let none : IsTagAt items c.args.formatting.place None = subst (IsTagAt items c.args.formatting.place) c.in_default-2.is (rw c.as_slice-3.ensures.value at c.in_ok-tag.ensures.tag) in
+    marker-apart (get_or items c.args.formatting.place Marker) c.args.formatting.node c.requires.listed.0 c.requires.listed.1.entry none
+
+pub returns-in_default-clause-grows : goal.returns-in_default-clause-grows
+returns-in_default-clause-grows g c =
+    let node = g.Sink.TreeSink.node in
+    let n = node c.args.formatting.node in
+    let f = g.Sink.TreeSink.forest c.args.sink.now in
+    let xs = opens_of node c.args.elements.now.items in
+    let told_is : g.Sink.TreeSink.forest c.tell_unless_current.new.sink ≡ told n xs f = rw c.as_slice.ensures.value at c.tell_unless_current.ensures in
+    told-grows n xs f (g.Sink.TreeSink.forest c.tell_unless_current.new.sink) told_is
+
+pub returns-in_err-tag-clause-grows : goal.returns-in_err-tag-clause-grows
+returns-in_err-tag-clause-grows g c =
+    let node = g.Sink.TreeSink.node in
+    let n = node c.args.formatting.node in
+    let f = g.Sink.TreeSink.forest c.args.sink.now in
+    let xs = opens_of node c.args.elements.now.items in
+    let told_is : g.Sink.TreeSink.forest c.tell_unless_current.new.sink ≡ told n xs f = rw c.as_slice.ensures.value at c.tell_unless_current.ensures in
+    told-grows n xs f (g.Sink.TreeSink.forest c.tell_unless_current.new.sink) told_is
+
+pub returns-in_default-2-clause-grows : goal.returns-in_default-2-clause-grows
+returns-in_default-2-clause-grows g c =
+    let node = g.Sink.TreeSink.node in
+    let n = node c.args.formatting.node in
+    let f = g.Sink.TreeSink.forest c.args.sink.now in
+    let xs = opens_of node c.args.elements.now.items in
+    let told_is : g.Sink.TreeSink.forest c.tell_unless_current.new.sink ≡ told n xs f = rw c.as_slice.ensures.value at c.tell_unless_current.ensures in
+    told-grows n xs f (g.Sink.TreeSink.forest c.tell_unless_current.new.sink) told_is
+
+pub returns-in_err-adopt-clause-grows : goal.returns-in_err-adopt-clause-grows
+returns-in_err-adopt-clause-grows g c =
+    let node = g.Sink.TreeSink.node in
+    let n = node c.args.formatting.node in
+    let f = g.Sink.TreeSink.forest c.args.sink.now in
+    let xs = opens_of node c.args.elements.now.items in
+    let told_is : g.Sink.TreeSink.forest c.tell_unless_current.new.sink ≡ told n xs f = rw c.as_slice.ensures.value at c.tell_unless_current.ensures in
+    told-grows-on n xs f (g.Sink.TreeSink.forest c.tell_unless_current.new.sink) (g.Sink.TreeSink.forest c.adopt.new.sink) told_is c.in_err-adopt.ensures.grows
+
+pub returns-clause-grows : goal.returns-clause-grows
+returns-clause-grows g c =
+    let node = g.Sink.TreeSink.node in
+    let n = node c.args.formatting.node in
+    let f = g.Sink.TreeSink.forest c.args.sink.now in
+    let xs = opens_of node c.args.elements.now.items in
+    let told_is : g.Sink.TreeSink.forest c.tell_unless_current.new.sink ≡ told n xs f = rw c.as_slice.ensures.value at c.tell_unless_current.ensures in
+    rw c.pop.ensures (told-grows-on n xs f (g.Sink.TreeSink.forest c.tell_unless_current.new.sink) (g.Sink.TreeSink.forest c.adopt.new.sink) told_is c.in_ok-adopt.ensures.grows)

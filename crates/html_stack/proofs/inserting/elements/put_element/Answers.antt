@@ -1,4 +1,4 @@
-use Rattle.html_stack.proofs.Points.{leaves-made, leaves-stays, put-at}
+use Rattle.html_stack.proofs.Points.{leaves-made, leaves-stays, owner-stays, put-at}
 use Rattle.html_stack.specs.Inserting.{with_made}
 use Rattle.html_stack.proofs.inserting.elements.put_element.Goals as goal
 
@@ -19,3 +19,15 @@ pub returns-clause-kept : goal.returns-clause-kept
 returns-clause-kept g c xs entries is =
     rw (c.in_ok-insert_at.ensures.ok, c.tell_owner.ensures, c.tell_started.ensures, c.in_ok-made.ensures.ok, c.in_ok-made.ensures.named)
     (leaves-made g.Sink.TreeSink.node c.args.point (g.Sink.TreeSink.forest c.args.sink.now) c.args.element c.requires.tree c.requires.point xs entries is)
+
+pub tell_started-requires : goal.tell_started-requires
+tell_started-requires g c =
+    rw (c.in_ok-made.ensures.ok, c.in_ok-made.ensures.named) (put-at g.Sink.TreeSink.node c.args.point (g.Sink.TreeSink.forest c.args.sink.now) c.args.element c.requires.tree c.requires.point).there
+
+pub tell_owner-requires-clause-made : goal.tell_owner-requires-clause-made
+tell_owner-requires-clause-made g c =
+    rw (c.tell_started.ensures, c.in_ok-made.ensures.ok, c.in_ok-made.ensures.named) (put-at g.Sink.TreeSink.node c.args.point (g.Sink.TreeSink.forest c.args.sink.now) c.args.element c.requires.tree c.requires.point).there
+
+pub tell_owner-requires-clause-owner : goal.tell_owner-requires-clause-owner
+tell_owner-requires-clause-owner g c =
+    owner-stays g.Sink.TreeSink.node (g.Sink.TreeSink.forest c.args.sink.now) (g.Sink.TreeSink.forest c.create.new.sink) (g.Sink.TreeSink.forest c.tell_started.new.sink) c.args.owner c.tell_started.ensures c.in_ok-made.ensures.grows c.requires.owner
