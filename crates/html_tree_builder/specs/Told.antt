@@ -1,5 +1,5 @@
 -- Tokens as the rules take them.
-use Rattle.std.specs.Prelude.{◌≡◌, Bool, false, ◌&&◌}
+use Rattle.std.specs.Prelude.{◌≡◌, Bool, true, false, ◌&&◌}
 use Rattle.std.specs.Str.{chars}
 use Rattle.html_tokens.specs.declared.tags.TagKind.{TagKind}
 use Rattle.html_tokens.specs.declared.token.Token as tokens
@@ -9,6 +9,8 @@ use Rattle.html_rules.specs.Sets.{is_among, names_of}
 use Rattle.html_rules.specs.Tokens.{name_of}
 use Rattle.html_rules.specs.Formatting.{same_kind}
 use Rattle.html_rules.specs.declared.tag_set.TagSet.{TagSet}
+use Rattle.html_rules.specs.declared.insertion_mode.InsertionMode.{InsertionMode}
+use Rattle.html_rules.specs.declared.insertion_mode.InsertionMode.TheVariants.{Text}
 use Rattle.html_names.specs.Classes.{IsClassOf}
 use Rattle.html_tree_builder.specs.declared.told.Content.{Content}
 use Rattle.html_tree_builder.specs.declared.told.Content.TheVariants.{Tag, Characters, Null, Comment, EndOfFile}
@@ -35,3 +37,8 @@ is_tag kind t = false
 abbrev pub is_tag_in : TagKind → TagSet → tokens.Token → Bool
 is_tag_in kind set (TagToken tag) = same_kind tag.kind kind && is_among tag.name (names_of set)
 is_tag_in kind set t = false
+
+-- whether the input ends within the text of an element
+abbrev pub cuts_off_text : tokens.Token → InsertionMode → Bool
+cuts_off_text EOFToken Text = true
+cuts_off_text t mode = false

@@ -6,7 +6,7 @@ ghost use Rattle.html_rules.specs.Places.{insert_element_for};
 ghost use Rattle.html_rules.specs.Stack.{pop_but_root};
 ghost use Rattle.html_rules.specs.State.{Answers};
 ghost use Rattle.html_tree_builder.specs.States.{Stands, state_of};
-ghost use Rattle.html_tree_builder.specs.Told.{IsTold, token_of};
+ghost use Rattle.html_tree_builder.specs.Told.{IsTold, cuts_off_text, token_of};
 
 use crate::construction::Construction;
 use crate::told::{Content, Told};
@@ -49,7 +49,9 @@ impl<Sink: TreeSink> Construction<Sink> {
     }
 
     /// Whether the input ends within the text of an element.
-    fn cuts_off_text(&self, told: &Told<'_>) -> bool {
+    fn cuts_off_text(&self, told: &Told<'_>) -> bool
+        ensures { result ≡ cuts_off_text (token_of told.now.content) self.now.mode }
+    {
         matches!(told.content, Content::EndOfFile) && matches!(self.mode, InsertionMode::Text)
     }
 
