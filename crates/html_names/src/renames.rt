@@ -1,7 +1,6 @@
 //! Names that change in foreign content (HTML Standard, section 13.2.6.1, "adjust SVG attributes" and the like, and section 13.2.6.5). A
 //! known name has a number, so a rename is a pair of numbers.
 ghost use Rattle.std.specs.Prelude.{◌≡◌, ◌<◌, IfErr, IfOk, IfSome, [], find, length, map, nat_eq, slice_index_or};
-ghost use Rattle.std.specs.Str.{chars};
 ghost use Rattle.markup.specs.KnownNames.{IsNameAt, names};
 ghost use Rattle.markup.specs.declared.fault.ParseFault.TheVariants.{Memory};
 ghost use Rattle.markup.specs.declared.names.QualName.{QualName as Qualified};

@@ -1,11 +1,10 @@
-use Rattle.std.proofs.Common.{◌≡◌, ◌∙◌, ℕ, true, false, List, [], slice_index_or, ap, sym, refl}
+use Rattle.std.proofs.Common.{◌≡◌, ◌∙◌, ℕ, false, List, [], slice_index_or, ap, sym}
 use Rattle.std.proofs.lemmas.List.{get_or-map, length-map}
 use Rattle.std.proofs.lemmas.Slice.Eq.{bytes_eq-Decides}
-use Rattle.std.specs.List.{list_all, list_any}
+use Rattle.std.specs.List.{list_any}
 use Rattle.std.specs.Str.{bytes_eq, chars}
 use Rattle.markup.specs.KnownNames.{IsNameAt, names}
 use Rattle.markup.specs.KnownSlots.{place_at}
-use Rattle.markup.specs.Plain.{is_plain}
 use Rattle.markup.proofs.KnownTexts.{names-plain}
 use Rattle.markup.proofs.Plain.{chars-plain}
 use Rattle.markup.proofs.PlacedNames.{none_placed}

@@ -1,4 +1,4 @@
-use Rattle.std.proofs.Common.{◌≡◌, ◌≢◌, None, Some, arith, rules}
+use Rattle.std.proofs.Common.{◌≡◌, ◌≢◌, Some, arith, rules}
 use Rattle.std.specs.Prelude.{IfErr}
 use Rattle.std.proofs.lemmas.Grind.{common_steps}
 use Rattle.html_references.specs.References.{fault_of}
