@@ -1,11 +1,11 @@
 -- A row more, with its place put into the order.
-use Rattle.std.proofs.Common.{◌≡◌, ◌∙◌, ℕ, ◌<◌, ◌≤◌, ◌+◌, ◌-◌, zero, suc, true, List, [], ◌∷◌, ◌++◌, length, get_or, refl, sym, ap, subst, arith, length-append, take, None, ⊎_elim}
+use Rattle.std.proofs.Common.{◌≡◌, ◌∙◌, ℕ, ◌<◌, ◌≤◌, ◌+◌, ◌-◌, zero, suc, true, List, [], ◌∷◌, ◌++◌, length, get_or, refl, sym, ap, subst, arith, length-append, take, drop, None, ⊎_elim}
 use Rattle.std.specs.Prelude.{insert}
 use Rattle.std.proofs.lemmas.Bool.{cases_lt, cases_order}
-use Rattle.std.proofs.lemmas.List.{length-take-le, take_more}
+use Rattle.std.proofs.lemmas.List.{drop_all, length-take-le, take_all, take_more}
 use Rattle.std.proofs.lemmas.List.Edits.{length-insert, get_or-insert_below, get_or-insert_at, get_or-insert_above}
-use Rattle.html_references.specs.Order.{IsBefore, IsOrder, IsPlaceOf, name_at, ordered_name}
-use Rattle.html_references.specs.References.{fault_behind, is_reference_name}
+use Rattle.html_references.specs.Order.{IsBefore, IsOrder, IsPlaceOf, IsTable, name_at, ordered_name}
+use Rattle.html_references.specs.References.{fault_behind, first_fault, is_reference_name}
 use Rattle.html_tokens.specs.declared.table.ReferenceRow.{ReferenceRow}
 use Rattle.html_references.proofs.Faults.{name_without_fault}
 
@@ -126,3 +126,11 @@ IsOrder-more rows place row order longer index l e o p good is =
     let same : take (place + 1) rows ≡ take place rows ++ row ∷ [] = take_more rows place row l ∙ ap (λ r. take place rows ++ r ∷ []) (sym e) in
     rw (same, is)
     (subst (λ k. IsOrder (take place rows ++ row ∷ []) (insert order index k)) n (IsOrder-insert (take place rows) order row index o p (name_without_fault (take place rows) row good)))
+
+-- rows up to one behind which there is none are a table
+pub IsTable-whole : (rows : List ReferenceRow) (order : List ℕ) (n : ℕ) → length rows ≤ n → IsOrder (take n rows) order → first_fault [] rows ≡ first_fault (take n rows) (drop n rows) → IsTable rows order
+IsTable-whole rows order n long ordered faults =
+    record {
+      checked = faults ∙ ap (first_fault (take n rows)) (drop_all n rows long);
+      order_of = subst (λ (rs : List ReferenceRow). IsOrder rs order) (take_all n rows long) ordered;
+    }

@@ -6,6 +6,7 @@ pub mod HeldTexts
 pub mod InputChars
 pub mod InputRuns
 pub mod Keywords
+pub mod NamedRows
 pub mod RawKinds
 pub mod Sets
 pub mod Words

@@ -1,7 +1,7 @@
-use Rattle.std.proofs.Common.{◌≡◌, ◌≤◌, ◌<◌, ◌++◌, take, refl, arith, length, List, ℕ, subst}
+use Rattle.std.proofs.Common.{◌≡◌, ◌≤◌, ◌<◌, ◌++◌, take, refl, arith, length, List, ℕ, subst, rules}
 use Rattle.std.proofs.lemmas.Grind.{common_steps}
 use Rattle.std.proofs.lemmas.List.{length-take}
-use Rattle.html_input.specs.Reading.{StaysAtFault}
+use Rattle.html_input.specs.Reading.{IsFront, StaysAtFault}
 use Rattle.html_input.proofs.Utf8.{IsFront-nil, moved-none, moved-more, shows-fault, shows-end, begun-shown, BeginsText-front}
 use Rattle.html_input.proofs.read.read_text.Goals as goal
 
@@ -33,3 +33,13 @@ returns-then-valid-len-clause-err g c =
     let moved = rw zero at c.in-Ok.ensures.moved in
     shows-end _ _ _ c.loop-count.bytes.items c.loop-count.valid c.loop-count.invariant.moved moved (c.in-Ok.ensures.end zero some) c.loop-count.invariant.front
     (omega (arith, c.if-valid-len.true, c.len.ensures))
+
+pub loop-count-preserved : goal.loop-count-preserved
+loop-count-preserved g c =
+    record {
+      moved = rw c.in_ok-extend_from_slice.ensures.items (moved-more _ _ _ _ _ c.loop-count.invariant.moved c.in-Ok.ensures.moved);
+      front = subst (λ (bs : List ℕ). IsFront bs c.in-Ok-valid_front.valid) c.as_slice.ensures.value c.in-Ok-valid_front.ensures.ok;
+      counted = search rules;
+      room = search rules;
+      same_references = search rules;
+    }

@@ -1,4 +1,4 @@
-use Rattle.std.proofs.Common.{◌≡◌, List, ℕ, sym, subst}
+use Rattle.std.proofs.Common.{◌≡◌, List, ℕ, sym, subst, rules}
 use Rattle.std.specs.Io.KnownBytes.{prepend_known}
 use Rattle.html_input.proofs.Whole.{row-fault}
 use Rattle.html_input.proofs.table.read_table.Goals as goal
@@ -11,3 +11,6 @@ returns-clause-err g c =
     rw c.row_fault.ensures
     (row-fault c.in-Err.fault old new c.as_str.result.now c.in_ok-rows.rows.items moved c.in_ok-text.ensures.end c.as_str.utf8 c.in_ok-rows.ensures.ok
     c.in-Err.ensures.first)
+
+pub returns-in-Ok-clause-ok : goal.returns-in-Ok-clause-ok
+returns-in-Ok-clause-ok g c = search rules

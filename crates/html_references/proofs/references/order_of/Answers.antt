@@ -1,6 +1,6 @@
 use Rattle.std.proofs.Common.{arith, None}
 use Rattle.html_references.proofs.Faults.{first_fault-at}
-use Rattle.html_references.proofs.Inserts.{IsOrder-more}
+use Rattle.html_references.proofs.Inserts.{IsOrder-more, IsTable-whole}
 use Rattle.html_references.proofs.references.order_of.Goals as goal
 
 pub loop-place-preserved : goal.loop-place-preserved
@@ -13,3 +13,7 @@ loop-place-preserved c =
           (omega arith) c.index-rows-place.is c.loop-place.invariant.order_of placed good c.in_ok-insert.ensures.items;
       faults = first_fault-at c.args.rows.now c.loop-place.place c.index-rows-place.result None (omega arith) c.index-rows-place.is good c.loop-place.invariant.faults;
     }
+
+pub returns-clause-ok : goal.returns-clause-ok
+returns-clause-ok c =
+    IsTable-whole c.args.rows.now c.loop-place.order.items c.loop-place.place c.loop-place-test.false c.loop-place.invariant.order_of c.loop-place.invariant.faults
