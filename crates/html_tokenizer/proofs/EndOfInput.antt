@@ -1,4 +1,5 @@
 -- What the end of the input makes of what is held.
+pub mod Failed
 pub mod Keeping
 pub mod Markup
 pub mod References

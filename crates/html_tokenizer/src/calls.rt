@@ -75,6 +75,15 @@ impl<Sink: TokenSink> Tokenizer<Sink> {
         }
     }
 
+    /// Remembers a fault, and hands it on.
+    fn fail(&mut self, fault: ParseFault) -> ParseFault
+        ensures failed { self.new ≡ record self.old { stream = record self.old.stream { has_failed = true } } }
+        ensures fault { result ≡ fault }
+    {
+        self.stream.has_failed = true;
+        fault
+    }
+
     /// Takes the characters of the input, and tells the sink what they say, up to the end of the input or a pause: an
     /// end tag of a script, or a `meta` element that names an encoding. Behind a pause a later call goes on; text may be
     /// put at the input's front meanwhile, as `document.write` does.
@@ -97,10 +106,7 @@ impl<Sink: TokenSink> Tokenizer<Sink> {
         self.stream.refuses()?;
         match self.run(input) {
             Ok(result) => Ok(result),
-            Err(fault) => {
-                self.stream.has_failed = true;
-                Err(fault)
-            }
+            Err(fault) => Err(self.fail(fault)),
         }
     }
 
@@ -131,10 +137,7 @@ impl<Sink: TokenSink> Tokenizer<Sink> {
                 self.sink.end();
                 Ok(())
             }
-            Err(fault) => {
-                self.stream.has_failed = true;
-                Err(fault)
-            }
+            Err(fault) => Err(self.fail(fault)),
         }
     }
 

@@ -61,6 +61,11 @@ const STRUCTURE: &[Row] = &[
     row!(EndTags(TagSet::Html), [ParseError], Done),
 ];
 
+// The sets of start tags that its rows ask for, and of end tags.
+const STRUCTURE_STARTS: u128 = sets!(Html, HeadContent, Body, Frameset);
+
+const STRUCTURE_ENDS: u128 = sets!(Template, Body, Html);
+
 const BLOCKS: &[Row] = &[
     row!(StartTags(TagSet::Block), [CloseP, InsertElement], Done),
     row!(
@@ -145,6 +150,13 @@ const BLOCKS: &[Row] = &[
     row!(EndTags(TagSet::HeadingTag), if InScope(TagSet::DefaultScope, TagSet::HeadingTag), [ImpliedEndTags, When(Not(&CurrentIsToken), &ParseError), PopUntil(TagSet::HeadingTag)], Done),
     row!(EndTags(TagSet::HeadingTag), [ParseError], Done),
 ];
+
+// The sets of start tags that its rows ask for, and of end tags.
+const BLOCKS_STARTS: u128 = sets!(
+    Block, HeadingTag, PreListing, Form, Li, DdDt, Plaintext, Button
+);
+
+const BLOCKS_ENDS: u128 = sets!(BlockEnd, Form, P, Li, DdDt, HeadingTag);
 
 const FORMATTING: &[Row] = &[
     row!(
@@ -297,6 +309,27 @@ const FORMATTING: &[Row] = &[
     row!(StartTags(TagSet::Noscript), if ScriptingEnabled, [InsertElement, KeepMode, SwitchTo(InsertionMode::Text)], RawText(RawKind::Rawtext)),
 ];
 
+// The sets of start tags that its rows ask for, and of end tags.
+const FORMATTING_STARTS: u128 = sets!(
+    A,
+    FormattingTag,
+    Nobr,
+    AppletMarqueeObject,
+    Table,
+    VoidTag,
+    Input,
+    ParamSourceTrack,
+    Hr,
+    Image,
+    Textarea,
+    Xmp,
+    Iframe,
+    Noembed,
+    Noscript
+);
+
+const FORMATTING_ENDS: u128 = sets!(FormattingEnd, AppletMarqueeObject, Br);
+
 const CONTENT: &[Row] = &[
     row!(StartTags(TagSet::Select), if ContextIs(TagSet::Select), [ParseError], Done),
     row!(StartTags(TagSet::Select), if InScope(TagSet::DefaultScope, TagSet::Select), [ParseError, PopUntil(TagSet::Select)], Done),
@@ -356,6 +389,9 @@ const CONTENT: &[Row] = &[
     row!(StartTags(TagSet::TablePart), [ParseError], Done),
 ];
 
+// The sets of start tags that its rows ask for.
+const CONTENT_STARTS: u128 = sets!(Select, Option, Optgroup, RbRtc, RpRt, Math, Svg, TablePart);
+
 const REST: &[Row] = &[
     row!(AnyStartTag, [Reconstruct, InsertElement], Done),
     row!(AnyEndTag, [AnyOtherEndTag], Done),
@@ -370,8 +406,8 @@ pub(crate) fn structure() -> Part
 {
     Part {
         rows: STRUCTURE,
-        starts: sets!(Html, HeadContent, Body, Frameset),
-        ends: sets!(Template, Body, Html),
+        starts: STRUCTURE_STARTS,
+        ends: STRUCTURE_ENDS,
     }
 }
 
@@ -383,10 +419,8 @@ pub(crate) fn blocks() -> Part
 {
     Part {
         rows: BLOCKS,
-        starts: sets!(
-            Block, HeadingTag, PreListing, Form, Li, DdDt, Plaintext, Button
-        ),
-        ends: sets!(BlockEnd, Form, P, Li, DdDt, HeadingTag),
+        starts: BLOCKS_STARTS,
+        ends: BLOCKS_ENDS,
     }
 }
 
@@ -398,24 +432,8 @@ pub(crate) fn formatting() -> Part
 {
     Part {
         rows: FORMATTING,
-        starts: sets!(
-            A,
-            FormattingTag,
-            Nobr,
-            AppletMarqueeObject,
-            Table,
-            VoidTag,
-            Input,
-            ParamSourceTrack,
-            Hr,
-            Image,
-            Textarea,
-            Xmp,
-            Iframe,
-            Noembed,
-            Noscript
-        ),
-        ends: sets!(FormattingEnd, AppletMarqueeObject, Br),
+        starts: FORMATTING_STARTS,
+        ends: FORMATTING_ENDS,
     }
 }
 
@@ -427,7 +445,7 @@ pub(crate) fn content() -> Part
 {
     Part {
         rows: CONTENT,
-        starts: sets!(Select, Option, Optgroup, RbRtc, RpRt, Math, Svg, TablePart),
+        starts: CONTENT_STARTS,
         ends: 0,
     }
 }
