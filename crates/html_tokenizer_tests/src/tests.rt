@@ -332,10 +332,15 @@ fn is_row(alloc: Global, setting: Setting, row: Row) -> bool {
     }
 }
 
+/// Sees that a row is right, and names it otherwise.
+fn see(rt: &impl Abort, is_right: bool, row: &str) {
+    assert!(rt; is_right, "{row}");
+}
+
 /// Sees the same of each text. No memory is refused.
 fn assert_rows(rt: &impl Abort, alloc: Global, setting: Setting, rows: &[Row]) {
-    for row in rows {
-        assert!(rt; is_row(alloc, setting, *row), "{}", row.0);
+    for &row in rows {
+        see(rt, is_row(alloc, setting, row), row.0);
     }
 }
 

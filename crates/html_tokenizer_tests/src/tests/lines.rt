@@ -1,6 +1,6 @@
 //! On which lines tokens are told.
 
-use super::{PAGE, is_told_in_pieces, read, read_whole};
+use super::{PAGE, is_told_in_pieces, read, read_whole, see};
 use html_tokenizer::Listed;
 use std::alloc::Global;
 use text_pieces::as_given;
@@ -38,10 +38,12 @@ const PIECES: &[&[&str]] = &[
     &["<a>", "\r", "\n", "<b>", "\r", "", "\n", "</b>\n", "</a>\r"],
 ];
 
+const FIVE: &[u64] = &[1, 2, 3, 4, 5];
+
 #[test]
 fn each_line_end_counts_once(rt: HostRuntime) {
     for &pieces in PIECES {
-        assert!(rt; are_pieces_on(rt.alloc(), pieces, &[1, 2, 3, 4, 5]));
+        assert!(rt; are_pieces_on(rt.alloc(), pieces, FIVE));
     }
 }
 
@@ -70,6 +72,6 @@ fn is_on(alloc: Global, text: &str, lines: &[u64]) -> bool {
 #[test]
 fn tokens_are_told_where_they_end(rt: HostRuntime) {
     for &(text, lines) in LINES {
-        assert!(rt; is_on(rt.alloc(), text, lines), "{text}");
+        see(&rt, is_on(rt.alloc(), text, lines), text);
     }
 }
