@@ -339,15 +339,20 @@ fn refused_behind<S: TokenSink + Drop>(
     sink_if(tokenizer, answer)
 }
 
-/// Whether calls behind the end are refused, and leave the input and the sink as they are.
-fn leaves_all_behind(alloc: Global, input: &mut BufferQueue) -> bool {
-    let Ok(sink) = refused_behind(alloc, list_of(alloc, PAGE), "a<", input) else {
-        return false;
-    };
+/// Whether a list was told the text `a<` and the end, and this input is left.
+fn has_left_all(alloc: Global, sink: &Listed, input: &mut BufferQueue) -> bool {
     sink.has_ended
-        && is_in_words(alloc, &sink, "text \"a<\"; eof")
+        && is_in_words(alloc, sink, "text \"a<\"; eof")
         && input.next() == Some('b')
         && input.is_empty()
+}
+
+/// Whether calls behind the end are refused, and leave the input and the sink as they are.
+fn leaves_all_behind(alloc: Global, input: &mut BufferQueue) -> bool {
+    match refused_behind(alloc, list_of(alloc, PAGE), "a<", input) {
+        Ok(sink) => has_left_all(alloc, &sink, input),
+        Err(_) => false,
+    }
 }
 
 fn are_refused_behind(alloc: Global, input: &mut BufferQueue) -> bool {

@@ -7,15 +7,13 @@ use text_pieces::as_given;
 
 /// Whether the tokens of a list were told on these lines.
 fn are_on(sink: &Listed, lines: &[u64]) -> bool {
-    if sink.told.len() != lines.len() {
-        return false;
-    }
-    for (told, line) in sink.told.iter().zip(lines) {
-        if told.line != *line {
-            return false;
+    for (place, told) in sink.told.iter().enumerate() {
+        match lines.get(place) {
+            Some(line) if *line == told.line => {}
+            _ => return false,
         }
     }
-    true
+    sink.told.len() == lines.len()
 }
 
 /// Whether the pieces tell tokens on these lines.

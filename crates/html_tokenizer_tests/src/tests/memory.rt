@@ -83,16 +83,18 @@ fn read_text(
     read_or_fail(alloc, list_of(alloc, setting), setting, input)
 }
 
-/// The tokens of a text, in words.
-fn told(alloc: Global, setting: Setting, text: &str) -> Result<String, ParseFault> {
-    let sink = read_text(alloc, setting, &mut BufferQueue::new(), text)?;
-    Ok(in_words(alloc, &sink)?)
+/// Whether a list was told these tokens, or memory is refused for their words.
+fn are_words_or_memory(alloc: Global, sink: &Listed, want: &str) -> bool {
+    match in_words(alloc, sink) {
+        Ok(words) => words.as_str() == want,
+        Err(_) => true,
+    }
 }
 
 /// Whether a text tells its tokens, or memory was refused.
 fn is_told_or_memory(alloc: Global, setting: Setting, row: Row) -> bool {
-    match told(alloc, setting, row.0) {
-        Ok(words) => words.as_str() == row.1,
+    match read_text(alloc, setting, &mut BufferQueue::new(), row.0) {
+        Ok(sink) => are_words_or_memory(alloc, &sink, row.1),
         Err(fault) => fault == ParseFault::Memory,
     }
 }
