@@ -25,14 +25,15 @@ fn main(rt: HostRuntime) -> Result<()> {
 }
 
 fn wanted_characters<R: Env + Alloc>(rt: &R) -> Result<usize> {
-    match env::args(rt)?.nth(1) {
-        Some(argument) => number_of(argument.as_str()),
+    let mut arguments = env::args(rt)?;
+    let _program = arguments.next();
+    match arguments.next() {
+        Some(argument) => argument
+            .as_str()
+            .parse()
+            .context("the number of characters"),
         None => Ok(DEFAULT_CHARACTERS),
     }
-}
-
-fn number_of(argument: &str) -> Result<usize> {
-    argument.parse().context("the number of characters")
 }
 
 /// Takes the characters of a queue one by one, and then once more in runs.
