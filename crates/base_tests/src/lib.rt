@@ -13,3 +13,12 @@ mod references;
 mod streams;
 #[cfg(test)]
 mod tokens;
+
+#[cfg(test)]
+use std::process::Abort;
+
+/// Sees that a row is right, and names it otherwise.
+#[cfg(test)]
+fn see(rt: &impl Abort, is_right: bool, row: &str) {
+    assert!(rt; is_right, "{row}");
+}

@@ -1,5 +1,7 @@
 //! Worked values of texts, names and attributes, each public call on the way.
 
+use crate::see;
+use crate::tokens::tags::{attribute, attributes};
 use markup::{
     Attribute, Attributes, KnownNamespace, LocalName, Namespace, ParseFault, Prefix, QualName,
     Text, namespaces,
@@ -20,16 +22,6 @@ fn namespace(alloc: Global, characters: &str) -> Result<Namespace, AllocError> {
 
 fn prefix(alloc: Global, characters: &str) -> Result<Prefix, AllocError> {
     Ok(Prefix::new(String::from_str(alloc, characters)?))
-}
-
-// An attribute with no namespace.
-fn attribute(alloc: Global, local: &str, value: &str) -> Result<Attribute, AllocError> {
-    let value = text(alloc, value)?;
-    let local = local_name(alloc, local)?;
-    Ok(Attribute {
-        name: QualName::new(None, Namespace::none(), local),
-        value,
-    })
 }
 
 // A start, what is added to it, and what stands there then.
@@ -101,7 +93,7 @@ fn is_grown(alloc: Global, start: &str, more: &str, whole: &str) -> bool {
 #[test]
 fn texts_grow_at_their_end(rt: HostRuntime) {
     for &(start, more, whole) in GROWN {
-        assert!(rt; is_grown(rt.alloc(), start, more, whole), "{whole}");
+        see(&rt, is_grown(rt.alloc(), start, more, whole), whole);
     }
 }
 
@@ -118,18 +110,23 @@ const LOWERED: &[(&str, &str)] = &[
     ),
 ];
 
-fn is_lowered(alloc: Global, more: &str, want: &str) -> bool {
-    let Ok(mut made) = Text::from_str(alloc, "let go") else {
-        return false;
-    };
+// Whether a text that is emptied holds then what is added so behind `X`.
+fn takes_lowered(made: &mut Text, more: &str, want: &str) -> bool {
     made.clear();
     made.push_str("X").is_ok() && made.push_lowered(more).is_ok() && made.as_str() == want
+}
+
+fn is_lowered(alloc: Global, more: &str, want: &str) -> bool {
+    match Text::from_str(alloc, "let go") {
+        Ok(mut made) => takes_lowered(&mut made, more, want),
+        Err(_) => false,
+    }
 }
 
 #[test]
 fn texts_are_lowered_at_their_end(rt: HostRuntime) {
     for &(more, want) in LOWERED {
-        assert!(rt; is_lowered(rt.alloc(), more, want), "{want}");
+        see(&rt, is_lowered(rt.alloc(), more, want), want);
     }
 }
 
@@ -139,14 +136,18 @@ const MORE: &str = "tes and as many again, and then some more";
 
 const LONG: &str = "a text of twenty-four bytes and as many again, and then some more";
 
-// Whether a text has grown, or stands as it did where memory was refused.
+// Whether a short text grows, or stands as it did where memory was refused.
+fn grows_or_stands(short: &mut Text) -> bool {
+    match short.push_str(MORE) {
+        Ok(()) => short.as_str() == LONG,
+        Err(fault) => fault == ParseFault::Memory && short.as_str() == SHORT,
+    }
+}
+
 fn is_whole_or_unchanged(alloc: Global) -> bool {
-    let Ok(mut grown) = text(alloc, SHORT) else {
-        return false;
-    };
-    match grown.push_str(MORE) {
-        Ok(()) => grown.as_str() == LONG,
-        Err(fault) => fault == ParseFault::Memory && grown.as_str() == SHORT,
+    match text(alloc, SHORT) {
+        Ok(mut short) => grows_or_stands(&mut short),
+        Err(_) => false,
     }
 }
 
@@ -156,14 +157,17 @@ fn a_refused_text_is_unchanged(rt: HostRuntime) {
 }
 
 // The same of an empty list to which an attribute comes.
-fn is_longer_or_unchanged(alloc: Global) -> bool {
-    let Ok(first) = attribute(alloc, "id", "x") else {
-        return false;
-    };
-    let mut list = Attributes::new(alloc);
+fn takes_one_or_stands(list: &mut Attributes, first: Attribute) -> bool {
     match list.push(first) {
         Ok(()) => list.len() == 1 && !list.is_empty(),
         Err(fault) => fault == ParseFault::Memory && list.is_empty(),
+    }
+}
+
+fn is_longer_or_unchanged(alloc: Global) -> bool {
+    match attribute(alloc, ("id", "x")) {
+        Ok(first) => takes_one_or_stands(&mut Attributes::new(alloc), first),
+        Err(_) => false,
     }
 }
 
@@ -172,10 +176,24 @@ fn a_refused_list_is_unchanged(rt: HostRuntime) {
     assert!(rt; is_longer_or_unchanged(rt.alloc()));
 }
 
-// The attribute `a0`, `a1` or so on, with this value.
-fn numbered_attribute(alloc: Global, number: usize, value: &str) -> Result<Attribute, ParseFault> {
-    let local = format!(in alloc; "a{number}")?;
-    Ok(attribute(alloc, local.as_str(), value)?)
+// The names of numbered attributes.
+const NUMBERED: &[&str] = &[
+    "a0", "a1", "a2", "a3", "a4", "a5", "a6", "a7", "a8", "a9", "a10", "a11", "a12", "a13", "a14",
+    "a15", "a16", "a17", "a18", "a19", "a20", "a21", "a22", "a23", "a24", "a25", "a26", "a27",
+    "a28", "a29", "a30", "a31", "a32", "a33", "a34", "a35", "a36", "a37", "a38", "a39",
+];
+
+// Attributes of these names, with this value, are put behind others.
+fn push_named(
+    alloc: Global,
+    list: &mut Attributes,
+    names: &[&'static str],
+    value: &'static str,
+) -> Result<(), ParseFault> {
+    for &name in names {
+        list.push(attribute(alloc, (name, value))?)?;
+    }
+    Ok(())
 }
 
 // So many attributes `a0`, `a1` and so on, with this value, are put behind others.
@@ -183,15 +201,15 @@ fn push_numbered(
     alloc: Global,
     list: &mut Attributes,
     count: usize,
-    value: &str,
+    value: &'static str,
 ) -> Result<(), ParseFault> {
-    for number in 0..count {
-        list.push(numbered_attribute(alloc, number, value)?)?;
+    match NUMBERED.get(..count) {
+        Some(names) => push_named(alloc, list, names, value),
+        None => Err(ParseFault::Shape),
     }
-    Ok(())
 }
 
-fn numbered(alloc: Global, count: usize, value: &str) -> Result<Attributes, ParseFault> {
+fn numbered(alloc: Global, count: usize, value: &'static str) -> Result<Attributes, ParseFault> {
     let mut list = Attributes::new(alloc);
     push_numbered(alloc, &mut list, count, value)?;
     Ok(list)
@@ -199,19 +217,21 @@ fn numbered(alloc: Global, count: usize, value: &str) -> Result<Attributes, Pars
 
 // Whether so many attributes have the value `x`, and all others, so many in all, the value `y`.
 fn are_filled(list: &Attributes, has: usize, count: usize) -> bool {
+    for (place, attribute) in list.as_slice().iter().enumerate() {
+        if attribute.value.as_str() != if place < has { "x" } else { "y" } {
+            return false;
+        }
+    }
     list.len() == count
-        && list.as_slice().iter().enumerate().all(|(place, attribute)| {
-            attribute.value.as_str() == if place < has { "x" } else { "y" }
-        })
 }
 
 // How many attributes there are, how many come, and how many there are then. From the seventeenth on places are kept.
-const MISSING: &[(usize, usize, usize)] = &[
-    (0, 0, 0),
-    (0, 3, 3),
-    (3, 5, 5),
-    (20, 5, 20),
-    (5, 40, 40),
+const MISSING: &[(&str, usize, usize, usize)] = &[
+    ("none to none", 0, 0, 0),
+    ("three to none", 0, 3, 3),
+    ("five to three", 3, 5, 5),
+    ("five to twenty", 20, 5, 20),
+    ("forty to five", 5, 40, 40),
 ];
 
 // Whether those of so many that are missing are added to so many attributes.
@@ -227,8 +247,8 @@ fn are_added(alloc: Global, has: usize, more: usize, want: usize) -> bool {
 
 #[test]
 fn missing_attributes_are_added(rt: HostRuntime) {
-    for &(has, more, want) in MISSING {
-        assert!(rt; are_added(rt.alloc(), has, more, want), "{has} and {more}");
+    for &(name, has, more, want) in MISSING {
+        see(&rt, are_added(rt.alloc(), has, more, want), name);
     }
 }
 
@@ -262,41 +282,53 @@ fn is_usual(alloc: Global, known: KnownNamespace, want: &str) -> bool {
 #[test]
 fn prefixes_of_namespaces_are_their_texts(rt: HostRuntime) {
     for &(known, want) in PREFIXES {
-        assert!(rt; is_usual(rt.alloc(), known, want), "{want}");
+        see(&rt, is_usual(rt.alloc(), known, want), want);
     }
 }
 
 // Texts that are copied below.
 const WORDS: &[&str] = &["", "href", "Ünïcode"];
 
+fn copies_text(alloc: Global, made: &Text, characters: &str) -> bool {
+    match made.copy(alloc) {
+        Ok(copied) => copied.as_str() == characters,
+        Err(_) => false,
+    }
+}
+
 fn is_text_copied(alloc: Global, characters: &str) -> bool {
-    let Ok(made) = text(alloc, characters) else {
-        return false;
-    };
-    let Ok(copied) = made.copy(alloc) else {
-        return false;
-    };
-    copied.as_str() == characters
+    match text(alloc, characters) {
+        Ok(made) => copies_text(alloc, &made, characters),
+        Err(_) => false,
+    }
+}
+
+fn copies_local_name(alloc: Global, made: &LocalName, characters: &str) -> bool {
+    match made.copy(alloc) {
+        Ok(copied) => copied.as_str() == characters,
+        Err(_) => false,
+    }
 }
 
 fn is_local_name_copied(alloc: Global, characters: &str) -> bool {
-    let Ok(made) = local_name(alloc, characters) else {
-        return false;
-    };
-    let Ok(copied) = made.copy(alloc) else {
-        return false;
-    };
-    copied.as_str() == characters
+    match local_name(alloc, characters) {
+        Ok(made) => copies_local_name(alloc, &made, characters),
+        Err(_) => false,
+    }
+}
+
+fn copies_namespace(alloc: Global, made: &Namespace, characters: &str) -> bool {
+    match made.copy(alloc) {
+        Ok(copied) => copied.as_str() == characters,
+        Err(_) => false,
+    }
 }
 
 fn is_namespace_copied(alloc: Global, characters: &str) -> bool {
-    let Ok(made) = namespace(alloc, characters) else {
-        return false;
-    };
-    let Ok(copied) = made.copy(alloc) else {
-        return false;
-    };
-    copied.as_str() == characters
+    match namespace(alloc, characters) {
+        Ok(made) => copies_namespace(alloc, &made, characters),
+        Err(_) => false,
+    }
 }
 
 fn is_word_of_prefix_copied(alloc: Global, characters: &str) -> bool {
@@ -316,15 +348,20 @@ fn whole_text(alloc: Global, characters: &str) -> Result<String, ParseFault> {
     Text::from_str(alloc, characters)?.into_string()
 }
 
+// Whether a text is this one once more, by the calls that take its characters.
+fn is_text_again(alloc: Global, text: &str, characters: &str) -> bool {
+    match whole_text(alloc, text) {
+        Ok(whole) => whole.as_str() == characters,
+        Err(_) => false,
+    }
+}
+
 // Whether a name is this text once more, by the calls that take its characters.
 fn is_name_again(alloc: Global, name: &str, characters: &str) -> bool {
-    let Ok(again) = LocalName::from_str(alloc, name) else {
-        return false;
-    };
-    let Ok(whole) = whole_text(alloc, again.as_str()) else {
-        return false;
-    };
-    whole.as_str() == characters
+    match LocalName::from_str(alloc, name) {
+        Ok(again) => is_text_again(alloc, again.as_str(), characters),
+        Err(_) => false,
+    }
 }
 
 // Whether a text is itself once more, by the calls that take it or its characters.
@@ -347,7 +384,7 @@ fn is_copied(alloc: Global, characters: &str) -> bool {
 #[test]
 fn copies_equal_their_source(rt: HostRuntime) {
     for &characters in WORDS {
-        assert!(rt; is_copied(rt.alloc(), characters), "{characters}");
+        see(&rt, is_copied(rt.alloc(), characters), characters);
     }
 }
 
@@ -358,14 +395,18 @@ fn link(alloc: Global) -> Result<QualName, AllocError> {
     Ok(QualName::new(Some(before), ns, local_name(alloc, "href")?))
 }
 
+fn is_name_copied(alloc: Global, name: &QualName) -> bool {
+    match name.copy(alloc) {
+        Ok(copied) => copied == *name,
+        Err(_) => false,
+    }
+}
+
 fn is_link_copied(alloc: Global) -> bool {
-    let Ok(name) = link(alloc) else {
-        return false;
-    };
-    let Ok(copied) = name.copy(alloc) else {
-        return false;
-    };
-    copied == name
+    match link(alloc) {
+        Ok(name) => is_name_copied(alloc, &name),
+        Err(_) => false,
+    }
 }
 
 #[test]
@@ -373,25 +414,22 @@ fn copied_names_equal_their_source(rt: HostRuntime) {
     assert!(rt; is_link_copied(rt.alloc()));
 }
 
-fn push_two(alloc: Global, list: &mut Attributes) -> Result<(), ParseFault> {
-    list.push(attribute(alloc, "id", "x")?)?;
-    list.push(attribute(alloc, "class", "a b")?)
+fn two_attributes(alloc: Global) -> Result<Attributes, ParseFault> {
+    attributes(alloc, &[("id", "x"), ("class", "a b")])
 }
 
-fn two_attributes(alloc: Global) -> Result<Attributes, ParseFault> {
-    let mut list = Attributes::new(alloc);
-    push_two(alloc, &mut list)?;
-    Ok(list)
+fn is_list_copied(alloc: Global, list: &Attributes) -> bool {
+    match list.copy(alloc) {
+        Ok(copied) => copied == *list,
+        Err(_) => false,
+    }
 }
 
 fn are_two_copied(alloc: Global) -> bool {
-    let Ok(list) = two_attributes(alloc) else {
-        return false;
-    };
-    let Ok(copied) = list.copy(alloc) else {
-        return false;
-    };
-    copied == list
+    match two_attributes(alloc) {
+        Ok(list) => is_list_copied(alloc, &list),
+        Err(_) => false,
+    }
 }
 
 #[test]
@@ -421,13 +459,15 @@ fn attributes_are_a_vector(rt: HostRuntime) {
     assert!(rt; is_first_alone(rt.alloc()));
 }
 
-// The place of a name in the table of known names.
-fn place_of(alloc: Global, characters: &str) -> Result<Option<usize>, ParseFault> {
-    let made = LocalName::from_str(alloc, characters)?;
-    Ok(match made.known() {
-        Some(known) => Some(usize::from(known.place)),
-        None => None,
-    })
+// Whether a name stands at this place of the table of known names, or at none.
+fn is_at(alloc: Global, characters: &str, place: Option<usize>) -> bool {
+    let Ok(made) = LocalName::from_str(alloc, characters) else {
+        return false;
+    };
+    match made.known() {
+        Some(known) => place == Some(usize::from(known.place)),
+        None => place.is_none(),
+    }
 }
 
 // Texts, and their places in the table of known names, if they are known.
@@ -450,10 +490,7 @@ const PLACES: &[(&str, Option<usize>)] = &[
 #[test]
 fn known_names_are_found_in_their_table(rt: HostRuntime) {
     for &(characters, place) in PLACES {
-        assert!(rt;
-            place_of(rt.alloc(), characters) == Ok(place),
-            "{characters}"
-        );
+        see(&rt, is_at(rt.alloc(), characters, place), characters);
     }
 }
 
@@ -474,22 +511,22 @@ fn is_namespace_of(known: KnownNamespace, want: &str) -> bool {
 #[test]
 fn namespaces_are_the_standard_ones(rt: HostRuntime) {
     for &(known, want) in NAMESPACES {
-        assert!(rt; is_namespace_of(known, want), "{want}");
+        see(&rt, is_namespace_of(known, want), want);
     }
 }
 
-const FAULTS: &[(ParseFault, u8)] = &[
-    (ParseFault::Memory, 1),
-    (ParseFault::TokenInText, 2),
-    (ParseFault::Ended, 3),
-    (ParseFault::Shape, 4),
-    (ParseFault::Failed, 5),
+const FAULTS: &[(ParseFault, u8, &str)] = &[
+    (ParseFault::Memory, 1, "memory"),
+    (ParseFault::TokenInText, 2, "token in text"),
+    (ParseFault::Ended, 3, "ended"),
+    (ParseFault::Shape, 4, "shape"),
+    (ParseFault::Failed, 5, "failed"),
 ];
 
 #[test]
 fn faults_have_their_numbers(rt: HostRuntime) {
-    for &(fault, want) in FAULTS {
-        assert!(rt; fault as u8 == want, "{want}");
+    for &(fault, want, name) in FAULTS {
+        see(&rt, fault as u8 == want, name);
     }
     assert!(rt; ParseFault::from(AllocError) == ParseFault::Memory);
 }

@@ -1,8 +1,9 @@
 //! Worked values of the queue of characters, each public call on the way.
 
+use crate::see;
 use html_queue::{BufferQueue, SetResult, SmallCharSet};
 use markup::ParseFault;
-use std::alloc::{AllocError, Global};
+use std::alloc::Global;
 
 const ANGLE: SmallCharSet = SmallCharSet { bits: 1 << 60 };
 
@@ -18,14 +19,6 @@ fn left(alloc: Global, queue: &mut BufferQueue) -> Result<String, ParseFault> {
         }
     }
     Ok(text)
-}
-
-fn queue_of(alloc: Global, text: &str) -> Option<BufferQueue> {
-    let mut queue = BufferQueue::new();
-    if put_behind(alloc, &mut queue, text).is_err() {
-        return None;
-    }
-    Some(queue)
 }
 
 // What is put at the back and at the front of a queue.
@@ -81,72 +74,74 @@ fn holds(alloc: Global, queue: &mut BufferQueue, want: &str) -> bool {
     held.as_str() == want
 }
 
-fn is_put_back(alloc: Global, front: &str, want: &str) -> bool {
-    let Some(mut queue) = queue_of(alloc, "abc<d") else {
-        return false;
-    };
-    queue.next() == Some('a')
+// The same where a text is put back into a queue that was empty.
+fn is_put_back(alloc: Global, queue: &mut BufferQueue, front: &str, want: &str) -> bool {
+    put_behind(alloc, queue, "abc<d").is_ok()
+        && queue.next() == Some('a')
         && queue.next() == Some('b')
-        && put_before(alloc, &mut queue, front).is_ok()
-        && holds(alloc, &mut queue, want)
+        && put_before(alloc, queue, front).is_ok()
+        && holds(alloc, queue, want)
 }
 
 #[test]
 fn puts_back_what_was_taken(rt: HostRuntime) {
     for &(front, want) in PUT_BACK {
-        assert!(rt; is_put_back(rt.alloc(), front, want), "{front}");
+        see(
+            &rt,
+            is_put_back(rt.alloc(), &mut BufferQueue::new(), front, want),
+            front,
+        );
     }
 }
+
+/// What is taken of a queue: a member of a set, a run, which is not empty, or nothing.
+type Piece = (Option<char>, &'static str);
 
 /// A text, what is taken first of a queue that holds it, and what stands there then.
-const TAKEN: &[(&str, &str, &str)] = &[
-    ("", "nothing", ""),
-    ("<", "the member <", ""),
-    ("&&a", "the member &", "&a"),
-    ("\0a", "the member \0", "a"),
-    ("a", "the run a", ""),
-    ("ab<c", "the run ab", "<c"),
-    ("|f@<c", "the run |f@", "<c"),
-    ("\u{e9}\u{20ac}&", "the run \u{e9}\u{20ac}", "&"),
+const TAKEN: &[(&str, Piece, &str)] = &[
+    ("", (None, ""), ""),
+    ("<", (Some('<'), ""), ""),
+    ("&&a", (Some('&'), ""), "&a"),
+    ("\0a", (Some('\0'), ""), "a"),
+    ("a", (None, "a"), ""),
+    ("ab<c", (None, "ab"), "<c"),
+    ("|f@<c", (None, "|f@"), "<c"),
+    ("\u{e9}\u{20ac}&", (None, "\u{e9}\u{20ac}"), "&"),
 ];
 
-/// What is taken in words.
-fn in_words(alloc: Global, piece: &SetResult) -> Result<String, AllocError> {
+fn is_piece(piece: &Option<SetResult>, want: Piece) -> bool {
     match piece {
-        SetResult::FromSet(c) => format!(in alloc; "the member {c}"),
-        SetResult::NotFromSet(run) => format!(in alloc; "the run {}", run.as_str()),
+        None => want == (None, ""),
+        Some(SetResult::FromSet(c)) => want == (Some(*c), ""),
+        Some(SetResult::NotFromSet(run)) => {
+            want.0.is_none() && !run.is_empty() && run.as_str() == want.1
+        }
     }
 }
 
-/// What is taken first of a queue, by the set of NUL, `&` and `<`, in words.
-fn taken(alloc: Global, queue: &mut BufferQueue) -> Result<String, ParseFault> {
+// Whether this is taken first of a queue, by the set of NUL, `&` and `<`.
+fn takes(queue: &mut BufferQueue, want: Piece) -> bool {
     let set = SmallCharSet {
         bits: 1 << 60 | 1 << 38 | 1,
     };
-    match queue.pop_except_from(set)? {
-        None => Ok(String::from_str(alloc, "nothing")?),
-        Some(piece) => Ok(in_words(alloc, &piece)?),
+    match queue.pop_except_from(set) {
+        Ok(piece) => is_piece(&piece, want),
+        Err(_) => false,
     }
 }
 
-fn takes(alloc: Global, queue: &mut BufferQueue, want: &str) -> bool {
-    let Ok(first) = taken(alloc, queue) else {
-        return false;
-    };
-    first.as_str() == want
-}
-
-fn is_taken(alloc: Global, text: &str, want: &str, rest: &str) -> bool {
-    let Some(mut queue) = queue_of(alloc, text) else {
-        return false;
-    };
-    takes(alloc, &mut queue, want) && holds(alloc, &mut queue, rest)
+fn is_taken(alloc: Global, queue: &mut BufferQueue, row: (&str, Piece, &str)) -> bool {
+    put_behind(alloc, queue, row.0).is_ok() && takes(queue, row.1) && holds(alloc, queue, row.2)
 }
 
 #[test]
 fn takes_runs_and_members(rt: HostRuntime) {
-    for &(text, want, rest) in TAKEN {
-        assert!(rt; is_taken(rt.alloc(), text, want, rest), "{text}");
+    for &row in TAKEN {
+        see(
+            &rt,
+            is_taken(rt.alloc(), &mut BufferQueue::new(), row),
+            row.0,
+        );
     }
 }
 
@@ -161,17 +156,20 @@ const EATEN: &[(&str, Option<bool>, &str)] = &[
     ("x", Some(false), "x"),
 ];
 
-fn is_eaten(alloc: Global, text: &str, want: Option<bool>, rest: &str) -> bool {
-    let Some(mut queue) = queue_of(alloc, text) else {
-        return false;
-    };
-    queue.eat("doctype", u8::eq_ignore_ascii_case) == want && holds(alloc, &mut queue, rest)
+fn is_eaten(alloc: Global, queue: &mut BufferQueue, row: (&str, Option<bool>, &str)) -> bool {
+    put_behind(alloc, queue, row.0).is_ok()
+        && queue.eat("doctype", u8::eq_ignore_ascii_case) == row.1
+        && holds(alloc, queue, row.2)
 }
 
 #[test]
 fn eats_a_whole_pattern_or_nothing(rt: HostRuntime) {
-    for &(text, want, rest) in EATEN {
-        assert!(rt; is_eaten(rt.alloc(), text, want, rest), "{text}");
+    for &row in EATEN {
+        see(
+            &rt,
+            is_eaten(rt.alloc(), &mut BufferQueue::new(), row),
+            row.0,
+        );
     }
 }
 
@@ -183,19 +181,17 @@ fn is_exchanged(alloc: Global, first: &mut BufferQueue, mut second: BufferQueue)
     begins && holds(alloc, first, "one")
 }
 
-fn are_exchanged(alloc: Global) -> bool {
-    let Some(mut first) = queue_of(alloc, "one") else {
-        return false;
-    };
-    match queue_of(alloc, "two") {
-        Some(second) => is_exchanged(alloc, &mut first, second),
-        None => false,
-    }
+// The same of two queues that were empty.
+fn are_exchanged(alloc: Global, first: &mut BufferQueue, mut second: BufferQueue) -> bool {
+    put_behind(alloc, first, "one").is_ok()
+        && put_behind(alloc, &mut second, "two").is_ok()
+        && is_exchanged(alloc, first, second)
 }
 
 #[test]
 fn exchanges_and_replaces(rt: HostRuntime) {
-    assert!(rt; are_exchanged(rt.alloc()));
+    let first = &mut BufferQueue::new();
+    assert!(rt; are_exchanged(rt.alloc(), first, BufferQueue::new()));
 }
 
 // A text is put at the back, once more where memory was refused.
@@ -214,14 +210,6 @@ fn put_before(alloc: Global, queue: &mut BufferQueue, text: &str) -> Result<(), 
     queue.push_front(String::from_str(alloc, text)?)
 }
 
-// Whether a run is this one.
-fn is_run(piece: &SetResult, want: &str) -> bool {
-    match piece {
-        SetResult::NotFromSet(run) => run.as_str() == want,
-        SetResult::FromSet(_) => false,
-    }
-}
-
 // The run before the first `<`; it is asked for once more where memory was refused.
 fn first_run(queue: &mut BufferQueue) -> Result<Option<SetResult>, ParseFault> {
     match queue.pop_except_from(ANGLE) {
@@ -230,15 +218,17 @@ fn first_run(queue: &mut BufferQueue) -> Result<Option<SetResult>, ParseFault> {
     }
 }
 
-fn begins_with_run(queue: &mut BufferQueue, want: &str) -> bool {
+fn begins_with_run(queue: &mut BufferQueue, want: &'static str) -> bool {
     match first_run(queue) {
-        Ok(Some(piece)) => is_run(&piece, want),
-        _ => false,
+        Ok(piece) => is_piece(&piece, (None, want)),
+        Err(_) => false,
     }
 }
 
+const THREE: &[&str] = &["ab", "\u{e9}<cd", "e"];
+
 fn push_three(alloc: Global, queue: &mut BufferQueue) -> Result<(), ParseFault> {
-    for text in ["ab", "\u{e9}<cd", "e"] {
+    for &text in THREE {
         push(alloc, queue, text)?;
     }
     Ok(())

@@ -1,9 +1,8 @@
 //! Tests of the devices, and callers that their contracts serve.
 
-ghost use Rattle.std.specs.Prelude.{◌<◌};
-
 mod callers;
 
+use crate::see;
 use callers::{Keeper, ReadFault, put_by_loan, read_whole};
 use devices::{
     DeviceFault, MemReader, MemWriter, Source, StdSource, StdTarget, Target, write_whole,
@@ -38,9 +37,10 @@ fn reads(reader: &mut MemReader, given: &[u8; 3]) -> bool {
     read_once(reader, &mut buffer).is_ok() && buffer == *given
 }
 
-fn reads_each(alloc: Global, piece: usize, wanted: &[&[u8; 3]; 4]) -> bool
-    requires { 0 < piece }
-{
+fn reads_each(alloc: Global, piece: usize, wanted: &[&[u8; 3]; 4]) -> bool {
+    if piece == 0 {
+        return false;
+    }
     let Ok(bytes) = five_bytes(alloc) else {
         return false;
     };
@@ -60,7 +60,6 @@ fn are_read(reader: &mut MemReader, wanted: &[&[u8; 3]; 4]) -> bool {
 #[test]
 fn reads_once_a_call(rt: HostRuntime) {
     for (piece, wanted) in READS {
-        assert!(rt; *piece > 0);
         assert!(rt; reads_each(rt.alloc(), *piece, wanted), "{piece}");
     }
 }
@@ -120,7 +119,7 @@ const NOT_REACHED: &[Option<u64>] = &[None, Some(0), Some(5)];
 #[test]
 fn reads_fail_once(rt: HostRuntime) {
     for &(fail_at, rest) in FAILED {
-        assert!(rt; fails_once(rt.alloc(), fail_at, rest), "{fail_at}");
+        see(&rt, fails_once(rt.alloc(), fail_at, rest), rest);
     }
 }
 
@@ -162,10 +161,11 @@ fn writes_each(writer: &mut MemWriter, answers: &[Result<usize, DeviceFault>; 3]
     true
 }
 
-fn is_written(alloc: Global, row: &Writes) -> bool
-    requires { 0 < row.now.0.1 }
-{
+fn is_written(alloc: Global, row: &Writes) -> bool {
     let &((room, piece), (fail_at, zero), answers, held) = row;
+    if piece == 0 {
+        return false;
+    }
     let Ok(mut writer) = MemWriter::new(alloc, room, piece, fail_at, zero) else {
         return false;
     };
@@ -175,8 +175,7 @@ fn is_written(alloc: Global, row: &Writes) -> bool
 #[test]
 fn writes_once_a_call(rt: HostRuntime) {
     for row in WRITES {
-        assert!(rt; row.0.1 > 0);
-        assert!(rt; is_written(rt.alloc(), row), "{}", row.3);
+        see(&rt, is_written(rt.alloc(), row), row.3);
     }
 }
 

@@ -1,7 +1,7 @@
 //! Worked values of tokens, each public call on the way.
 
 mod sinks;
-mod tags;
+pub(crate) mod tags;
 
 use html_tokens::states::State;
 use html_tokens::{Doctype, ReferenceRow, TableFault, TokenizerOpts};
@@ -92,16 +92,22 @@ fn not_equal_tilde(alloc: Global) -> Result<ReferenceRow, TableFault> {
     Ok(ReferenceRow::new(name, 0x2242, Some(0x338)))
 }
 
+fn is_not_equal_tilde(row: &ReferenceRow) -> bool {
+    row.name.as_str() == "NotEqualTilde;" && row.first == 0x2242 && row.second == Some(0x338)
+}
+
+fn copies_row(alloc: Global, row: &ReferenceRow) -> bool {
+    match row.copy(alloc) {
+        Ok(copied) => is_not_equal_tilde(&copied),
+        Err(_) => false,
+    }
+}
+
 fn is_row_copied(alloc: Global) -> bool {
-    let Ok(row) = not_equal_tilde(alloc) else {
-        return false;
-    };
-    let Ok(copied) = row.copy(alloc) else {
-        return false;
-    };
-    copied.name.as_str() == "NotEqualTilde;"
-        && copied.first == 0x2242
-        && copied.second == Some(0x338)
+    match not_equal_tilde(alloc) {
+        Ok(row) => copies_row(alloc, &row),
+        Err(_) => false,
+    }
 }
 
 #[test]

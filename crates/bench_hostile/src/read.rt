@@ -64,7 +64,7 @@ fn feed_text(
     requires { IsReadyIf pausing (refusal_of tokenizer.old) tokenizer.old }
     ensures { IsReadyIf pausing (refusal_of tokenizer.new) tokenizer.new }
 {
-    if shape.is_cut() {
+    if shape.is_cut {
         return feed_cut(alloc, tokenizer, input, text.as_str());
     }
     input.push_back(text)?;

@@ -3,151 +3,193 @@
 use markup::ParseFault;
 use std::alloc::Global;
 
-/// A kind of text.
-#[derive(Clone, Copy, Debug, PartialEq, Eq)]
-pub(crate) enum Shape {
-    LessThanSigns,
-    Ampersands,
-    LongReference,
-    NumericReference,
-    OpenComment,
-    LongValue,
-    ManyAttributes,
-    OneCharacterPieces,
-    CdataBrackets,
-    Nulls,
-    LineEnds,
-    LongLastStartTag,
-    ScriptEnds,
-    WrittenAtPauses,
-    LongDoctype,
-    ClosedTags,
+/// What stands behind the front of a text.
+#[derive(Clone, Copy)]
+enum Rest {
+    /// One piece, over and over.
+    Repeated,
+    /// Attributes of different names, each of this piece and a number.
+    Attributes,
+    /// A name of this piece over and over for half of the text, and then end tags.
+    Tags,
 }
+
+/// A kind of text.
+#[derive(Clone, Copy)]
+pub(crate) struct Shape {
+    pub name: &'static str,
+    /// What the text begins with.
+    front: &'static str,
+    piece: &'static str,
+    rest: Rest,
+    /// Whether it comes one character a piece.
+    pub is_cut: bool,
+}
+
+const REPEATED: Shape = Shape {
+    name: "",
+    front: "",
+    piece: "",
+    rest: Rest::Repeated,
+    is_cut: false,
+};
 
 pub(crate) const SHAPES: &[Shape] = &[
-    Shape::LessThanSigns,
-    Shape::Ampersands,
-    Shape::LongReference,
-    Shape::NumericReference,
-    Shape::OpenComment,
-    Shape::LongValue,
-    Shape::ManyAttributes,
-    Shape::OneCharacterPieces,
-    Shape::CdataBrackets,
-    Shape::Nulls,
-    Shape::LineEnds,
-    Shape::LongLastStartTag,
-    Shape::ScriptEnds,
-    Shape::WrittenAtPauses,
-    Shape::LongDoctype,
-    Shape::ClosedTags,
+    Shape {
+        name: "<<<",
+        piece: "<",
+        ..REPEATED
+    },
+    Shape {
+        name: "&&&",
+        piece: "&",
+        ..REPEATED
+    },
+    Shape {
+        name: "& and letters",
+        front: "&",
+        piece: "a",
+        ..REPEATED
+    },
+    Shape {
+        name: "&# and digits",
+        front: "&#",
+        piece: "1",
+        ..REPEATED
+    },
+    Shape {
+        name: "<!-- and hyphens",
+        front: "<!--",
+        piece: "-",
+        ..REPEATED
+    },
+    Shape {
+        name: "one value",
+        front: "<a b=\"",
+        piece: "c",
+        ..REPEATED
+    },
+    Shape {
+        name: "many attributes",
+        front: "<a",
+        piece: " a",
+        rest: Rest::Attributes,
+        ..REPEATED
+    },
+    Shape {
+        name: "one character a piece",
+        piece: "<a b=c>d&amp;",
+        is_cut: true,
+        ..REPEATED
+    },
+    Shape {
+        name: "<![CDATA[ and ]",
+        front: "<![CDATA[",
+        piece: "]",
+        ..REPEATED
+    },
+    Shape {
+        name: "U+0000",
+        piece: "\0",
+        ..REPEATED
+    },
+    Shape {
+        name: "CR LF",
+        piece: "\r\n",
+        ..REPEATED
+    },
+    Shape {
+        name: "a long start tag and many end tags",
+        front: "<",
+        piece: "a",
+        rest: Rest::Tags,
+        ..REPEATED
+    },
+    Shape {
+        name: "a script and many </",
+        front: "<script>",
+        piece: "</",
+        ..REPEATED
+    },
+    Shape {
+        name: "a text written at each pause",
+        piece: "<b></script>",
+        ..REPEATED
+    },
+    Shape {
+        name: "a long doctype",
+        front: "<!DOCTYPE html PUBLIC \"",
+        piece: "p",
+        ..REPEATED
+    },
+    Shape {
+        name: "<a></a>",
+        piece: "<a></a>",
+        ..REPEATED
+    },
 ];
 
-impl Shape {
-    pub(crate) fn name(self) -> &'static str {
-        match self {
-            Shape::LessThanSigns => "<<<",
-            Shape::Ampersands => "&&&",
-            Shape::LongReference => "& and letters",
-            Shape::NumericReference => "&# and digits",
-            Shape::OpenComment => "<!-- and hyphens",
-            Shape::LongValue => "one value",
-            Shape::ManyAttributes => "many attributes",
-            Shape::OneCharacterPieces => "one character a piece",
-            Shape::CdataBrackets => "<![CDATA[ and ]",
-            Shape::Nulls => "U+0000",
-            Shape::LineEnds => "CR LF",
-            Shape::LongLastStartTag => "a long start tag and many end tags",
-            Shape::ScriptEnds => "a script and many </",
-            Shape::WrittenAtPauses => "a text written at each pause",
-            Shape::LongDoctype => "a long doctype",
-            Shape::ClosedTags => "<a></a>",
-        }
-    }
+/// A text of this kind, of so many bytes or a few more.
+pub(crate) fn text_of(alloc: Global, shape: Shape, bytes: usize) -> Result<String, ParseFault> {
+    let mut text = String::from_str(alloc, shape.front)?;
+    push_rest(alloc, &mut text, shape, bytes)?;
+    Ok(text)
+}
 
-    // What the text begins with, and what it then repeats.
-    fn parts(self) -> (&'static str, &'static str) {
-        match self {
-            Shape::LessThanSigns => ("", "<"),
-            Shape::Ampersands => ("", "&"),
-            Shape::LongReference => ("&", "a"),
-            Shape::NumericReference => ("&#", "1"),
-            Shape::OpenComment => ("<!--", "-"),
-            Shape::LongValue => ("<a b=\"", "c"),
-            Shape::ManyAttributes => ("<a", " b"),
-            Shape::OneCharacterPieces => ("", "<a b=c>d&amp;"),
-            Shape::CdataBrackets => ("<![CDATA[", "]"),
-            Shape::Nulls => ("", "\0"),
-            Shape::LineEnds => ("", "\r\n"),
-            Shape::LongLastStartTag => ("<", "a"),
-            Shape::ScriptEnds => ("<script>", "</"),
-            Shape::WrittenAtPauses => ("", "<b></script>"),
-            Shape::LongDoctype => ("<!DOCTYPE html PUBLIC \"", "p"),
-            Shape::ClosedTags => ("", "<a></a>"),
-        }
-    }
-
-    /// A text of this kind, of so many bytes or a few more.
-    pub(crate) fn text(self, alloc: Global, bytes: usize) -> Result<String, ParseFault> {
-        let (front, unit) = self.parts();
-        let mut text = String::from_str(alloc, front)?;
-        self.push_rest(alloc, &mut text, unit, bytes)?;
-        Ok(text)
-    }
-
-    // Puts behind a front what repeats this unit.
-    fn push_rest(
-        self,
-        alloc: Global,
-        text: &mut String,
-        unit: &str,
-        bytes: usize,
-    ) -> Result<(), ParseFault> {
-        match self {
-            Shape::ManyAttributes => push_attributes(alloc, text, bytes),
-            Shape::LongLastStartTag => push_tags(text, unit, bytes),
-            _ => push_repeated(text, unit, bytes),
-        }
-    }
-
-    /// Whether it comes one character a piece.
-    pub(crate) fn is_cut(self) -> bool {
-        self == Shape::OneCharacterPieces
+// Puts behind a front what follows it.
+fn push_rest(
+    alloc: Global,
+    text: &mut String,
+    shape: Shape,
+    bytes: usize,
+) -> Result<(), ParseFault> {
+    match shape.rest {
+        Rest::Repeated => push_repeated(text, shape.piece, bytes),
+        Rest::Attributes => push_attributes(alloc, text, shape.piece, bytes),
+        Rest::Tags => push_tags(text, shape.piece, bytes),
     }
 }
 
-// Puts a unit behind a text until that has so many bytes.
-fn push_repeated(text: &mut String, unit: &str, bytes: usize) -> Result<(), ParseFault> {
-    for _unit in 0..bytes {
+// Puts a piece behind a text until that has so many bytes.
+fn push_repeated(text: &mut String, piece: &str, bytes: usize) -> Result<(), ParseFault> {
+    for _piece in 0..bytes {
         if text.len() >= bytes {
             break;
         }
-        text.push_str(unit)?;
+        text.push_str(piece)?;
     }
     Ok(())
 }
 
-fn push_attribute(alloc: Global, text: &mut String, number: usize) -> Result<(), ParseFault> {
-    let attribute = format!(in alloc; " a{number}")?;
-    text.push_str(attribute.as_str())?;
-    Ok(())
+fn push_attribute(
+    alloc: Global,
+    text: &mut String,
+    piece: &str,
+    number: usize,
+) -> Result<(), ParseFault> {
+    let attribute = format!(in alloc; "{piece}{number}")?;
+    Ok(text.push_str(attribute.as_str())?)
 }
 
 // Makes of a front a tag with as many attributes, of different names, as have so many bytes.
-fn push_attributes(alloc: Global, text: &mut String, bytes: usize) -> Result<(), ParseFault> {
+fn push_attributes(
+    alloc: Global,
+    text: &mut String,
+    piece: &str,
+    bytes: usize,
+) -> Result<(), ParseFault> {
     for number in 0..bytes {
         if text.len() >= bytes {
             break;
         }
-        push_attribute(alloc, text, number)?;
+        push_attribute(alloc, text, piece, number)?;
     }
-    text.push_str(">")?;
-    Ok(())
+    Ok(text.push_str(">")?)
 }
 
 // Makes of a front a start tag of half so many bytes, and puts end tags behind it.
-fn push_tags(text: &mut String, unit: &str, bytes: usize) -> Result<(), ParseFault> {
-    push_repeated(text, unit, bytes / 2)?;
+fn push_tags(text: &mut String, piece: &str, bytes: usize) -> Result<(), ParseFault> {
+    push_repeated(text, piece, bytes / 2)?;
     text.push_str(">")?;
     let whole = text.len().saturating_add(bytes / 2);
     push_repeated(text, "</b>", whole)

@@ -8,7 +8,7 @@ use html_tokenizer::{TagKind, Token, TokenSink, TokenSinkResult};
 use markup::ParseFault;
 
 /// How many errors were told.
-#[derive(Debug, Drop)]
+#[derive(Drop)]
 pub(crate) struct Pausing {
     pub errors: u64,
 }

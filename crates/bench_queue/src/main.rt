@@ -21,8 +21,7 @@ const LINE: &str = "<p class=one>Caf\u{e9} &amp; bar, a plain line</p>....\n";
 
 fn main(rt: HostRuntime) -> Result<()> {
     let characters = wanted_characters(&rt)?;
-    measure_next(&rt, rt.alloc(), characters)?;
-    measure_pop_except_from(&rt, rt.alloc(), characters)
+    take_both(&rt, rt.alloc(), characters, &mut BufferQueue::new())
 }
 
 fn wanted_characters<R: Env + Alloc>(rt: &R) -> Result<usize> {
@@ -37,8 +36,15 @@ fn wanted_characters<R: Env + Alloc>(rt: &R) -> Result<usize> {
     }
 }
 
-fn measure_next<R: Clock + Print + Eprint>(rt: &R, alloc: Global, characters: usize) -> Result<()> {
-    take_by_next(rt, alloc, characters, &mut BufferQueue::new())
+/// Takes the characters of a queue one by one, and then once more in runs.
+fn take_both<R: Clock + Print + Eprint>(
+    rt: &R,
+    alloc: Global,
+    characters: usize,
+    queue: &mut BufferQueue,
+) -> Result<()> {
+    take_by_next(rt, alloc, characters, queue)?;
+    take_by_pop_except_from(rt, alloc, characters, queue)
 }
 
 /// Fills a queue and takes its characters one by one.
@@ -50,21 +56,10 @@ fn take_by_next<R: Clock + Print + Eprint>(
 ) -> Result<()> {
     let start = Instant::now(rt)?;
     fill(alloc, queue, characters)?;
-    let filled = start.elapsed(rt)?.as_secs_f64();
+    tell_time(rt, "push_back", start)?;
     let start = Instant::now(rt)?;
     let taken = characters_by_next(queue);
-    let seconds = start.elapsed(rt)?.as_secs_f64();
-    println!(rt; "next: {taken} characters")?;
-    eprintln!(rt; "push_back: {filled} s, next: {seconds} s")?;
-    Ok(())
-}
-
-fn measure_pop_except_from<R: Clock + Print + Eprint>(
-    rt: &R,
-    alloc: Global,
-    characters: usize,
-) -> Result<()> {
-    take_by_pop_except_from(rt, alloc, characters, &mut BufferQueue::new())
+    tell(rt, "next", start, taken, "characters")
 }
 
 /// Fills a queue and takes its runs and the stops between them.
@@ -79,9 +74,25 @@ fn take_by_pop_except_from<R: Clock + Print + Eprint>(
     let Ok(runs) = runs_by_pop_except_from(queue) else {
         bail!("no memory");
     };
+    tell(rt, "pop_except_from", start, runs, "runs and members")
+}
+
+/// Tells how long something took, and what was taken.
+fn tell<R: Clock + Print + Eprint>(
+    rt: &R,
+    name: &str,
+    start: Instant,
+    taken: u64,
+    what: &str,
+) -> Result<()> {
+    tell_time(rt, name, start)?;
+    println!(rt; "{name}: {taken} {what}")?;
+    Ok(())
+}
+
+fn tell_time<R: Clock + Eprint>(rt: &R, name: &str, start: Instant) -> Result<()> {
     let seconds = start.elapsed(rt)?.as_secs_f64();
-    println!(rt; "pop_except_from: {runs} runs and members")?;
-    eprintln!(rt; "pop_except_from: {seconds} s")?;
+    eprintln!(rt; "{name}: {seconds} s")?;
     Ok(())
 }
 

@@ -21,22 +21,62 @@ use std::{env, io};
 
 const DEFAULT_BYTES: usize = 50_000_000;
 
-/// What is read.
-#[derive(Drop)]
-struct Input {
-    page: String,
-    table: References,
+fn main(rt: HostRuntime) -> Result<()> {
+    let words = arguments(&rt)?;
+    measure_words(&rt, words.as_slice())
 }
 
-/// A page of so many bytes, with the five names of references that a written text needs.
-fn made_input(rt: &HostRuntime, bytes: usize) -> Result<Input> {
-    let Ok(page) = page_of(rt.alloc(), bytes) else {
-        bail!("no memory");
-    };
-    let Ok(table) = References::five(rt.alloc()) else {
-        bail!("no memory");
-    };
-    Ok(Input { page, table })
+fn arguments(rt: &HostRuntime) -> Result<Vec<String>> {
+    let mut words = Vec::new(rt.alloc());
+    push_arguments(rt, &mut words)?;
+    Ok(words)
+}
+
+fn push_arguments(rt: &HostRuntime, words: &mut Vec<String>) -> Result<()> {
+    for word in env::args(rt)?.skip(1) {
+        words.push(word)?;
+    }
+    Ok(())
+}
+
+/// Measures what the arguments ask for.
+fn measure_words(rt: &HostRuntime, words: &[String]) -> Result<()> {
+    match words {
+        [] => measure_made(rt, DEFAULT_BYTES),
+        [bytes] => measure_made(rt, number_of(bytes.as_str())?),
+        [page, table] => measure_files(rt, page.as_str(), table.as_str()),
+        _ => bail!("bench_tokenizer [BYTES], or bench_tokenizer PAGE TABLE"),
+    }
+}
+
+fn number_of(argument: &str) -> Result<usize> {
+    argument.parse().context("the number of bytes")
+}
+
+/// Measures a page of so many bytes, with the five names of references that a written text needs.
+fn measure_made(rt: &HostRuntime, bytes: usize) -> Result<()> {
+    match page_of(rt.alloc(), bytes) {
+        Ok(page) => measure_with_five(rt, page.as_str()),
+        Err(_) => bail!("no memory"),
+    }
+}
+
+fn measure_with_five(rt: &HostRuntime, page: &str) -> Result<()> {
+    match References::five(rt.alloc()) {
+        Ok(table) => measure_both(rt, rt.alloc(), page, &table),
+        Err(_) => bail!("no memory"),
+    }
+}
+
+/// Measures the page and the table of references in files of these names.
+fn measure_files(rt: &HostRuntime, page: &str, table: &str) -> Result<()> {
+    let page = fs::read_to_string(rt, page)?;
+    measure_with_file(rt, page.as_str(), table)
+}
+
+fn measure_with_file(rt: &HostRuntime, page: &str, table: &str) -> Result<()> {
+    let table = table_of_file(rt, table)?;
+    measure_both(rt, rt.alloc(), page, &table)
 }
 
 /// The table of references in a file of this name.
@@ -48,67 +88,70 @@ fn table_of_file(rt: &HostRuntime, name: &str) -> Result<References> {
     }
 }
 
-/// The page and the table of references in files of these names.
-fn input_of_files(rt: &HostRuntime, page: &str, table: &str) -> Result<Input> {
-    let page = fs::read_to_string(rt, page)?;
-    let table = table_of_file(rt, table)?;
-    Ok(Input { page, table })
-}
-
-fn input_of(rt: &HostRuntime, words: &[String]) -> Result<Input> {
-    match words {
-        [] => made_input(rt, DEFAULT_BYTES),
-        [bytes] => made_input(rt, bytes.as_str().parse().context("the number of bytes")?),
-        [page, table] => input_of_files(rt, page.as_str(), table.as_str()),
-        _ => bail!("bench_tokenizer [BYTES], or bench_tokenizer PAGE TABLE"),
-    }
-}
-
-fn arguments(rt: &HostRuntime) -> Result<Vec<String>> {
-    let mut words = Vec::new(rt.alloc());
-    for word in env::args(rt)?.skip(1) {
-        words.push(word)?;
-    }
-    Ok(words)
-}
-
-fn main(rt: HostRuntime) -> Result<()> {
-    let words = arguments(&rt)?;
-    measure_both(&rt, rt.alloc(), &input_of(&rt, words.as_slice())?)
-}
-
-fn measure_both<R: Clock + Print + Eprint>(rt: &R, alloc: Global, input: &Input) -> Result<()> {
-    measure(rt, alloc, input, false)?;
-    measure(rt, alloc, input, true)
+fn measure_both<R: Clock + Print + Eprint>(
+    rt: &R,
+    alloc: Global,
+    page: &str,
+    table: &References,
+) -> Result<()> {
+    measure(rt, alloc, page, table, false)?;
+    measure(rt, alloc, page, table, true)
 }
 
 fn measure<R: Clock + Print + Eprint>(
     rt: &R,
     alloc: Global,
-    input: &Input,
+    page: &str,
+    table: &References,
     exact_errors: bool,
 ) -> Result<()> {
-    let page = input.page.as_str();
-    let Ok(table) = input.table.copy(alloc) else {
-        bail!("no memory");
-    };
+    match table.copy(alloc) {
+        Ok(table) => measure_reading(rt, alloc, page, table, exact_errors),
+        Err(_) => bail!("no memory"),
+    }
+}
+
+/// Tells how long it takes to read a page, and what was counted.
+fn measure_reading<R: Clock + Print + Eprint>(
+    rt: &R,
+    alloc: Global,
+    page: &str,
+    table: References,
+    exact_errors: bool,
+) -> Result<()> {
     let start = Instant::now(rt)?;
-    let Ok(counts) = read::read(alloc, page, table, exact_errors) else {
-        bail!("the page was not read");
-    };
+    let counts = counts_of(alloc, page, table, exact_errors)?;
+    tell_time(rt, exact_errors, start)?;
+    Ok(tell(rt, page.len(), exact_errors, &counts)?)
+}
+
+fn counts_of(alloc: Global, page: &str, table: References, exact_errors: bool) -> Result<Counts> {
+    match read::read(alloc, page, table, exact_errors) {
+        Ok(counts) => Ok(counts),
+        Err(_) => bail!("the page was not read"),
+    }
+}
+
+fn tell_time<R: Clock + Eprint>(rt: &R, exact_errors: bool, start: Instant) -> Result<()> {
     let seconds = start.elapsed(rt)?.as_secs_f64();
-    tell(rt, page.len(), exact_errors, &counts)?;
     eprintln!(rt; "exact_errors={exact_errors}: {seconds} s")?;
     Ok(())
 }
 
 /// Tells what was counted.
 fn tell<R: Print>(rt: &R, bytes: usize, exact_errors: bool, counts: &Counts) -> io::Result<()> {
-    let tokens = counts.tokens;
-    println!(rt; "exact_errors={exact_errors}: {bytes} bytes, {tokens} tokens")?;
-    let (characters, tags, attributes) = (counts.characters, counts.tags, counts.attributes);
-    let (comments, errors) = (counts.comments, counts.errors);
-    println!(rt;
-        "{characters} characters of text, {tags} tags, {attributes} attributes, {comments} comments, {errors} errors"
-    )
+    let numbers = [
+        (bytes as u64, " bytes, "),
+        (counts.tokens, " tokens\n"),
+        (counts.characters, " characters of text, "),
+        (counts.tags, " tags, "),
+        (counts.attributes, " attributes, "),
+        (counts.comments, " comments, "),
+        (counts.errors, " errors\n"),
+    ];
+    print!(rt; "exact_errors={exact_errors}: ")?;
+    for &(number, what) in &numbers {
+        print!(rt; "{number}{what}")?;
+    }
+    Ok(())
 }

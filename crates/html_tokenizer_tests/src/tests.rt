@@ -310,14 +310,18 @@ fn exact(setting: Setting) -> Setting {
     }
 }
 
+/// Whether a list was told these tokens of a text, where characters may be errors, and then on the same lines and no fewer
+/// errors.
+fn is_no_less(alloc: Global, setting: Setting, row: Row, first: &Listed, second: &Listed) -> bool {
+    is_told(alloc, setting, row, second)
+        && first.told == second.told
+        && first.errors <= second.errors
+}
+
 /// Whether a text tells its tokens also where characters may be errors, and then on the same lines and no fewer errors.
 fn is_told_exactly(alloc: Global, setting: Setting, row: Row, first: &Listed) -> bool {
     match read_whole(alloc, exact(setting), row.0) {
-        Ok(second) => {
-            is_told(alloc, exact(setting), row, &second)
-                && first.told == second.told
-                && first.errors <= second.errors
-        }
+        Ok(second) => is_no_less(alloc, exact(setting), row, first, &second),
         Err(_) => false,
     }
 }
@@ -332,10 +336,15 @@ fn is_row(alloc: Global, setting: Setting, row: Row) -> bool {
     }
 }
 
+/// Sees that a row is right, and names it otherwise.
+fn see(rt: &impl Abort, is_right: bool, row: &str) {
+    assert!(rt; is_right, "{row}");
+}
+
 /// Sees the same of each text. No memory is refused.
 fn assert_rows(rt: &impl Abort, alloc: Global, setting: Setting, rows: &[Row]) {
-    for row in rows {
-        assert!(rt; is_row(alloc, setting, *row), "{}", row.0);
+    for &row in rows {
+        see(rt, is_row(alloc, setting, row), row.0);
     }
 }
 

@@ -3,31 +3,52 @@
 
 ghost use Rattle.std.specs.Prelude.{◌≡◌, IfOk};
 
-use anyhow::{Context, Result, anyhow};
+use anyhow::{Context, Error, Result, anyhow};
 use html_references::{ReferenceRow, References, TableFault};
 use std::alloc::Global;
-use std::fs;
+use std::{fs, io};
 
-// The row of a line: a name, a space, and one or two hexadecimal values.
+fn number_of(value: &str) -> Result<u32> {
+    Ok(u32::from_str_radix(value, 16)?)
+}
+
+// One or two hexadecimal values.
+fn values_of(values: &str) -> Result<(u32, Option<u32>)> {
+    match values.split_once(' ') {
+        None => Ok((number_of(values)?, None)),
+        Some((first, second)) => Ok((number_of(first)?, Some(number_of(second)?))),
+    }
+}
+
+// The row of a line: a name, a space, and its values.
 fn row_of(alloc: Global, line: &str) -> Result<ReferenceRow> {
     let (name, values) = line.split_once(' ').context("no space")?;
-    let name = String::from_str(alloc, name)?;
-    match values.split_once(' ') {
-        None => Ok(ReferenceRow::new(name, u32::from_str_radix(values, 16)?, None)),
-        Some((first, second)) => {
-            let first = u32::from_str_radix(first, 16)?;
-            let second = u32::from_str_radix(second, 16)?;
-            Ok(ReferenceRow::new(name, first, Some(second)))
-        }
+    let (first, second) = values_of(values)?;
+    Ok(ReferenceRow::new(String::from_str(alloc, name)?, first, second))
+}
+
+fn push_rows(alloc: Global, rows: &mut Vec<ReferenceRow>, text: &str) -> Result<()> {
+    for line in text.lines() {
+        rows.push(row_of(alloc, line)?)?;
     }
+    Ok(())
 }
 
 fn read(alloc: Global, text: &str) -> Result<Vec<ReferenceRow>> {
     let mut rows = Vec::new(alloc);
-    for line in text.lines() {
-        rows.push(row_of(alloc, line)?)?;
-    }
+    push_rows(alloc, &mut rows, text)?;
     Ok(rows)
+}
+
+// Why rows are no table.
+fn fault_of(fault: TableFault) -> Error {
+    let (what, row) = match fault {
+        TableFault::BadName(row) => ("name", row),
+        TableFault::Duplicate(row) => ("duplicate", row),
+        TableFault::BadValue(row) => ("value", row),
+        TableFault::Memory => return anyhow!("memory"),
+    };
+    anyhow!("{what} {row}")
 }
 
 // The table of these rows, if they are one.
@@ -36,51 +57,75 @@ fn checked(alloc: Global, rows: Vec<ReferenceRow>) -> Result<References>
 {
     match References::new(alloc, rows) {
         Ok(table) => Ok(table),
-        Err(TableFault::BadName(row)) => Err(anyhow!("name {row}")),
-        Err(TableFault::Duplicate(row)) => Err(anyhow!("duplicate {row}")),
-        Err(TableFault::BadValue(row)) => Err(anyhow!("value {row}")),
-        Err(TableFault::Memory) => Err(anyhow!("memory")),
+        Err(fault) => Err(fault_of(fault)),
+    }
+}
+
+// Whether a row is the longest match of its own name.
+fn is_found(table: &References, row: &ReferenceRow) -> bool {
+    match table.longest(row.name.as_str()) {
+        None => false,
+        Some(other) => other.name.as_str() == row.name.as_str(),
     }
 }
 
 // How many rows are the longest match of their own names.
 fn found(table: &References) -> usize {
-    let same = |row: &&ReferenceRow| match table.longest(row.name.as_str()) {
-        None => false,
-        Some(other) => other.name.as_str() == row.name.as_str(),
-    };
-    table.rows().iter().filter(same).count()
-}
-
-fn show(rt: &impl Print, table: &References, text: &str) -> Result<()> {
-    let goes_on = if table.goes_on(text) {
-        "goes on"
-    } else {
-        "ends"
-    };
-    match table.longest(text) {
-        None => println!(rt; "{text}: none, {goes_on}")?,
-        Some(row) => {
-            let name = row.name.as_str();
-            let first = row.first;
-            match row.second {
-                None => println!(rt; "{text}: {name} {first:X}, {goes_on}")?,
-                Some(second) => println!(rt; "{text}: {name} {first:X} {second:X}, {goes_on}")?,
-            }
+    let mut count: usize = 0;
+    for row in table.rows() {
+        if is_found(table, row) {
+            count = count.saturating_add(1);
         }
     }
+    count
+}
+
+fn show_row(rt: &impl Print, row: &ReferenceRow) -> io::Result<()> {
+    print!(rt; "{} {:X}", row.name.as_str(), row.first)?;
+    match row.second {
+        None => Ok(()),
+        Some(second) => print!(rt; " {second:X}"),
+    }
+}
+
+// Tells the longest match of a text.
+fn show_longest(rt: &impl Print, table: &References, text: &str) -> io::Result<()> {
+    match table.longest(text) {
+        None => print!(rt; "none"),
+        Some(row) => show_row(rt, row),
+    }
+}
+
+fn show(rt: &impl Print, table: &References, text: &str) -> io::Result<()> {
+    print!(rt; "{text}: ")?;
+    show_longest(rt, table, text)?;
+    let behind = if table.goes_on(text) {
+        ", goes on"
+    } else {
+        ", ends"
+    };
+    println!(rt; "{behind}")
+}
+
+const SHOWN: &[&str] = &[
+    "notit;", "notin;", "noti", "amp", "ampere", "acE;", "Zoo", "fjlig;",
+];
+
+// Tells how many rows a table has and how many are found, and what some texts match.
+fn show_all(rt: &impl Print, table: &References) -> io::Result<()> {
+    println!(rt; "{} names, {} found", table.rows().len(), found(table))?;
+    for &text in SHOWN {
+        show(rt, table, text)?;
+    }
     Ok(())
+}
+
+fn table_of(alloc: Global, text: &str) -> Result<References> {
+    checked(alloc, read(alloc, text)?)
 }
 
 fn main(rt: HostRuntime) -> Result<()> {
     let text = fs::read_to_string(&rt, "named_references.table")?;
-    let table = checked(rt.alloc(), read(rt.alloc(), text.as_str())?)?;
-    let (rows, found) = (table.rows().len(), found(&table));
-    println!(rt; "{rows} names, {found} found")?;
-    for text in [
-        "notit;", "notin;", "noti", "amp", "ampere", "acE;", "Zoo", "fjlig;",
-    ] {
-        show(&rt, &table, text)?;
-    }
-    Ok(())
+    let table = table_of(rt.alloc(), text.as_str())?;
+    Ok(show_all(&rt, &table)?)
 }

@@ -1,12 +1,15 @@
 //! Tags and their attributes.
 
+use crate::see;
 use html_tokens::{Tag, TagKind};
 use markup::{Attribute, Attributes, LocalName, Namespace, ParseFault, QualName, Text};
 use std::alloc::Global;
 
-type Pair = (&'static str, &'static str);
+/// A name and a value.
+pub type Pair = (&'static str, &'static str);
 
-fn attribute(alloc: Global, pair: Pair) -> Result<Attribute, ParseFault> {
+/// An attribute with no namespace.
+pub fn attribute(alloc: Global, pair: Pair) -> Result<Attribute, ParseFault> {
     let value = Text::from_str(alloc, pair.1)?;
     let local = LocalName::from_str(alloc, pair.0)?;
     Ok(Attribute {
@@ -22,7 +25,8 @@ fn push_all(alloc: Global, attrs: &mut Attributes, pairs: &[Pair]) -> Result<(),
     Ok(())
 }
 
-fn attributes(alloc: Global, pairs: &[Pair]) -> Result<Attributes, ParseFault> {
+/// The attributes of these names and values.
+pub fn attributes(alloc: Global, pairs: &[Pair]) -> Result<Attributes, ParseFault> {
     let mut attrs = Attributes::new(alloc);
     push_all(alloc, &mut attrs, pairs)?;
     Ok(attrs)
@@ -46,13 +50,14 @@ pub fn tag(
     })
 }
 
+const THREE: &[Pair] = &[("b", "1"), ("c", "2"), ("b", "3")];
+
 // Names, and the value that is found by each in `<a b=1 c=2 b=3>`.
 const VALUES: &[(&str, Option<&str>)] = &[("b", Some("1")), ("c", Some("2")), ("d", None)];
 
 // Whether this is the value of a name in that tag.
 fn has_value(alloc: Global, sought: &str, value: Option<&str>) -> bool {
-    let pairs = &[("b", "1"), ("c", "2"), ("b", "3")];
-    match tag(alloc, TagKind::StartTag, "a", pairs) {
+    match tag(alloc, TagKind::StartTag, "a", THREE) {
         Ok(tag) => has_value_in(alloc, &tag, sought, value),
         Err(_) => false,
     }
@@ -73,7 +78,7 @@ fn value_in(alloc: Global, tag: &Tag, sought: &str) -> Result<Option<Text>, Pars
 #[test]
 fn first_attribute_of_a_name_is_found(rt: HostRuntime) {
     for &(sought, value) in VALUES {
-        assert!(rt; has_value(rt.alloc(), sought, value), "{sought}");
+        see(&rt, has_value(rt.alloc(), sought, value), sought);
     }
 }
 
@@ -84,12 +89,19 @@ fn is_tag_copied(alloc: Global, tag: &Tag) -> bool {
     copied == *tag
 }
 
+const ONE: &[Pair] = &[("b", "1")];
+
+// Whether the copy of a tag that had duplicate attributes equals it.
+fn is_duplicate_copied(alloc: Global, tag: &mut Tag) -> bool {
+    tag.had_duplicate_attributes = true;
+    is_tag_copied(alloc, tag)
+}
+
 fn are_tags_copied(alloc: Global) -> bool {
-    let Ok(mut first) = tag(alloc, TagKind::EndTag, "a", &[("b", "1")]) else {
-        return false;
-    };
-    first.had_duplicate_attributes = true;
-    is_tag_copied(alloc, &first)
+    match tag(alloc, TagKind::EndTag, "a", ONE) {
+        Ok(mut first) => is_duplicate_copied(alloc, &mut first),
+        Err(_) => false,
+    }
 }
 
 #[test]

@@ -4,7 +4,7 @@ ghost use Rattle.html_tokenizer.specs.Calls.{IsReadyIf, refusal};
 
 use super::words::is_in_words;
 use super::{
-    PAGE, Setting, Table, feed_piece, feed_pieces, list_of, put, refuses, sink_if, sink_of,
+    PAGE, Setting, Table, feed_piece, feed_pieces, list_of, put, refuses, see, sink_if, sink_of,
     tokenizer_over,
 };
 use html_tokenizer::{BufferQueue, Listed, State, TokenSink, Tokenizer};
@@ -97,10 +97,10 @@ fn is_pending<S: TokenSink + Drop>(alloc: Global, sink: S, row: (&str, bool)) ->
 #[test]
 fn parts_of_items_are_pending(rt: HostRuntime) {
     for &row in PENDING {
-        assert!(rt;
+        see(
+            &rt,
             is_pending(rt.alloc(), list_of(rt.alloc(), PAGE), row),
-            "{}",
-            row.0
+            row.0,
         );
     }
 }
@@ -159,7 +159,7 @@ fn is_told(alloc: Global, row: (&str, &str, &str)) -> bool {
 #[test]
 fn what_is_decided_is_told_before_the_end(rt: HostRuntime) {
     for &row in TOLD {
-        assert!(rt; is_told(rt.alloc(), row), "{}", row.0);
+        see(&rt, is_told(rt.alloc(), row), row.0);
     }
 }
 
@@ -233,7 +233,7 @@ const IN_TITLE: Setting = Setting {
 #[test]
 fn no_more_of_raw_text_is_held_than_may_end_it(rt: HostRuntime) {
     for &(text, told) in TOLD_IN_TITLES {
-        assert!(rt; is_held(rt.alloc(), IN_TITLE, text, told), "{text}");
+        see(&rt, is_held(rt.alloc(), IN_TITLE, text, told), text);
     }
 }
 
@@ -256,7 +256,7 @@ const WITH_SECTIONS: Setting = Setting {
 #[test]
 fn no_more_of_a_section_is_held_than_may_end_it(rt: HostRuntime) {
     for &(text, told) in TOLD_IN_SECTIONS {
-        assert!(rt; is_held(rt.alloc(), WITH_SECTIONS, text, told), "{text}");
+        see(&rt, is_held(rt.alloc(), WITH_SECTIONS, text, told), text);
     }
 }
 
@@ -339,15 +339,20 @@ fn refused_behind<S: TokenSink + Drop>(
     sink_if(tokenizer, answer)
 }
 
-/// Whether calls behind the end are refused, and leave the input and the sink as they are.
-fn leaves_all_behind(alloc: Global, input: &mut BufferQueue) -> bool {
-    let Ok(sink) = refused_behind(alloc, list_of(alloc, PAGE), "a<", input) else {
-        return false;
-    };
+/// Whether a list was told the text `a<` and the end, and this input is left.
+fn has_left_all(alloc: Global, sink: &Listed, input: &mut BufferQueue) -> bool {
     sink.has_ended
-        && is_in_words(alloc, &sink, "text \"a<\"; eof")
+        && is_in_words(alloc, sink, "text \"a<\"; eof")
         && input.next() == Some('b')
         && input.is_empty()
+}
+
+/// Whether calls behind the end are refused, and leave the input and the sink as they are.
+fn leaves_all_behind(alloc: Global, input: &mut BufferQueue) -> bool {
+    match refused_behind(alloc, list_of(alloc, PAGE), "a<", input) {
+        Ok(sink) => has_left_all(alloc, &sink, input),
+        Err(_) => false,
+    }
 }
 
 fn are_refused_behind(alloc: Global, input: &mut BufferQueue) -> bool {
@@ -425,6 +430,6 @@ fn is_read_plainly(alloc: Global, row: (&str, &str, &str)) -> bool {
 #[test]
 fn all_that_follows_may_be_text(rt: HostRuntime) {
     for &row in PLAIN {
-        assert!(rt; is_read_plainly(rt.alloc(), row), "{}", row.0);
+        see(&rt, is_read_plainly(rt.alloc(), row), row.0);
     }
 }

@@ -1,7 +1,7 @@
 //! A sink that keeps the codes of errors.
 ghost use Rattle.std.specs.Prelude.{◌≡◌, true, ⊤, IfOk, IfErr};
 ghost use Rattle.markup.specs.declared.fault.ParseFault.TheVariants.{Memory};
-ghost use Rattle.html_tokens.specs.Sink.{numbered, Counts};
+ghost use Rattle.html_tokens.specs.Sink.{numbered, fails, tells_failed, Counts, Gives, OnRefused};
 ghost use Rattle.html_tokens.specs.declared.replies.TokenSinkResult.TheVariants.{Continue};
 ghost use Rattle.html_tokenizer_tests.specs.TestSinks.{unheard, unheard_laws};
 
@@ -53,6 +53,25 @@ impl Codes {
         }
         Ok(TokenSinkResult::Continue)
     }
+
+    // Takes a token, or refuses it where memory was wanting.
+    fn hear(&mut self, token: &Token, line_number: u64) -> Result<TokenSinkResult<u64>, ParseFault>
+        ensures gives { Gives (λ n. n) (unheard self.old.asks_cdata token.now line_number) result self.new.asks_cdata }
+        ensures failed_before { tells_failed result ≡ self.old.has_failed }
+        ensures failed_after { self.new.has_failed ≡ fails result }
+        ensures unchanged { OnRefused result (self.new.asks_cdata ≡ self.old.asks_cdata) }
+        ensures same_errors { OnRefused result (self.new.errors ≡ self.old.errors) }
+        ensures counts { Counts true token.now result self.old.errors self.new.errors }
+    {
+        if self.has_failed {
+            return Err(ParseFault::Failed);
+        }
+        let answer = self.take(token);
+        if answer.is_err() {
+            self.has_failed = true;
+        }
+        answer
+    }
 }
 
 impl TokenSink for Codes {
@@ -87,16 +106,9 @@ impl TokenSink for Codes {
     fn process_token(
         &mut self,
         token: Token,
-        _line_number: u64,
+        line_number: u64,
     ) -> Result<TokenSinkResult<u64>, ParseFault> {
-        if self.has_failed {
-            return Err(ParseFault::Failed);
-        }
-        let answer = self.take(&token);
-        if answer.is_err() {
-            self.has_failed = true;
-        }
-        answer
+        self.hear(&token, line_number)
     }
 
     fn end(&mut self) {}

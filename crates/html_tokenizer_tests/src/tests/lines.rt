@@ -1,21 +1,19 @@
 //! On which lines tokens are told.
 
-use super::{PAGE, is_told_in_pieces, read, read_whole};
+use super::{PAGE, is_told_in_pieces, read, read_whole, see};
 use html_tokenizer::Listed;
 use std::alloc::Global;
 use text_pieces::as_given;
 
 /// Whether the tokens of a list were told on these lines.
 fn are_on(sink: &Listed, lines: &[u64]) -> bool {
-    if sink.told.len() != lines.len() {
-        return false;
-    }
-    for (told, line) in sink.told.iter().zip(lines) {
-        if told.line != *line {
-            return false;
+    for (place, told) in sink.told.iter().enumerate() {
+        match lines.get(place) {
+            Some(line) if *line == told.line => {}
+            _ => return false,
         }
     }
-    true
+    sink.told.len() == lines.len()
 }
 
 /// Whether the pieces tell tokens on these lines.
@@ -38,10 +36,12 @@ const PIECES: &[&[&str]] = &[
     &["<a>", "\r", "\n", "<b>", "\r", "", "\n", "</b>\n", "</a>\r"],
 ];
 
+const FIVE: &[u64] = &[1, 2, 3, 4, 5];
+
 #[test]
 fn each_line_end_counts_once(rt: HostRuntime) {
     for &pieces in PIECES {
-        assert!(rt; are_pieces_on(rt.alloc(), pieces, &[1, 2, 3, 4, 5]));
+        assert!(rt; are_pieces_on(rt.alloc(), pieces, FIVE));
     }
 }
 
@@ -70,6 +70,6 @@ fn is_on(alloc: Global, text: &str, lines: &[u64]) -> bool {
 #[test]
 fn tokens_are_told_where_they_end(rt: HostRuntime) {
     for &(text, lines) in LINES {
-        assert!(rt; is_on(rt.alloc(), text, lines), "{text}");
+        see(&rt, is_on(rt.alloc(), text, lines), text);
     }
 }

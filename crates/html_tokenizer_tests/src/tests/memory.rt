@@ -6,7 +6,8 @@ use super::calls::feed_text;
 use super::refusing::Refusing;
 use super::words::in_words;
 use super::{
-    PAGE, Row, Setting, exact, feed_all, list_of, put, refuses, sink_if, sink_of, tokenizer_over,
+    PAGE, Row, Setting, exact, feed_all, list_of, put, refuses, see, sink_if, sink_of,
+    tokenizer_over,
 };
 use html_tokenizer::{BufferQueue, Listed, TokenSink, Tokenizer};
 use markup::ParseFault;
@@ -82,16 +83,18 @@ fn read_text(
     read_or_fail(alloc, list_of(alloc, setting), setting, input)
 }
 
-/// The tokens of a text, in words.
-fn told(alloc: Global, setting: Setting, text: &str) -> Result<String, ParseFault> {
-    let sink = read_text(alloc, setting, &mut BufferQueue::new(), text)?;
-    Ok(in_words(alloc, &sink)?)
+/// Whether a list was told these tokens, or memory is refused for their words.
+fn are_words_or_memory(alloc: Global, sink: &Listed, want: &str) -> bool {
+    match in_words(alloc, sink) {
+        Ok(words) => words.as_str() == want,
+        Err(_) => true,
+    }
 }
 
 /// Whether a text tells its tokens, or memory was refused.
 fn is_told_or_memory(alloc: Global, setting: Setting, row: Row) -> bool {
-    match told(alloc, setting, row.0) {
-        Ok(words) => words.as_str() == row.1,
+    match read_text(alloc, setting, &mut BufferQueue::new(), row.0) {
+        Ok(sink) => are_words_or_memory(alloc, &sink, row.1),
         Err(fault) => fault == ParseFault::Memory,
     }
 }
@@ -161,49 +164,45 @@ fn memory_may_want_for_comments(rt: HostRuntime) {
     assert!(rt; is_either_told_or_memory(rt.alloc(), COMMENTS));
 }
 
-/// Whether a sink's refusal of a text is passed on, and the tokenizer serves no more.
+/// Whether a text is refused by this fault, or the end behind it.
+fn refuses_text<S: TokenSink>(
+    alloc: Global,
+    tokenizer: &mut Tokenizer<S>,
+    text: &str,
+    at_end: bool,
+    fault: ParseFault,
+) -> bool
+    requires { IsReadyIf S.TokenSink (refusal tokenizer.old.stream) tokenizer.old }
+    ensures { IsReadyIf S.TokenSink (refusal tokenizer.new.stream) tokenizer.new }
+{
+    let answer = feed_text(alloc, tokenizer, text);
+    if !at_end {
+        return answer == Err(fault);
+    }
+    let ended = tokenizer.end();
+    answer.is_ok() && ended == Err(fault)
+}
+
+/// Whether a sink's refusal of a text is passed on, or of what is told at the end behind it, and the tokenizer serves no
+/// more.
 fn passes_on<S: TokenSink>(
     alloc: Global,
     tokenizer: &mut Tokenizer<S>,
     text: &str,
+    at_end: bool,
     fault: ParseFault,
 ) -> bool
     requires { IsReadyIf S.TokenSink (refusal tokenizer.old.stream) tokenizer.old }
 {
-    feed_text(alloc, tokenizer, text) == Err(fault) && has_failed(tokenizer)
+    refuses_text(alloc, tokenizer, text, at_end, fault) && has_failed(tokenizer)
 }
 
 /// The same of a tokenizer over this sink.
-fn is_refused<S: TokenSink + Drop>(alloc: Global, sink: S, text: &str, fault: ParseFault) -> bool
-    requires { S.is_sound (S.view sink) }
-{
-    let Ok(mut tokenizer) = tokenizer_over(alloc, sink, PAGE) else {
-        return false;
-    };
-    let is_right = passes_on(alloc, &mut tokenizer, text, fault);
-    drop(sink_of(tokenizer));
-    is_right
-}
-
-/// Whether the same holds of the end of the input, and of what is told there of a text.
-fn passes_on_at_end<S: TokenSink>(
-    alloc: Global,
-    tokenizer: &mut Tokenizer<S>,
-    text: &str,
-    fault: ParseFault,
-) -> bool
-    requires { IsReadyIf S.TokenSink (refusal tokenizer.old.stream) tokenizer.old }
-{
-    feed_text(alloc, tokenizer, text).is_ok()
-        && tokenizer.end() == Err(fault)
-        && has_failed(tokenizer)
-}
-
-/// The same of a tokenizer over this sink.
-fn is_end_refused<S: TokenSink + Drop>(
+fn is_refused<S: TokenSink + Drop>(
     alloc: Global,
     sink: S,
     text: &str,
+    at_end: bool,
     fault: ParseFault,
 ) -> bool
     requires { S.is_sound (S.view sink) }
@@ -211,7 +210,7 @@ fn is_end_refused<S: TokenSink + Drop>(
     let Ok(mut tokenizer) = tokenizer_over(alloc, sink, PAGE) else {
         return false;
     };
-    let is_right = passes_on_at_end(alloc, &mut tokenizer, text, fault);
+    let is_right = passes_on(alloc, &mut tokenizer, text, at_end, fault);
     drop(sink_of(tokenizer));
     is_right
 }
@@ -235,41 +234,30 @@ const REFUSED: &[&str] = &[
     "<1",
 ];
 
-/// Whether each refusal of a text is passed on.
-fn are_refused(alloc: Global, text: &str) -> bool {
-    is_refused(
-        alloc,
-        Refusing { is_shape: false },
-        text,
-        ParseFault::TokenInText,
-    ) && is_refused(alloc, Refusing { is_shape: true }, text, ParseFault::Shape)
-        && is_refused(alloc, ended(alloc), text, ParseFault::Ended)
+const IN_TEXT: Refusing = Refusing { is_shape: false };
+
+const OF_SHAPE: Refusing = Refusing { is_shape: true };
+
+/// Whether each refusal of a text is passed on, or of the end behind it.
+fn are_refused(alloc: Global, text: &str, at_end: bool) -> bool {
+    is_refused(alloc, IN_TEXT, text, at_end, ParseFault::TokenInText)
+        && is_refused(alloc, OF_SHAPE, text, at_end, ParseFault::Shape)
+        && is_refused(alloc, ended(alloc), text, at_end, ParseFault::Ended)
 }
 
 #[test]
 fn refusals_are_passed_on(rt: HostRuntime) {
     for &text in REFUSED {
-        assert!(rt; are_refused(rt.alloc(), text), "{text}");
+        see(&rt, are_refused(rt.alloc(), text, false), text);
     }
 }
 
 // Texts of which nothing is told before the end.
 const REFUSED_AT_THE_END: &[&str] = &["", "<", "&lt", "<a", "<!--a", "<!doctype", "\u{FEFF}"];
 
-/// Whether each refusal at the end of a text is passed on.
-fn are_ends_refused(alloc: Global, text: &str) -> bool {
-    is_end_refused(
-        alloc,
-        Refusing { is_shape: false },
-        text,
-        ParseFault::TokenInText,
-    ) && is_end_refused(alloc, Refusing { is_shape: true }, text, ParseFault::Shape)
-        && is_end_refused(alloc, ended(alloc), text, ParseFault::Ended)
-}
-
 #[test]
 fn refusals_at_the_end_are_passed_on(rt: HostRuntime) {
     for &text in REFUSED_AT_THE_END {
-        assert!(rt; are_ends_refused(rt.alloc(), text), "{text}");
+        see(&rt, are_refused(rt.alloc(), text, true), text);
     }
 }

@@ -3,7 +3,7 @@ ghost use Rattle.html_tokenizer.specs.Calls.{IsReadyIf, refusal};
 
 use super::sinks::Naming;
 use super::words::Spoken;
-use super::{PAGE, list_of, put, sink_of, tokenizer_over};
+use super::{PAGE, list_of, put, see, sink_of, tokenizer_over};
 use html_tokenizer::{BufferQueue, TokenSink, Tokenizer};
 use markup::{ParseFault, TokenizerResult};
 use std::alloc::{AllocError, Global};
@@ -177,10 +177,10 @@ fn runs_script<S: TokenSink<Handle = u64> + Spoken + Drop>(
 #[test]
 fn scripts_write_before_what_is_left(rt: HostRuntime) {
     for row in SCRIPTS {
-        assert!(rt;
+        see(
+            &rt,
             runs_script(rt.alloc(), list_of(rt.alloc(), PAGE), row),
-            "{}",
-            row.text
+            row.text,
         );
     }
 }

@@ -150,13 +150,14 @@ const NAMED_FRAGMENTS: &[Row] = &[
     ("a</style>", "text \"a</style>\"; eof"),
 ];
 
+const IN_TITLE: Setting = Setting {
+    last_start_tag: Some("title"),
+    ..IN_RCDATA
+};
+
 #[test]
 fn reading_begins_in_raw_text(rt: HostRuntime) {
-    let setting = Setting {
-        last_start_tag: Some("title"),
-        ..IN_RCDATA
-    };
-    assert_rows(&rt, rt.alloc(), setting, NAMED_FRAGMENTS);
+    assert_rows(&rt, rt.alloc(), IN_TITLE, NAMED_FRAGMENTS);
 }
 
 const NAMELESS_FRAGMENTS: &[Row] = &[

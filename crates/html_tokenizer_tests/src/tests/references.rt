@@ -90,11 +90,12 @@ const LONGEST_NAMES: &[Row] = &[
     ),
 ];
 
+const WITH_NOT: Setting = Setting {
+    table: Table::Not,
+    ..PAGE
+};
+
 #[test]
 fn the_longest_name_counts(rt: HostRuntime) {
-    let setting = Setting {
-        table: Table::Not,
-        ..PAGE
-    };
-    assert_rows(&rt, rt.alloc(), setting, LONGEST_NAMES);
+    assert_rows(&rt, rt.alloc(), WITH_NOT, LONGEST_NAMES);
 }

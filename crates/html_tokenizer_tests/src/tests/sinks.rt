@@ -1,7 +1,7 @@
 //! A sink that names encodings.
 ghost use Rattle.std.specs.Prelude.{◌≡◌, ⊤, true, false, IfOk, IfErr};
 ghost use Rattle.markup.specs.declared.fault.ParseFault.TheVariants.{Memory};
-ghost use Rattle.html_tokens.specs.Sink.{numbered, Counts};
+ghost use Rattle.html_tokens.specs.Sink.{numbered, fails, tells_failed, Counts, Gives, OnRefused};
 ghost use Rattle.html_tokenizer_tests.specs.TestSinks.{reply_to, named, named_laws};
 
 use super::words::Spoken;
@@ -53,6 +53,24 @@ impl Naming {
             _ => Ok(TokenSinkResult::Continue),
         }
     }
+
+    // Takes a token, or refuses it where memory was wanting.
+    fn hear(&mut self, token: &Token, line_number: u64) -> Result<TokenSinkResult<u64>, ParseFault>
+        ensures gives { Gives (λ n. n) (named tt token.now line_number) result tt }
+        ensures failed_before { tells_failed result ≡ self.old.has_failed }
+        ensures failed_after { self.new.has_failed ≡ fails result }
+        ensures same_errors { OnRefused result (self.new.errors ≡ self.old.errors) }
+        ensures counts { Counts true token.now result self.old.errors self.new.errors }
+    {
+        if self.has_failed {
+            return Err(ParseFault::Failed);
+        }
+        let answer = self.take(token);
+        if answer.is_err() {
+            self.has_failed = true;
+        }
+        answer
+    }
 }
 
 impl TokenSink for Naming {
@@ -85,16 +103,9 @@ impl TokenSink for Naming {
     fn process_token(
         &mut self,
         token: Token,
-        _line_number: u64,
+        line_number: u64,
     ) -> Result<TokenSinkResult<u64>, ParseFault> {
-        if self.has_failed {
-            return Err(ParseFault::Failed);
-        }
-        let answer = self.take(&token);
-        if answer.is_err() {
-            self.has_failed = true;
-        }
-        answer
+        self.hear(&token, line_number)
     }
 
     fn end(&mut self) {}

@@ -48,13 +48,14 @@ const KEPT_MARKS: &[Row] = &[
     ),
 ];
 
+const KEEPING_MARKS: Setting = Setting {
+    discard_bom: false,
+    ..PAGE
+};
+
 #[test]
 fn the_mark_at_the_front_is_kept(rt: HostRuntime) {
-    let setting = Setting {
-        discard_bom: false,
-        ..PAGE
-    };
-    assert_rows(&rt, rt.alloc(), setting, KEPT_MARKS);
+    assert_rows(&rt, rt.alloc(), KEEPING_MARKS, KEPT_MARKS);
 }
 
 const SECTIONS: &[Row] = &[
@@ -71,13 +72,14 @@ const SECTIONS: &[Row] = &[
     ("<![cdata[a]]>b", "comment \"[cdata[a]]\"; text \"b\"; eof"),
 ];
 
+const WITH_SECTIONS: Setting = Setting {
+    asks_cdata: true,
+    ..PAGE
+};
+
 #[test]
 fn sections_are_text(rt: HostRuntime) {
-    let setting = Setting {
-        asks_cdata: true,
-        ..PAGE
-    };
-    assert_rows(&rt, rt.alloc(), setting, SECTIONS);
+    assert_rows(&rt, rt.alloc(), WITH_SECTIONS, SECTIONS);
 }
 
 const NO_SECTIONS: &[Row] = &[
