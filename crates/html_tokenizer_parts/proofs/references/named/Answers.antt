@@ -6,14 +6,14 @@ pub returns-clause-found : goal.returns-clause-found
 returns-clause-found c =
     let row = rw c.requires at c.in-Some.ensures.row in
     let kept =
-        is_no_text-row c.args.in_value c.args.follows c.name_of.result.now c.in-Some.row.now.name c.as_bytes.result.now c.args.text.now c.row_found-found.result.len c.name_of.ensures
-        c.as_bytes.ensures.value (ap (λ r. r.len) c.row_found-found.ensures) c.if-is_text.ensures in
+    is_no_text-row c.args.in_value c.args.follows c.name_of.result.now c.in-Some.row.now.name c.as_bytes.result.now c.args.text.now c.row_found-found.result.len c.name_of.ensures
+    c.as_bytes.ensures.value (ap (λ r. r.len) c.row_found-found.ensures) c.if-is_text.ensures in
     rw (c.row_found-found.ensures, ← row, kept) refl
 
 pub returns-clause-fault : goal.returns-clause-fault
 returns-clause-fault c =
     let row = rw c.requires at c.in-Some.ensures.row in
     let kept =
-        is_no_text-row c.args.in_value c.args.follows c.name_of.result.now c.in-Some.row.now.name c.as_bytes.result.now c.args.text.now c.row_found-found.result.len c.name_of.ensures
-        c.as_bytes.ensures.value (ap (λ r. r.len) c.row_found-found.ensures) c.if-is_text.ensures in
+    is_no_text-row c.args.in_value c.args.follows c.name_of.result.now c.in-Some.row.now.name c.as_bytes.result.now c.args.text.now c.row_found-found.result.len c.name_of.ensures
+    c.as_bytes.ensures.value (ap (λ r. r.len) c.row_found-found.ensures) c.if-is_text.ensures in
     rw (c.name_faults.ensures, c.name_of-2.ensures, ← row, kept) refl
