@@ -1,4 +1,4 @@
-use Rattle.std.proofs.Common.{◌≡◌, ℕ, false, List, [], ◌∷◌, map, refl, arith}
+use Rattle.std.proofs.Common.{◌≡◌, ℕ, false, List, [], ◌∷◌, map, refl, arith, rules}
 use Rattle.std.specs.Char.{is_ascii_uppercase, to_ascii_lowercase}
 use Rattle.std.specs.List.{list_any}
 use Rattle.std.specs.Str.{chars}
@@ -20,3 +20,6 @@ pub returns-then-not-has_upper-clause-ok : goal.returns-then-not-has_upper-claus
 returns-then-not-has_upper-clause-ok c =
     let none : list_any is_ascii_uppercase (chars c.args.more.now) ≡ false = cc in
     rw (lowered-none _ none) c.push_str.ensures.ok
+
+pub returns-clause-ok : goal.returns-clause-ok
+returns-clause-ok c = search rules
