@@ -9,7 +9,6 @@ use Rattle.html_tokens.specs.declared.table.TableFault.{TableFault}
 use Rattle.html_tokens.specs.declared.table.TableFault.TheVariants as table
 use Rattle.html_input.specs.TableFile.{rows_of}
 use Rattle.html_input.specs.TableFault.{HasBadRow, IsTableFault, row_fault_of}
-use Rattle.html_input.specs.declared.table.TableFileFault.TheVariants.{Memory}
 
 -- bytes that were read to the end of a source are all that it had
 pub record IsAll (bytes whole : List ℕ) (left : Option (List ℕ)) : Type 0 where
