@@ -252,14 +252,31 @@ fn missing_attributes_are_added(rt: HostRuntime) {
     }
 }
 
-const PREFIXES: &[(KnownNamespace, &str)] = &[
-    (KnownNamespace::NoNamespace, ""),
-    (KnownNamespace::Html, "html"),
-    (KnownNamespace::MathMl, "mathml"),
-    (KnownNamespace::Svg, "svg"),
-    (KnownNamespace::XLink, "xlink"),
-    (KnownNamespace::Xml, "xml"),
-    (KnownNamespace::Xmlns, "xmlns"),
+/// The known namespaces, their prefixes and their texts.
+const KNOWN: &[(KnownNamespace, &str, &str)] = &[
+    (KnownNamespace::NoNamespace, "", ""),
+    (KnownNamespace::Html, "html", "http://www.w3.org/1999/xhtml"),
+    (
+        KnownNamespace::MathMl,
+        "mathml",
+        "http://www.w3.org/1998/Math/MathML",
+    ),
+    (KnownNamespace::Svg, "svg", "http://www.w3.org/2000/svg"),
+    (
+        KnownNamespace::XLink,
+        "xlink",
+        "http://www.w3.org/1999/xlink",
+    ),
+    (
+        KnownNamespace::Xml,
+        "xml",
+        "http://www.w3.org/XML/1998/namespace",
+    ),
+    (
+        KnownNamespace::Xmlns,
+        "xmlns",
+        "http://www.w3.org/2000/xmlns/",
+    ),
 ];
 
 // Whether the copy of a prefix equals another, which is this text.
@@ -279,31 +296,24 @@ fn is_usual(alloc: Global, known: KnownNamespace, want: &str) -> bool {
     made == other && is_prefix_copied(alloc, &made, &other, want)
 }
 
+fn is_known(alloc: Global, row: (KnownNamespace, &str, &str)) -> bool {
+    is_usual(alloc, row.0, row.1) && Namespace::from_known(row.0).as_str() == row.2
+}
+
 #[test]
-fn prefixes_of_namespaces_are_their_texts(rt: HostRuntime) {
-    for &(known, want) in PREFIXES {
-        see(&rt, is_usual(rt.alloc(), known, want), want);
+fn known_namespaces_have_their_prefixes_and_texts(rt: HostRuntime) {
+    for &row in KNOWN {
+        see(&rt, is_known(rt.alloc(), row), row.2);
     }
 }
 
 // Texts that are copied below.
 const WORDS: &[&str] = &["", "href", "Ünïcode"];
 
-fn copies_text(alloc: Global, made: &Text, characters: &str) -> bool {
-    match made.copy(alloc) {
-        Ok(copied) => copied.as_str() == characters,
-        Err(_) => false,
-    }
-}
-
 fn is_text_copied(alloc: Global, characters: &str) -> bool {
-    match text(alloc, characters) {
-        Ok(made) => copies_text(alloc, &made, characters),
-        Err(_) => false,
-    }
-}
-
-fn copies_local_name(alloc: Global, made: &LocalName, characters: &str) -> bool {
+    let Ok(made) = text(alloc, characters) else {
+        return false;
+    };
     match made.copy(alloc) {
         Ok(copied) => copied.as_str() == characters,
         Err(_) => false,
@@ -311,13 +321,9 @@ fn copies_local_name(alloc: Global, made: &LocalName, characters: &str) -> bool 
 }
 
 fn is_local_name_copied(alloc: Global, characters: &str) -> bool {
-    match local_name(alloc, characters) {
-        Ok(made) => copies_local_name(alloc, &made, characters),
-        Err(_) => false,
-    }
-}
-
-fn copies_namespace(alloc: Global, made: &Namespace, characters: &str) -> bool {
+    let Ok(made) = local_name(alloc, characters) else {
+        return false;
+    };
     match made.copy(alloc) {
         Ok(copied) => copied.as_str() == characters,
         Err(_) => false,
@@ -325,8 +331,11 @@ fn copies_namespace(alloc: Global, made: &Namespace, characters: &str) -> bool {
 }
 
 fn is_namespace_copied(alloc: Global, characters: &str) -> bool {
-    match namespace(alloc, characters) {
-        Ok(made) => copies_namespace(alloc, &made, characters),
+    let Ok(made) = namespace(alloc, characters) else {
+        return false;
+    };
+    match made.copy(alloc) {
+        Ok(copied) => copied.as_str() == characters,
         Err(_) => false,
     }
 }
@@ -338,38 +347,18 @@ fn is_word_of_prefix_copied(alloc: Global, characters: &str) -> bool {
     is_prefix_copied(alloc, &made, &made, characters)
 }
 
-// A name of a text.
-fn name_of_text(alloc: Global, characters: &str) -> Result<LocalName, ParseFault> {
-    Ok(LocalName::from_text(Text::from_str(alloc, characters)?))
+// A text once more, by the calls that take it or its characters.
+fn again(alloc: Global, characters: &str) -> Result<String, ParseFault> {
+    let name = LocalName::from_text(Text::from_str(alloc, characters)?);
+    let name_again = LocalName::from_str(alloc, name.as_str())?;
+    Text::from_str(alloc, name_again.as_str())?.into_string()
 }
 
-// The characters of a text.
-fn whole_text(alloc: Global, characters: &str) -> Result<String, ParseFault> {
-    Text::from_str(alloc, characters)?.into_string()
-}
-
-// Whether a text is this one once more, by the calls that take its characters.
-fn is_text_again(alloc: Global, text: &str, characters: &str) -> bool {
-    match whole_text(alloc, text) {
+fn is_same_again(alloc: Global, characters: &str) -> bool {
+    match again(alloc, characters) {
         Ok(whole) => whole.as_str() == characters,
         Err(_) => false,
     }
-}
-
-// Whether a name is this text once more, by the calls that take its characters.
-fn is_name_again(alloc: Global, name: &str, characters: &str) -> bool {
-    match LocalName::from_str(alloc, name) {
-        Ok(again) => is_text_again(alloc, again.as_str(), characters),
-        Err(_) => false,
-    }
-}
-
-// Whether a text is itself once more, by the calls that take it or its characters.
-fn is_same_again(alloc: Global, characters: &str) -> bool {
-    let Ok(name) = name_of_text(alloc, characters) else {
-        return false;
-    };
-    is_name_again(alloc, name.as_str(), characters)
 }
 
 // Whether a text is copied as each kind of word.
@@ -379,13 +368,6 @@ fn is_copied(alloc: Global, characters: &str) -> bool {
         && is_namespace_copied(alloc, characters)
         && is_word_of_prefix_copied(alloc, characters)
         && is_same_again(alloc, characters)
-}
-
-#[test]
-fn copies_equal_their_source(rt: HostRuntime) {
-    for &characters in WORDS {
-        see(&rt, is_copied(rt.alloc(), characters), characters);
-    }
 }
 
 // The name `xlink:href`.
@@ -409,11 +391,6 @@ fn is_link_copied(alloc: Global) -> bool {
     }
 }
 
-#[test]
-fn copied_names_equal_their_source(rt: HostRuntime) {
-    assert!(rt; is_link_copied(rt.alloc()));
-}
-
 fn two_attributes(alloc: Global) -> Result<Attributes, ParseFault> {
     attributes(alloc, &[("id", "x"), ("class", "a b")])
 }
@@ -433,7 +410,11 @@ fn are_two_copied(alloc: Global) -> bool {
 }
 
 #[test]
-fn copied_attributes_equal_their_source(rt: HostRuntime) {
+fn copies_equal_their_source(rt: HostRuntime) {
+    for &characters in WORDS {
+        see(&rt, is_copied(rt.alloc(), characters), characters);
+    }
+    assert!(rt; is_link_copied(rt.alloc()));
     assert!(rt; are_two_copied(rt.alloc()));
 }
 
@@ -491,27 +472,6 @@ const PLACES: &[(&str, Option<usize>)] = &[
 fn known_names_are_found_in_their_table(rt: HostRuntime) {
     for &(characters, place) in PLACES {
         see(&rt, is_at(rt.alloc(), characters, place), characters);
-    }
-}
-
-const NAMESPACES: &[(KnownNamespace, &str)] = &[
-    (KnownNamespace::NoNamespace, ""),
-    (KnownNamespace::Html, "http://www.w3.org/1999/xhtml"),
-    (KnownNamespace::MathMl, "http://www.w3.org/1998/Math/MathML"),
-    (KnownNamespace::Svg, "http://www.w3.org/2000/svg"),
-    (KnownNamespace::XLink, "http://www.w3.org/1999/xlink"),
-    (KnownNamespace::Xml, "http://www.w3.org/XML/1998/namespace"),
-    (KnownNamespace::Xmlns, "http://www.w3.org/2000/xmlns/"),
-];
-
-fn is_namespace_of(known: KnownNamespace, want: &str) -> bool {
-    Namespace::from_known(known).as_str() == want
-}
-
-#[test]
-fn namespaces_are_the_standard_ones(rt: HostRuntime) {
-    for &(known, want) in NAMESPACES {
-        see(&rt, is_namespace_of(known, want), want);
     }
 }
 

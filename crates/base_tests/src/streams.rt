@@ -82,8 +82,16 @@ fn reads_into_no_room(rt: HostRuntime) {
     assert!(rt; five_are_not_read(rt.alloc()));
 }
 
-// The call that fails, and what the calls behind it give: as if it had not been made.
-const FAILED: &[(u64, &str)] = &[(1, "abcde"), (2, "cde"), (3, "e"), (4, "")];
+// The call that fails, whether the reading comes to it, and what the calls behind it give: as if it had not been made.
+const FAILED: &[(Option<u64>, bool, &str)] = &[
+    (Some(1), true, "abcde"),
+    (Some(2), true, "cde"),
+    (Some(3), true, "e"),
+    (Some(4), true, ""),
+    (None, false, "abcde"),
+    (Some(0), false, "abcde"),
+    (Some(5), false, "abcde"),
+];
 
 // Whether the rest of a reader is this.
 fn has_left(alloc: Global, reader: &mut MemReader, rest: &str) -> bool {
@@ -98,35 +106,18 @@ fn fails(alloc: Global, reader: &mut MemReader) -> bool {
     matches!(read_whole(alloc, reader), Err(ReadFault::Read))
 }
 
-fn fails_once(alloc: Global, fail_at: u64, rest: &str) -> bool {
+fn fails_once(alloc: Global, row: (Option<u64>, bool, &str)) -> bool {
     let Ok(bytes) = five_bytes(alloc) else {
         return false;
     };
-    let mut reader = MemReader::new(bytes, 2, Some(fail_at));
-    fails(alloc, &mut reader) && has_left(alloc, &mut reader, rest)
-}
-
-fn never_fails(alloc: Global, fail_at: Option<u64>) -> bool {
-    let Ok(bytes) = five_bytes(alloc) else {
-        return false;
-    };
-    has_left(alloc, &mut MemReader::new(bytes, 2, fail_at), "abcde")
-}
-
-// Calls that no reading of five bytes comes to.
-const NOT_REACHED: &[Option<u64>] = &[None, Some(0), Some(5)];
-
-#[test]
-fn reads_fail_once(rt: HostRuntime) {
-    for &(fail_at, rest) in FAILED {
-        see(&rt, fails_once(rt.alloc(), fail_at, rest), rest);
-    }
+    let mut reader = MemReader::new(bytes, 2, row.0);
+    (!row.1 || fails(alloc, &mut reader)) && has_left(alloc, &mut reader, row.2)
 }
 
 #[test]
-fn reads_never_fail(rt: HostRuntime) {
-    for &fail_at in NOT_REACHED {
-        assert!(rt; never_fails(rt.alloc(), fail_at));
+fn reads_fail_once_or_never(rt: HostRuntime) {
+    for &row in FAILED {
+        see(&rt, fails_once(rt.alloc(), row), row.2);
     }
 }
 
@@ -274,11 +265,6 @@ fn is_wrapped_read(alloc: Global) -> bool {
         && source.into_inner().position() == 5
 }
 
-#[test]
-fn wraps_readers(rt: HostRuntime) {
-    assert!(rt; is_wrapped_read(rt.alloc()));
-}
-
 fn is_wrapped_write() -> bool {
     let mut target = StdTarget::new(Cursor::new([0; 4]));
     let first = write_once(&mut target, b"abc");
@@ -293,6 +279,7 @@ fn is_wrapped_write() -> bool {
 }
 
 #[test]
-fn wraps_writers(rt: HostRuntime) {
+fn wraps_readers_and_writers(rt: HostRuntime) {
+    assert!(rt; is_wrapped_read(rt.alloc()));
     assert!(rt; is_wrapped_write());
 }

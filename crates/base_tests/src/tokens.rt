@@ -47,11 +47,6 @@ fn are_options_copied(alloc: Global) -> bool {
     is_copied(alloc, &options)
 }
 
-#[test]
-fn options_are_copied(rt: HostRuntime) {
-    assert!(rt; are_options_copied(rt.alloc()));
-}
-
 // Whether the copy of a doctype equals it, and another doctype does not.
 fn is_doctype_copied(alloc: Global, doctype: &Doctype, other: &Doctype) -> bool {
     let Ok(copied) = doctype.copy(alloc) else {
@@ -82,11 +77,6 @@ fn are_both_copied(alloc: Global, doctype: &Doctype, empty: &Doctype) -> bool {
     is_doctype_copied(alloc, doctype, empty) && is_doctype_copied(alloc, empty, doctype)
 }
 
-#[test]
-fn doctypes_are_copied(rt: HostRuntime) {
-    assert!(rt; are_doctypes_copied(rt.alloc()));
-}
-
 fn not_equal_tilde(alloc: Global) -> Result<ReferenceRow, TableFault> {
     let name = String::from_str(alloc, "NotEqualTilde;")?;
     Ok(ReferenceRow::new(name, 0x2242, Some(0x338)))
@@ -111,6 +101,8 @@ fn is_row_copied(alloc: Global) -> bool {
 }
 
 #[test]
-fn rows_are_copied(rt: HostRuntime) {
+fn options_doctypes_and_rows_are_copied(rt: HostRuntime) {
+    assert!(rt; are_options_copied(rt.alloc()));
+    assert!(rt; are_doctypes_copied(rt.alloc()));
     assert!(rt; is_row_copied(rt.alloc()));
 }

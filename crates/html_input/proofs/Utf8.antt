@@ -11,7 +11,7 @@ use Rattle.std.proofs.lemmas.Str.{utf8_valid_len-IsUtf8, utf8_valid_len-IsValidU
 use Rattle.std.proofs.lemmas.Bool.Decides.{nat_tests}
 use Rattle.std.specs.Io.KnownBytes.{IsAtEnd, prepend_known}
 use lib.Utf8.{scalar, scalars, scalar_cases}
-use Rattle.html_input.specs.Reading.{BeginsText, HasBegun, IsFront, ShowsNotUtf8, StaysAtFault}
+use Rattle.html_input.specs.Reading.{BeginsText, HasBegun, IsFront, IsSplit, ShowsNotUtf8, StaysAtFault}
 
 -- bytes that end behind the first byte of a character
 one_byte : (x : ℕ) → 194 ≤ x → x ≤ 244 → error_len_of_some (x ∷ []) ≡ None
@@ -323,3 +323,19 @@ fault-behind done bs at text fault more =
 -- the front of bytes at fault is shorter than they are
 pub fault-within : (bs : List ℕ) (at : ℕ) → StaysAtFault bs at → at < length bs
 fault-within bs at fault = let short = (fault []).short in omega (arith, length-append bs [])
+
+-- a front that is text stays so, whatever follows the bytes
+pub front-kept : (earlier last grown all : List ℕ) (n : ℕ) → IsFront earlier n → grown ≡ earlier ++ last → all ≡ grown → IsUtf8 (take n all)
+front-kept earlier last grown all n front more same =
+    subst IsUtf8 (sym (ap (take n) (same ∙ more) ∙ take-append-le n earlier last front.within)) front.text
+
+-- bytes of which no less than the whole is a front are text
+pub front-all : (bytes : List ℕ) (n len known : ℕ) → IsFront bytes n → len ≡ known → length bytes ≡ known → len ≤ n → IsUtf8 bytes
+front-all bytes n len known front told same all = subst IsUtf8 (take_all n bytes (omega arith)) front.text
+
+-- bytes that are split behind their longest front
+pub split-front : (bytes lent front text cut : List ℕ) (n : ℕ) → lent ≡ bytes → IsFront lent n → front ≡ take n bytes → text ≡ front → cut ≡ drop n bytes → IsSplit bytes text cut
+split-front bytes lent front text cut n same longest kept as_text behind =
+    let all : IsFront bytes n = subst (λ (bs : List ℕ). IsFront bs n) same longest in
+    let size : length (take n bytes) ≡ n = omega (arith, length-take n bytes, all.within) in
+    rw (as_text, kept, behind) (record { parts = sym (take-append-drop n bytes); front = rw size all })

@@ -1,11 +1,10 @@
 -- Stepping back over a text that was just taken.
-use Rattle.std.proofs.Common.{◌≡◌, ◌≤◌, ◌+◌, ◌-◌, ℕ, List, ◌++◌, length, take, drop, arith, subst, sym, ◌∙◌, ap, append_assoc, Result, Ok, Err}
+use Rattle.std.proofs.Common.{◌≡◌, ◌≤◌, ◌+◌, ◌-◌, ℕ, List, [], ◌++◌, length, take, drop, arith, subst, sym, ◌∙◌, ap, append_assoc, Result, Ok, Err}
 use Rattle.std.specs.List.{replace_range, slice_range}
 use Rattle.std.specs.Result.{OnOk}
 use Rattle.std.specs.Str.{IsCharBoundary, IsUtf8}
-use Rattle.std.proofs.lemmas.Grind.{common_steps}
-use Rattle.std.proofs.lemmas.List.{length-append, length-take, take-append-drop}
-use Rattle.std.proofs.lemmas.Str.{IsCharBoundary-at_seam, IsUtf8-append}
+use Rattle.std.proofs.lemmas.List.{drop_all, length-append, length-take, take-append-drop}
+use Rattle.std.proofs.lemmas.Str.{IsCharBoundary-at_seam, IsCharBoundary-from_drop, IsUtf8-append, IsUtf8-drop}
 use Rattle.std.proofs.Math.Seq.{drop-append_seam}
 
 -- a step back over a text that ends at the place puts it before what follows the place
@@ -18,7 +17,7 @@ drop-back xs ys front i l e =
 
 -- the same where a test found that the text ends there
 pub drop-back_after : (xs ys : List ℕ) (i k : ℕ) → i ≤ length xs → slice_range xs 0 i ≡ take (length (slice_range xs 0 i) - k) (slice_range xs 0 i) ++ ys → drop (i - length ys) xs ≡ ys ++ drop i xs
-drop-back_after xs ys i k l e = let f : take i xs ≡ slice_range xs 0 i = grind (arith, common_steps) in drop-back xs ys _ i l (f ∙ e)
+drop-back_after xs ys i k l e = drop-back xs ys _ i l (ap (λ (n : ℕ). take n xs) (omega arith) ∙ e)
 
 -- A text put, behind spaces, in place of a part that ends at a place stands before what follows the place, and begins where a
 -- character may.
@@ -40,3 +39,13 @@ IsPutBefore-replaced old new pad more from place at within is utf8 rest e =
 pub on-ok : {T E : Type 0} (r : Result T E) (P Q : Type 0) → (P → Q) → OnOk r P → OnOk r Q
 on-ok (Ok x) P Q f h = f h
 on-ok (Err e) P Q f h = tt
+
+-- where a step back leads, a character begins
+pub IsCharBoundary-back : (xs ys lent : List ℕ) (i : ℕ) → IsCharBoundary xs i → IsUtf8 xs → IsUtf8 ys → drop (i - length ys) xs ≡ ys ++ drop i xs → lent ≡ ys → IsCharBoundary xs (i - length lent)
+IsCharBoundary-back xs ys lent i cut text more back same =
+    let within = cut.0 in
+    rw same (IsCharBoundary-from_drop xs (i - length ys) (omega arith) (rw back (IsUtf8-append ys (drop i xs) more (IsUtf8-drop xs i text cut))))
+
+-- a place that is no less than the end has nothing behind it
+pub none-behind : (xs now : List ℕ) (place len : ℕ) → drop place xs ≡ now → len ≡ length xs → len ≤ place → now ≡ []
+none-behind xs now place len seen size all = sym seen ∙ drop_all place xs (omega arith)

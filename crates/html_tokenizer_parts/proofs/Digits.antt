@@ -1,10 +1,11 @@
 -- Numbers of references, digit by digit.
 use Rattle.std.proofs.Common.{◌≡◌, ◌∙◌, ℕ, ◌<◌, ◌≤◌, ◌+◌, ◌*◌, min, Bool, true, false, List, [], ◌∷◌, ◌++◌, length, get_or, take, refl, sym, ap, arith, ⊎_elim}
+use Rattle.std.specs.Char.{IsScalar}
 use Rattle.std.proofs.Math.Nat.{min-eq_left, min-eq_right}
 use Rattle.std.proofs.lemmas.Bool.{cases_lt}
 use Rattle.std.proofs.lemmas.Bool.Decides.{nat_tests}
 use Rattle.std.proofs.lemmas.List.{take_more}
-use Rattle.html_tokens.specs.Reference.{digit, number, number_behind, numbered, is_no_character}
+use Rattle.html_tokens.specs.Reference.{digit, number, number_behind, numbered, is_no_character, replaced, replacements}
 use Rattle.html_tokenizer_parts.specs.CharRefs.{base_of}
 
 number_behind-push : (base n : ℕ) (ds : List ℕ) (d : ℕ) → number_behind base n (ds ++ d ∷ []) ≡ number_behind base n ds * base + digit d
@@ -37,3 +38,25 @@ numbered-capped n =
     (λ (l : n < 0x110000). let within : n ≤ 0x110000 = omega arith in ap numbered (min-eq_left within))
     (λ (l : 0x110000 ≤ n). ap numbered (min-eq_right l) ∙ sym (numbered-above n l))
     (cases_lt n 0x110000)
+
+-- a scalar value that is not 0 is a number of a character
+is_character : (n : ℕ) → IsScalar n → (n ≡ 0 → ⊥) → is_no_character n ≡ false
+is_character n scalar some = grind (arith, nat_tests)
+
+-- a number of a character names it, or what stands in its place
+pub numbered-some : (n c named : ℕ) → IsScalar n → c ≡ n → (c ≡ 0 → ⊥) → named ≡ replaced c replacements → named ≡ numbered n
+numbered-some n c named scalar same some is =
+    let known : is_no_character n ≡ false = is_character n scalar (λ e. some (same ∙ e)) in
+    is ∙ ap (λ (k : ℕ). replaced k replacements) same ∙ rw known refl
+
+-- what is no scalar value is a number of no character
+no_character : (n : ℕ) → (IsScalar n → ⊥) → is_no_character n ≡ true
+no_character n none = grind (arith, nat_tests)
+
+-- a number of no character names U+FFFD
+pub numbered-none : (n : ℕ) → (IsScalar n → ⊥) → 0xFFFD ≡ numbered n
+numbered-none n none = rw (no_character n none) refl
+
+-- so does 0
+pub numbered-zero : (n : ℕ) → n ≡ 0 → 0xFFFD ≡ numbered n
+numbered-zero n zero = rw zero refl

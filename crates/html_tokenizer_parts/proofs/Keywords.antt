@@ -1,9 +1,10 @@
 -- What the beginnings of words say of the characters that follow.
-use Rattle.std.proofs.Common.{◌≡◌, ◌∙◌, ℕ, suc, ◌+◌, ◌≤◌, ◌<◌, length, Bool, true, false, ◌||◌, nat_eq, nat_lt, List, [], ◌∷◌, ◌++◌, slice_index_or, refl, sym, ap, arith, append_assoc, append-nil}
+use Rattle.std.proofs.Common.{◌≡◌, ◌∙◌, ℕ, suc, ◌+◌, ◌≤◌, ◌<◌, length, Bool, true, false, ◌||◌, nat_eq, nat_lt, List, [], ◌∷◌, ◌++◌, get_or, take, slice_index_or, refl, sym, ap, arith, append_assoc, append-nil}
 use Rattle.std.specs.Prelude.{◌&&◌, zip, codes, if◌then◌else◌, ◌==◌}
 use Rattle.std.specs.Char.{to_ascii_lowercase, is_ascii_alphabetic}
 use Rattle.std.specs.List.{list_all}
 use Rattle.std.proofs.lemmas.Bool.{eqb-true}
+use Rattle.std.proofs.lemmas.List.{take_more}
 use Rattle.std.proofs.lemmas.Bool.Decides.{nat_tests}
 use Rattle.html_tokens.specs.Characters.{shown, begins, begins_any_case, begins_by, is_white_space, ends_word}
 use Rattle.html_tokens.specs.Comments.{bogus_comment_after}
@@ -345,3 +346,7 @@ front-empty (x ∷ cs) c h = let e : length (x ∷ cs) ≡ 0 = eqb-true (length 
 pub front-part : (cs : List ℕ) (c : ℕ) → IsPart cs → (length cs == 0) ≡ false → ends_word (front_of cs c) ≡ false
 front-part [] c part h = absurd cc
 front-part (x ∷ cs) c part h = begun-part x cs (part-plain (x ∷ cs) part)
+
+-- a text of one character more of those that were read
+pub text-more : (items text new : List ℕ) (k c : ℕ) → k < length items → c ≡ get_or items k c → text ≡ take k items → new ≡ text ++ c ∷ [] → new ≡ take (k + 1) items
+text-more items text new k c within is so_far pushed = pushed ∙ ap (λ t. t ++ c ∷ []) so_far ∙ ap (λ x. take k items ++ x ∷ []) is ∙ sym (take_more items k c within)

@@ -2,6 +2,7 @@ pub mod CharRefs
 pub mod Digits
 pub mod EndFronts
 pub mod HeldFronts
+pub mod HeldNumbers
 pub mod HeldTexts
 pub mod InputChars
 pub mod InputRuns

@@ -23,7 +23,7 @@ use html_tokenizer::{
     TokenizerOpts,
 };
 use markup::{ParseFault, Text, TokenizerResult};
-use std::alloc::Global;
+use std::alloc::{AllocError, Global};
 use std::process::Abort;
 use text_pieces::{as_given, in_characters, in_two};
 use words::is_in_words;
@@ -46,6 +46,8 @@ struct Setting {
     discard_bom: bool,
     initial_state: Option<State>,
     last_start_tag: Option<&'static str>,
+    /// Whether the end is told behind the text.
+    tells_end: bool,
 }
 
 /// As a page is read.
@@ -56,6 +58,7 @@ const PAGE: Setting = Setting {
     discard_bom: true,
     initial_state: None,
     last_start_tag: None,
+    tells_end: true,
 };
 
 /// A text, and the tokens that it tells.
@@ -64,25 +67,27 @@ type Row = (&'static str, &'static str);
 /// Above the number of pauses in any piece of a text below.
 const PAUSES: u32 = 8;
 
-fn not_table(alloc: Global) -> Result<References, TableFault> {
-    let mut rows = Vec::new(alloc);
+fn push_not(alloc: Global, rows: &mut Vec<ReferenceRow>) -> Result<(), AllocError> {
     rows.push(ReferenceRow::new(String::from_str(alloc, "not")?, 0xAC, None))?;
     rows.push(ReferenceRow::new(String::from_str(alloc, "notin;")?, 0x2209, None))?;
+    Ok(())
+}
+
+fn not_table(alloc: Global) -> Result<References, TableFault> {
+    let mut rows = Vec::new(alloc);
+    push_not(alloc, &mut rows)?;
     References::new(alloc, rows)
 }
 
-fn made(table: Result<References, TableFault>) -> Result<References, ParseFault> {
-    match table {
+fn table_of(alloc: Global, table: Table) -> Result<References, ParseFault> {
+    let made = match table {
+        Table::Five => References::five(alloc),
+        Table::Not => not_table(alloc),
+    };
+    match made {
         Ok(table) => Ok(table),
         Err(TableFault::Memory) => Err(ParseFault::Memory),
         Err(_) => Err(ParseFault::Shape),
-    }
-}
-
-fn table_of(alloc: Global, table: Table) -> Result<References, ParseFault> {
-    match table {
-        Table::Five => made(References::five(alloc)),
-        Table::Not => made(not_table(alloc)),
     }
 }
 
@@ -187,16 +192,20 @@ fn feed_pieces<S: TokenSink>(
     Ok(())
 }
 
-/// The same, and the end.
+/// The same, and the end where it is told.
 fn feed_to_end<S: TokenSink>(
     tokenizer: &mut Tokenizer<S>,
     pieces: Vec<String>,
+    tells_end: bool,
 ) -> Result<(), ParseFault>
     requires { IsReadyIf S.TokenSink (refusal tokenizer.old.stream) tokenizer.old }
     ensures { IsReadyIf S.TokenSink (refusal tokenizer.new.stream) tokenizer.new }
 {
     feed_pieces(tokenizer, pieces)?;
-    tokenizer.end()
+    if tells_end {
+        tokenizer.end()?;
+    }
+    Ok(())
 }
 
 /// Whether a tokenizer refuses both calls by this fault.
@@ -231,7 +240,7 @@ fn sink_if<S: TokenSink + Drop>(
     Ok(sink)
 }
 
-/// Reads these pieces and their end, and hands out the sink.
+/// Reads these pieces, and their end where it is told, and hands out the sink.
 fn read_over<S: TokenSink + Drop>(
     alloc: Global,
     sink: S,
@@ -241,18 +250,21 @@ fn read_over<S: TokenSink + Drop>(
     requires { S.is_sound (S.view sink) }
 {
     let mut tokenizer = tokenizer_over(alloc, sink, setting)?;
-    let answer = feed_to_end(&mut tokenizer, pieces);
+    let answer = feed_to_end(&mut tokenizer, pieces, setting.tells_end);
     sink_if(tokenizer, answer)
 }
 
-/// What a list is told of these pieces and their end.
-fn read(alloc: Global, setting: Setting, pieces: Vec<String>) -> Result<Listed, ParseFault> {
-    read_over(alloc, list_of(alloc, setting), setting, pieces)
+/// A text in pieces, where memory for them was not refused.
+type Pieces = Result<Vec<String>, AllocError>;
+
+/// What a list is told of these pieces, and of their end where it is told.
+fn read(alloc: Global, setting: Setting, pieces: Pieces) -> Result<Listed, ParseFault> {
+    read_over(alloc, list_of(alloc, setting), setting, pieces?)
 }
 
-/// What a list is told of a whole text and its end.
+/// The same of a whole text.
 fn read_whole(alloc: Global, setting: Setting, text: &str) -> Result<Listed, ParseFault> {
-    read(alloc, setting, as_given(alloc, &[text])?)
+    read(alloc, setting, as_given(alloc, &[text]))
 }
 
 /// Whether another list was told what the one of a whole text was.
@@ -264,25 +276,9 @@ fn is_same(whole: &Listed, other: &Listed) -> bool {
 }
 
 /// Whether these pieces tell what the whole text does.
-fn is_told_alike(alloc: Global, setting: Setting, pieces: Vec<String>, whole: &Listed) -> bool {
+fn is_told_alike(alloc: Global, setting: Setting, pieces: Pieces, whole: &Listed) -> bool {
     match read(alloc, setting, pieces) {
         Ok(other) => is_same(whole, &other),
-        Err(_) => false,
-    }
-}
-
-/// Whether a text tells the same where it is cut at this place.
-fn is_told_cut(alloc: Global, setting: Setting, text: &str, place: usize, whole: &Listed) -> bool {
-    match in_two(alloc, text, place) {
-        Ok(pieces) => is_told_alike(alloc, setting, pieces, whole),
-        Err(_) => false,
-    }
-}
-
-/// Whether a text tells the same in its characters.
-fn is_told_singly(alloc: Global, setting: Setting, text: &str, whole: &Listed) -> bool {
-    match in_characters(alloc, text) {
-        Ok(pieces) => is_told_alike(alloc, setting, pieces, whole),
         Err(_) => false,
     }
 }
@@ -290,11 +286,11 @@ fn is_told_singly(alloc: Global, setting: Setting, text: &str, whole: &Listed) -
 /// Whether a text tells the same in any two pieces, and in its characters.
 fn is_told_in_pieces(alloc: Global, setting: Setting, text: &str, whole: &Listed) -> bool {
     for place in 0..=text.chars().count() {
-        if !is_told_cut(alloc, setting, text, place, whole) {
+        if !is_told_alike(alloc, setting, in_two(alloc, text, place), whole) {
             return false;
         }
     }
-    is_told_singly(alloc, setting, text, whole)
+    is_told_alike(alloc, setting, in_characters(alloc, text), whole)
 }
 
 /// Whether a list was told these tokens of a whole text, and is told the same of its pieces.
@@ -341,10 +337,12 @@ fn see(rt: &impl Abort, is_right: bool, row: &str) {
     assert!(rt; is_right, "{row}");
 }
 
-/// Sees the same of each text. No memory is refused.
-fn assert_rows(rt: &impl Abort, alloc: Global, setting: Setting, rows: &[Row]) {
-    for &row in rows {
-        see(rt, is_row(alloc, setting, row), row.0);
+/// Sees the same of each text of each table, in the setting of the table. No memory is refused.
+fn assert_rows(rt: &impl Abort, alloc: Global, tables: &[(Setting, &[Row])]) {
+    for &(setting, rows) in tables {
+        for &row in rows {
+            see(rt, is_row(alloc, setting, row), row.0);
+        }
     }
 }
 
@@ -359,5 +357,5 @@ const WHOLE_PAGE: &[Row] = &[
 
 #[test]
 fn a_page_is_read(rt: HostRuntime) {
-    assert_rows(&rt, rt.alloc(), PAGE, WHOLE_PAGE);
+    assert_rows(&rt, rt.alloc(), &[(PAGE, WHOLE_PAGE)]);
 }

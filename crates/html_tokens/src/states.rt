@@ -3,7 +3,7 @@ ghost use Rattle.std.specs.Prelude.{◌≡◌};
 ghost use Rattle.html_tokens.specs.TextState.{is_text_state};
 
 /// Which of two depths of escaping the text of a script is in.
-#[derive(Clone, Copy, Debug, PartialEq, Eq, PartialOrd, Ord, Hash)]
+#[derive(Clone, Copy, Debug, PartialEq, Eq, Hash)]
 pub enum ScriptEscapeKind {
     /// Behind `<!--`.
     Escaped,
@@ -12,7 +12,7 @@ pub enum ScriptEscapeKind {
 }
 
 /// Which of a doctype's identifiers is read.
-#[derive(Clone, Copy, Debug, PartialEq, Eq, PartialOrd, Ord, Hash)]
+#[derive(Clone, Copy, Debug, PartialEq, Eq, Hash)]
 pub enum DoctypeIdKind {
     /// The one behind `PUBLIC`.
     Public,
@@ -21,7 +21,7 @@ pub enum DoctypeIdKind {
 }
 
 /// How an attribute's value is written.
-#[derive(Clone, Copy, Debug, PartialEq, Eq, PartialOrd, Ord, Hash)]
+#[derive(Clone, Copy, Debug, PartialEq, Eq, Hash)]
 pub enum AttrValueKind {
     /// Without quotes.
     Unquoted,
@@ -32,7 +32,7 @@ pub enum AttrValueKind {
 }
 
 /// Text that ends at an end tag alone.
-#[derive(Clone, Copy, Debug, PartialEq, Eq, PartialOrd, Ord, Hash)]
+#[derive(Clone, Copy, Debug, PartialEq, Eq, Hash)]
 pub enum RawKind {
     /// Text with references, as of `title` (section 13.2.5.2).
     Rcdata,
@@ -45,7 +45,7 @@ pub enum RawKind {
 }
 
 /// Where the tokenizer stands. Each variant is the state of that name in section 13.2.5 of the Standard.
-#[derive(Clone, Copy, Debug, PartialEq, Eq, PartialOrd, Ord, Hash)]
+#[derive(Clone, Copy, Debug, PartialEq, Eq, Hash)]
 pub enum State {
     /// Section 13.2.5.1.
     Data,

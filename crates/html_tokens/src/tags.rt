@@ -7,7 +7,7 @@ use markup::{Attributes, LocalName, ParseFault, Text};
 use std::alloc::Global;
 
 /// Whether a tag opens or closes an element.
-#[derive(Clone, Copy, Debug, PartialEq, Eq, PartialOrd, Ord, Hash)]
+#[derive(Clone, Copy, Debug, PartialEq, Eq, Hash)]
 pub enum TagKind {
     /// As `<p>`.
     StartTag,

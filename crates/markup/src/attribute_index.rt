@@ -18,7 +18,7 @@ use std::collections::BTreeMap;
 pub(crate) const MANY: usize = 16;
 
 /// The places of attributes by their local names.
-#[derive(Debug, Drop)]
+#[derive(Drop)]
 pub(crate) struct AttributeIndex {
     // Where the first attribute with a local name is.
     pub(crate) places: BTreeMap<Text, usize>,

@@ -13,6 +13,7 @@ use crate::fault::ParseFault;
 use crate::names::{LocalName, QualName};
 use crate::text::Text;
 use std::alloc::Global;
+use std::fmt::{self, Debug};
 use std::marker::Model;
 
 /// A name with its value.
@@ -38,7 +39,7 @@ impl Attribute {
 }
 
 /// Attributes in their order. A contract sees the list of them.
-#[derive(Debug, Drop)]
+#[derive(Drop)]
 pub struct Attributes {
     list: Vec<Attribute>,
     // Where they are, once there are many.
@@ -263,6 +264,12 @@ fn has_same_counts(first: &[Attribute], second: &[Attribute]) -> bool
     ensures { result ≡ have_same_counts first.now second.now }
 {
     first.iter().all(|attribute| count(first, attribute) == count(second, attribute))
+}
+
+impl Debug for Attributes {
+    fn fmt<W: fmt::Write>(&self, f: &mut fmt::Formatter<W>) -> fmt::Result {
+        Debug::fmt(self.as_slice(), f)
+    }
 }
 
 impl PartialEq for Attributes {

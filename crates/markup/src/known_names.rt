@@ -85,7 +85,7 @@ pub const NAMES: [&str; 626] = [
 ];
 
 /// A known name, by its place in the table.
-#[derive(Clone, Copy, Debug, PartialEq, Eq, PartialOrd, Ord, Hash)]
+#[derive(Clone, Copy, Debug, PartialEq, Eq, Hash)]
 pub struct KnownName {
     /// The place in the table.
     pub place: u16,

@@ -12,6 +12,7 @@ use crate::namespaces::{self, KnownForm, KnownNamespace};
 use crate::text::Text;
 use std::alloc::Global;
 use std::cmp::Ordering;
+use std::fmt::{self, Debug};
 use std::hash::{Hash, Hasher};
 use std::marker::Model;
 
@@ -124,7 +125,7 @@ impl LocalName {
 }
 
 /// The name of a namespace, as `http://www.w3.org/1999/xhtml`; the empty text where there is none. A contract sees the list of its characters.
-#[derive(Debug, Drop)]
+#[derive(Drop)]
 pub struct Namespace {
     form: KnownForm,
 }
@@ -223,6 +224,12 @@ impl Namespace {
     }
 }
 
+impl Debug for Namespace {
+    fn fmt<W: fmt::Write>(&self, f: &mut fmt::Formatter<W>) -> fmt::Result {
+        Debug::fmt(self.as_str(), f)
+    }
+}
+
 impl PartialEq for Namespace {
     ghost use Rattle.std.specs.Prelude.{nat_eq};
     ghost use Rattle.std.specs.Cmp.{partial_equiv_from_equiv};
@@ -292,7 +299,7 @@ impl Hash for Namespace {
 }
 
 /// What stands before the colon of a name, as `xlink` in `xlink:href`. A contract sees the list of its characters.
-#[derive(Debug, Drop)]
+#[derive(Drop)]
 pub struct Prefix {
     form: KnownForm,
 }
@@ -346,6 +353,12 @@ impl Prefix {
             KnownForm::Known(known) => Ok(Prefix::from_known(*known)),
             KnownForm::Other(text) => Ok(Prefix::new(String::from_str(alloc, text.as_str())?)),
         }
+    }
+}
+
+impl Debug for Prefix {
+    fn fmt<W: fmt::Write>(&self, f: &mut fmt::Formatter<W>) -> fmt::Result {
+        Debug::fmt(self.as_str(), f)
     }
 }
 

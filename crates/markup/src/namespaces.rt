@@ -27,7 +27,7 @@ pub const XML: &str = "http://www.w3.org/XML/1998/namespace";
 pub const XMLNS: &str = "http://www.w3.org/2000/xmlns/";
 
 /// A namespace that the parser knows.
-#[derive(Clone, Copy, Debug, PartialEq, Eq, PartialOrd, Ord, Hash)]
+#[derive(Clone, Copy, Debug, PartialEq, Eq, Hash)]
 pub enum KnownNamespace {
     /// No namespace, as of most attributes.
     NoNamespace,
@@ -46,7 +46,7 @@ pub enum KnownNamespace {
 }
 
 /// What a namespace or a prefix is held as: one of a known namespace takes no memory, any other has its text.
-#[derive(Debug, Drop)]
+#[derive(Drop)]
 pub(crate) enum KnownForm {
     Known(KnownNamespace),
     Other(String),

@@ -1,7 +1,7 @@
 //! How closely a page is to be laid out as old browsers did.
 
 /// The mode of a document, which its doctype sets (HTML Standard, section 13.2.6.4.1).
-#[derive(Clone, Copy, Debug, PartialEq, Eq, PartialOrd, Ord, Hash)]
+#[derive(Clone, Copy, Debug, PartialEq, Eq, Hash)]
 pub enum QuirksMode {
     /// Laid out as old browsers did.
     Quirks,

@@ -8,7 +8,7 @@ use crate::names::QualName;
 use std::alloc::{AllocError, AllocFailed, Global};
 
 /// Why writing a tree gave up.
-#[derive(Clone, Copy, Debug, PartialEq, Eq, PartialOrd, Ord, Hash)]
+#[derive(Clone, Copy, Debug, PartialEq, Eq, Hash)]
 pub enum SerializeFault {
     /// The writer failed. A beginning of the text was written.
     Write = 1,

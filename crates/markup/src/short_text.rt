@@ -8,7 +8,7 @@ use std::marker::Model;
 const ROOM: usize = 30;
 
 /// A text of at most 30 bytes. A contract sees the list of them.
-#[derive(Debug, Drop)]
+#[derive(Drop)]
 pub(crate) struct ShortText {
     cells: [u8; 30],
     len: u8,

@@ -12,11 +12,12 @@ use crate::fault::ParseFault;
 use crate::text_form::TextForm;
 use std::alloc::Global;
 use std::cmp::Ordering;
+use std::fmt::{self, Debug};
 use std::hash::{Hash, Hasher};
 use std::marker::Model;
 
 /// An owned text. A contract sees the list of its characters. Short texts, of at most 30 bytes, take no memory of their own.
-#[derive(Debug, Drop)]
+#[derive(Drop)]
 pub struct Text {
     form: TextForm,
 }
@@ -169,6 +170,12 @@ fn lowered(alloc: Global, text: &str) -> Result<Text, ParseFault>
         made.push(c.to_ascii_lowercase())?;
     }
     Ok(made)
+}
+
+impl Debug for Text {
+    fn fmt<W: fmt::Write>(&self, f: &mut fmt::Formatter<W>) -> fmt::Result {
+        Debug::fmt(self.as_str(), f)
+    }
 }
 
 impl PartialEq for Text {

@@ -7,7 +7,7 @@ use crate::short_text::ShortText;
 use std::alloc::{AllocError, Global};
 
 /// A short text lies within the value, a longer one in memory of its own. A short text has what it would grow in.
-#[derive(Debug, Drop)]
+#[derive(Drop)]
 pub(crate) enum TextForm {
     Short(ShortText, Global),
     Long(String),

@@ -1,5 +1,5 @@
 //! Sinks: what they list, count and refuse.
-ghost use Rattle.std.specs.Prelude.{◌<◌, IfOk, vec_len};
+ghost use Rattle.std.specs.Prelude.{◌<◌, IfOk, OnOk, vec_len};
 
 use super::tags::tag;
 use crate::see;
@@ -47,11 +47,6 @@ fn are_listed(alloc: Global, sink: &mut Listed) -> bool {
             [told] => is_null_at(told, 3, "ab"),
             _ => false,
         }
-}
-
-#[test]
-fn tokens_are_listed(rt: HostRuntime) {
-    assert!(rt; are_listed(rt.alloc(), &mut Listed::new(rt.alloc(), false)));
 }
 
 // What a sink answers, in words.
@@ -127,11 +122,6 @@ fn refuses_behind_its_end(sink: &mut Listed) -> bool {
     was_told && refused(sink) == Some(ParseFault::Ended) && sink.told.len() == 1
 }
 
-#[test]
-fn ended_sinks_refuse(rt: HostRuntime) {
-    assert!(rt; refuses_behind_its_end(&mut Listed::new(rt.alloc(), false)));
-}
-
 // Whether what a sink answers is right: it took a text, or memory was refused and the sink refuses every token from then on.
 fn is_taken_or_failed(alloc: Global, sink: &mut Listed) -> bool {
     let Ok(token) = characters(alloc, "words") else {
@@ -158,13 +148,25 @@ fn refused_memory_fails_the_sink(rt: HostRuntime) {
     assert!(rt; is_taken_or_failed_thrice(rt.alloc(), &mut Listed::new(rt.alloc(), false)));
 }
 
+fn push_piece(
+    alloc: Global,
+    pieces: &mut Vec<(Text, u64)>,
+    words: &str,
+    line: u64,
+) -> Result<(), ParseFault>
+    ensures { OnOk result (0 < vec_len pieces.new) }
+{
+    pieces.push((Text::from_str(alloc, words)?, line))?;
+    Ok(())
+}
+
 // A text in two pieces.
 fn pieces(alloc: Global) -> Result<Vec<(Text, u64)>, ParseFault>
     ensures { IfOk result (λ pieces. 0 < vec_len pieces) }
 {
     let mut pieces = Vec::new(alloc);
-    pieces.push((Text::from_str(alloc, "a")?, 1))?;
-    pieces.push((Text::from_str(alloc, "b")?, 2))?;
+    push_piece(alloc, &mut pieces, "a", 1)?;
+    push_piece(alloc, &mut pieces, "b", 2)?;
     Ok(pieces)
 }
 
@@ -175,11 +177,6 @@ fn tell_text_and_error(alloc: Global, sink: &mut Listed) -> Result<(), ParseFaul
 
 fn are_text_and_error_told(alloc: Global, sink: &mut Listed) -> bool {
     tell_text_and_error(alloc, sink).is_ok() && sink.text.as_str() == "ab" && sink.errors == 1
-}
-
-#[test]
-fn texts_and_errors_are_told(rt: HostRuntime) {
-    assert!(rt; are_text_and_error_told(rt.alloc(), &mut Listed::new(rt.alloc(), false)));
 }
 
 const STYLE: (TagKind, &str, &str) = (TagKind::StartTag, "style", "raw text");
@@ -215,6 +212,9 @@ fn takes_when_lent(sink: &mut Listed) -> bool {
 }
 
 #[test]
-fn lent_sinks_take_tokens(rt: HostRuntime) {
+fn lists_take_tokens_until_their_end(rt: HostRuntime) {
+    assert!(rt; are_listed(rt.alloc(), &mut Listed::new(rt.alloc(), false)));
+    assert!(rt; are_text_and_error_told(rt.alloc(), &mut Listed::new(rt.alloc(), false)));
     assert!(rt; takes_when_lent(&mut Listed::new(rt.alloc(), false)));
+    assert!(rt; refuses_behind_its_end(&mut Listed::new(rt.alloc(), false)));
 }

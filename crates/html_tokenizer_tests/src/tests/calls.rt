@@ -4,14 +4,15 @@ ghost use Rattle.html_tokenizer.specs.Calls.{IsReadyIf, refusal};
 
 use super::words::is_in_words;
 use super::{
-    PAGE, Setting, Table, feed_piece, feed_pieces, list_of, put, refuses, see, sink_if, sink_of,
+    PAGE, Setting, Table, feed_piece, list_of, put, read, refuses, see, sink_if, sink_of,
     tokenizer_over,
 };
 use html_tokenizer::{BufferQueue, Listed, State, TokenSink, Tokenizer};
 use html_tokens::states::RawKind;
 use markup::ParseFault;
 use std::alloc::Global;
-use text_pieces::{as_given, in_two};
+use std::process::Abort;
+use text_pieces::in_two;
 
 /// Feeds a text.
 pub fn feed_text<S: TokenSink>(
@@ -69,7 +70,7 @@ const PENDING: &[(&str, bool)] = &[
     ("<plaintext>&</plaintext", true),
 ];
 
-/// Whether nothing is pending behind a text that is fed, or something is.
+/// Whether nothing is pending at the start, and nothing or something behind a text that is fed.
 fn is_pending_behind<S: TokenSink>(
     alloc: Global,
     tokenizer: &mut Tokenizer<S>,
@@ -77,16 +78,23 @@ fn is_pending_behind<S: TokenSink>(
 ) -> bool
     requires { IsReadyIf S.TokenSink (refusal tokenizer.old.stream) tokenizer.old }
 {
-    feed_text(alloc, tokenizer, row.0).is_ok()
+    tokenizer.nothing_pending()
+        && !tokenizer.has_ended()
+        && feed_text(alloc, tokenizer, row.0).is_ok()
         && tokenizer.nothing_pending() == row.1
         && !tokenizer.has_ended()
 }
 
 /// The same of a tokenizer over this sink.
-fn is_pending<S: TokenSink + Drop>(alloc: Global, sink: S, row: (&str, bool)) -> bool
+fn is_pending<S: TokenSink + Drop>(
+    alloc: Global,
+    sink: S,
+    setting: Setting,
+    row: (&str, bool),
+) -> bool
     requires { S.is_sound (S.view sink) }
 {
-    let Ok(mut tokenizer) = tokenizer_over(alloc, sink, PAGE) else {
+    let Ok(mut tokenizer) = tokenizer_over(alloc, sink, setting) else {
         return false;
     };
     let is_right = is_pending_behind(alloc, &mut tokenizer, row);
@@ -94,31 +102,48 @@ fn is_pending<S: TokenSink + Drop>(alloc: Global, sink: S, row: (&str, bool)) ->
     is_right
 }
 
+fn is_pending_in(alloc: Global, setting: Setting, row: (&str, bool)) -> bool {
+    is_pending(alloc, list_of(alloc, setting), setting, row)
+}
+
+const IN_DATA: Setting = Setting {
+    initial_state: Some(State::Data),
+    table: Table::Not,
+    ..PAGE
+};
+
+const IN_PLAINTEXT: Setting = Setting {
+    initial_state: Some(State::Plaintext),
+    ..IN_DATA
+};
+
+const IN_RCDATA: Setting = Setting {
+    initial_state: Some(State::RawData(RawKind::Rcdata)),
+    ..IN_DATA
+};
+
+const EMPTY: &[(&str, bool)] = &[("", true)];
+
+const PENDING_TABLES: &[(Setting, &[(&str, bool)])] = &[
+    (PAGE, PENDING),
+    (IN_DATA, EMPTY),
+    (IN_PLAINTEXT, EMPTY),
+    (IN_RCDATA, EMPTY),
+];
+
 #[test]
 fn parts_of_items_are_pending(rt: HostRuntime) {
-    for &row in PENDING {
-        see(
-            &rt,
-            is_pending(rt.alloc(), list_of(rt.alloc(), PAGE), row),
-            row.0,
-        );
+    for &(setting, rows) in PENDING_TABLES {
+        for &row in rows {
+            see(&rt, is_pending_in(rt.alloc(), setting, row), row.0);
+        }
     }
 }
 
-/// Whether nothing is pending where nothing was read.
-fn is_at_start<S: TokenSink + Drop>(alloc: Global, sink: S, setting: Setting) -> bool
-    requires { S.is_sound (S.view sink) }
-{
-    let Ok(tokenizer) = tokenizer_over(alloc, sink, setting) else {
-        return false;
-    };
-    let is_right = tokenizer.nothing_pending() && !tokenizer.has_ended();
-    drop(sink_of(tokenizer));
-    is_right
-}
+/// A text, and what is told of it before the end is: tokens, and text behind them.
+type Told = (&'static str, &'static str, &'static str);
 
-// Texts, and what is told of them before the end is: tokens, and text behind them.
-const TOLD: &[(&str, &str, &str)] = &[
+const TOLD: &[Told] = &[
     ("a<b>c", "text \"a\"; start b", "c"),
     ("a&am", "", "a"),
     ("&z", "", "&z"),
@@ -148,139 +173,85 @@ const TOLD: &[(&str, &str, &str)] = &[
     ("<script><!--<scr", "start script", "<!--<scr"),
 ];
 
-/// Whether a text tells this before the end.
-fn is_told(alloc: Global, row: (&str, &str, &str)) -> bool {
-    match fed_whole(alloc, row.0) {
+// Raw text behind a start tag of a title.
+const TOLD_IN_TITLES: &[Told] = &[
+    ("</ab", "", "</ab"),
+    ("</ti", "", ""),
+    ("</TiT", "", ""),
+    ("</title", "", ""),
+    ("</titles", "", "</titles"),
+    ("a</tx</tit", "", "a</tx"),
+    ("a</", "", "a"),
+    ("</title</t", "", "</title"),
+];
+
+const BEFORE_THE_END: Setting = Setting {
+    tells_end: false,
+    ..PAGE
+};
+
+const IN_TITLE: Setting = Setting {
+    initial_state: Some(State::RawData(RawKind::Rcdata)),
+    last_start_tag: Some("title"),
+    ..BEFORE_THE_END
+};
+
+// Text with a CDATA section.
+const TOLD_IN_SECTIONS: &[Told] = &[
+    ("a<![CDATA", "", "a"),
+    ("a<![CDATA[b", "", "ab"),
+    ("<![CDATA[a]", "", "a"),
+    ("<![CDATA[a]]", "", "a"),
+    ("<![CDATA[a]]]", "", "a]"),
+    ("<![CDATA[a]]b", "", "a]]b"),
+    ("<![CDATA[a]]>b<", "", "ab"),
+];
+
+const WITH_SECTIONS: Setting = Setting {
+    asks_cdata: true,
+    ..BEFORE_THE_END
+};
+
+/// Whether a text that is cut at this place tells this.
+fn is_told_cut(alloc: Global, setting: Setting, row: Told, place: usize) -> bool {
+    match read(alloc, setting, in_two(alloc, row.0, place)) {
         Ok(sink) => is_in_words(alloc, &sink, row.1) && sink.text.as_str() == row.2,
         Err(_) => false,
     }
 }
 
-#[test]
-fn what_is_decided_is_told_before_the_end(rt: HostRuntime) {
-    for &row in TOLD {
-        see(&rt, is_told(rt.alloc(), row), row.0);
-    }
-}
-
-// Raw text behind a start tag of a title, and what is told of it before the end is.
-const TOLD_IN_TITLES: &[(&str, &str)] = &[
-    ("</ab", "</ab"),
-    ("</ti", ""),
-    ("</TiT", ""),
-    ("</title", ""),
-    ("</titles", "</titles"),
-    ("a</tx</tit", "a</tx"),
-    ("a</", "a"),
-    ("</title</t", "</title"),
-];
-
-/// A sink behind these pieces, before the end.
-fn fed<S: TokenSink + Drop>(
-    alloc: Global,
-    sink: S,
-    setting: Setting,
-    pieces: Vec<String>,
-) -> Result<S, ParseFault>
-    requires { S.is_sound (S.view sink) }
-{
-    let mut tokenizer = tokenizer_over(alloc, sink, setting)?;
-    let answer = feed_pieces(&mut tokenizer, pieces);
-    sink_if(tokenizer, answer)
-}
-
-/// A list behind a whole text of a page, before the end.
-fn fed_whole(alloc: Global, text: &str) -> Result<Listed, ParseFault> {
-    let pieces = as_given(alloc, &[text])?;
-    fed(alloc, list_of(alloc, PAGE), PAGE, pieces)
-}
-
-/// A list behind a text that is cut at this place, before the end.
-fn fed_cut(
-    alloc: Global,
-    setting: Setting,
-    text: &str,
-    place: usize,
-) -> Result<Listed, ParseFault> {
-    let pieces = in_two(alloc, text, place)?;
-    fed(alloc, list_of(alloc, setting), setting, pieces)
-}
-
-/// Whether a text that is cut at this place tells this text before the end.
-fn is_held_cut(alloc: Global, setting: Setting, text: &str, place: usize, told: &str) -> bool {
-    match fed_cut(alloc, setting, text, place) {
-        Ok(sink) => sink.text.as_str() == told,
-        Err(_) => false,
-    }
-}
-
 /// The same at each place.
-fn is_held(alloc: Global, setting: Setting, text: &str, told: &str) -> bool {
-    for place in 0..=text.chars().count() {
-        if !is_held_cut(alloc, setting, text, place, told) {
+fn is_told(alloc: Global, setting: Setting, row: Told) -> bool {
+    for place in 0..=row.0.chars().count() {
+        if !is_told_cut(alloc, setting, row, place) {
             return false;
         }
     }
     true
 }
 
-const IN_TITLE: Setting = Setting {
-    initial_state: Some(State::RawData(RawKind::Rcdata)),
-    last_start_tag: Some("title"),
-    ..PAGE
-};
-
-#[test]
-fn no_more_of_raw_text_is_held_than_may_end_it(rt: HostRuntime) {
-    for &(text, told) in TOLD_IN_TITLES {
-        see(&rt, is_held(rt.alloc(), IN_TITLE, text, told), text);
+/// Sees the same of each text of each table, in the setting of the table. No memory is refused.
+fn assert_told(rt: &impl Abort, alloc: Global, tables: &[(Setting, &[Told])]) {
+    for &(setting, rows) in tables {
+        for &row in rows {
+            see(rt, is_told(alloc, setting, row), row.0);
+        }
     }
 }
 
-// Text with a CDATA section, and what is told of it before the end is.
-const TOLD_IN_SECTIONS: &[(&str, &str)] = &[
-    ("a<![CDATA", "a"),
-    ("a<![CDATA[b", "ab"),
-    ("<![CDATA[a]", "a"),
-    ("<![CDATA[a]]", "a"),
-    ("<![CDATA[a]]]", "a]"),
-    ("<![CDATA[a]]b", "a]]b"),
-    ("<![CDATA[a]]>b<", "ab"),
+#[test]
+fn what_is_decided_is_told_before_the_end(rt: HostRuntime) {
+    assert_told(&rt, rt.alloc(), &[(BEFORE_THE_END, TOLD)]);
+}
+
+const HELD_TABLES: &[(Setting, &[Told])] = &[
+    (IN_TITLE, TOLD_IN_TITLES),
+    (WITH_SECTIONS, TOLD_IN_SECTIONS),
 ];
 
-const WITH_SECTIONS: Setting = Setting {
-    asks_cdata: true,
-    ..PAGE
-};
-
 #[test]
-fn no_more_of_a_section_is_held_than_may_end_it(rt: HostRuntime) {
-    for &(text, told) in TOLD_IN_SECTIONS {
-        see(&rt, is_held(rt.alloc(), WITH_SECTIONS, text, told), text);
-    }
-}
-
-const STARTS: &[State] = &[
-    State::Data,
-    State::Plaintext,
-    State::RawData(RawKind::Rcdata),
-];
-
-/// Whether nothing is pending where reading begins in this state.
-fn begins_with_nothing(alloc: Global, state: State) -> bool {
-    let setting = Setting {
-        initial_state: Some(state),
-        table: Table::Not,
-        ..PAGE
-    };
-    is_at_start(alloc, list_of(alloc, setting), setting)
-}
-
-#[test]
-fn nothing_is_pending_at_the_start(rt: HostRuntime) {
-    for &state in STARTS {
-        assert!(rt; begins_with_nothing(rt.alloc(), state));
-    }
+fn no_more_is_held_than_may_end_a_text(rt: HostRuntime) {
+    assert_told(&rt, rt.alloc(), HELD_TABLES);
 }
 
 /// Whether a tokenizer that told the end refuses every call.
@@ -292,19 +263,6 @@ fn is_ended<S: TokenSink>(tokenizer: &mut Tokenizer<S>, input: &mut BufferQueue)
     refuses(tokenizer, input, ParseFault::Ended) && has_ended
 }
 
-/// Feeds a text and the end.
-fn feed_to_end<S: TokenSink>(
-    alloc: Global,
-    tokenizer: &mut Tokenizer<S>,
-    text: &str,
-) -> Result<(), ParseFault>
-    requires { IsReadyIf S.TokenSink (refusal tokenizer.old.stream) tokenizer.old }
-    ensures { IsReadyIf S.TokenSink (refusal tokenizer.new.stream) tokenizer.new }
-{
-    feed_text(alloc, tokenizer, text)?;
-    tokenizer.end()
-}
-
 /// Whether each call behind a text and the end is refused.
 fn is_refused_behind<S: TokenSink>(
     alloc: Global,
@@ -314,10 +272,10 @@ fn is_refused_behind<S: TokenSink>(
 ) -> bool
     requires { IsReadyIf S.TokenSink (refusal tokenizer.old.stream) tokenizer.old }
 {
-    let answer = feed_to_end(alloc, tokenizer, text);
-    let once = is_ended(tokenizer, input);
-    let again = is_ended(tokenizer, input);
-    answer.is_ok() && once && again
+    feed_text(alloc, tokenizer, text).is_ok()
+        && tokenizer.end().is_ok()
+        && is_ended(tokenizer, input)
+        && is_ended(tokenizer, input)
 }
 
 /// The same of a tokenizer over this sink, which is handed out.
@@ -347,16 +305,15 @@ fn has_left_all(alloc: Global, sink: &Listed, input: &mut BufferQueue) -> bool {
         && input.is_empty()
 }
 
-/// Whether calls behind the end are refused, and leave the input and the sink as they are.
-fn leaves_all_behind(alloc: Global, input: &mut BufferQueue) -> bool {
+/// Whether calls behind the end are refused, and leave the input, which was empty, and the sink as they are.
+fn are_refused_behind(alloc: Global, input: &mut BufferQueue) -> bool {
+    if put(alloc, input, "b").is_err() {
+        return false;
+    }
     match refused_behind(alloc, list_of(alloc, PAGE), "a<", input) {
         Ok(sink) => has_left_all(alloc, &sink, input),
         Err(_) => false,
     }
-}
-
-fn are_refused_behind(alloc: Global, input: &mut BufferQueue) -> bool {
-    put(alloc, input, "b").is_ok() && leaves_all_behind(alloc, input)
 }
 
 #[test]

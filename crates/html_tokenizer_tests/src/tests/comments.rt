@@ -1,6 +1,6 @@
 //! Comments, also those that are none by the Standard's syntax, and doctypes.
 
-use super::{PAGE, Row, assert_rows};
+use super::{PAGE, Row, Setting, assert_rows};
 
 const COMMENTS: &[Row] = &[
     (
@@ -25,11 +25,7 @@ const COMMENTS: &[Row] = &[
     ("<!--a\r\nb\rc&lt;-->", "comment \"a\nb\nc&lt;\"; eof"),
 ];
 
-#[test]
-fn comments_are_read(rt: HostRuntime) {
-    assert_rows(&rt, rt.alloc(), PAGE, COMMENTS);
-}
-
+// Comments that lack their end.
 const CUT_COMMENTS: &[Row] = &[
     ("<!--", "comment \"\"; eof"),
     ("<!---", "comment \"\"; eof"),
@@ -42,11 +38,7 @@ const CUT_COMMENTS: &[Row] = &[
     ("<!--a<!--", "comment \"a<!\"; eof"),
 ];
 
-#[test]
-fn comments_may_miss_their_end(rt: HostRuntime) {
-    assert_rows(&rt, rt.alloc(), PAGE, CUT_COMMENTS);
-}
-
+// Other markup that is a comment.
 const BOGUS_COMMENTS: &[Row] = &[
     (
         "</>x</ a><?b?><!c>y</",
@@ -65,9 +57,15 @@ const BOGUS_COMMENTS: &[Row] = &[
     ("</1", "comment \"1\"; eof"),
 ];
 
+const COMMENT_TABLES: &[(Setting, &[Row])] = &[
+    (PAGE, COMMENTS),
+    (PAGE, CUT_COMMENTS),
+    (PAGE, BOGUS_COMMENTS),
+];
+
 #[test]
-fn other_markup_is_a_comment(rt: HostRuntime) {
-    assert_rows(&rt, rt.alloc(), PAGE, BOGUS_COMMENTS);
+fn comments_are_read(rt: HostRuntime) {
+    assert_rows(&rt, rt.alloc(), COMMENT_TABLES);
 }
 
 const DOCTYPES: &[Row] = &[
@@ -106,11 +104,6 @@ const DOCTYPES: &[Row] = &[
     ),
 ];
 
-#[test]
-fn doctypes_are_read(rt: HostRuntime) {
-    assert_rows(&rt, rt.alloc(), PAGE, DOCTYPES);
-}
-
 const FAULTY_DOCTYPES: &[Row] = &[
     ("<!DOCTYPE", "doctype - - - quirks; eof"),
     ("<!DOCTYPE ", "doctype - - - quirks; eof"),
@@ -135,7 +128,9 @@ const FAULTY_DOCTYPES: &[Row] = &[
     ),
 ];
 
+const DOCTYPE_TABLES: &[(Setting, &[Row])] = &[(PAGE, DOCTYPES), (PAGE, FAULTY_DOCTYPES)];
+
 #[test]
-fn faulty_doctypes_are_told(rt: HostRuntime) {
-    assert_rows(&rt, rt.alloc(), PAGE, FAULTY_DOCTYPES);
+fn doctypes_are_read(rt: HostRuntime) {
+    assert_rows(&rt, rt.alloc(), DOCTYPE_TABLES);
 }

@@ -1,7 +1,7 @@
 //! Which texts tell errors, by their codes.
 
 use super::codes::Codes;
-use super::{PAGE, Setting, Table, exact, read_over, read_whole, see};
+use super::{PAGE, Pieces, Setting, Table, read_over, read_whole, see};
 use html_tokenizer::State;
 use html_tokenizer::states::RawKind;
 use markup::{ParseFault, Text};
@@ -13,29 +13,20 @@ use text_pieces::in_two;
 type Row = (&'static str, &'static str);
 
 /// The codes that a text in these pieces tells.
-fn codes(alloc: Global, setting: Setting, pieces: Vec<String>) -> Result<Text, ParseFault> {
+fn codes(alloc: Global, setting: Setting, pieces: Pieces) -> Result<Text, ParseFault> {
     let sink = Codes::new(alloc, setting.asks_cdata);
-    Ok(read_over(alloc, sink, setting, pieces)?.codes)
-}
-
-/// The same of a text that is cut at this place.
-fn codes_cut(
-    alloc: Global,
-    setting: Setting,
-    text: &str,
-    place: usize,
-) -> Result<Text, ParseFault> {
-    codes(alloc, setting, in_two(alloc, text, place)?)
+    Ok(read_over(alloc, sink, setting, pieces?)?.codes)
 }
 
 /// Whether a text that is cut at this place tells just these errors.
 fn tells_cut(alloc: Global, setting: Setting, row: &Row, place: usize) -> bool {
-    match codes_cut(alloc, setting, row.0, place) {
+    match codes(alloc, setting, in_two(alloc, row.0, place)) {
         Ok(codes) => codes.as_str() == row.1,
         Err(_) => false,
     }
 }
 
+/// Whether a text tells just these errors, whole and cut at each place.
 fn tells(alloc: Global, setting: Setting, row: &Row) -> bool {
     for place in 0..=row.0.chars().count() {
         if !tells_cut(alloc, setting, row, place) {
@@ -45,10 +36,12 @@ fn tells(alloc: Global, setting: Setting, row: &Row) -> bool {
     true
 }
 
-/// Sees that each text tells just these errors, whole and cut at each place. No memory is refused.
-fn assert_codes(rt: &impl Abort, alloc: Global, setting: Setting, rows: &[Row]) {
-    for row in rows {
-        see(rt, tells(alloc, setting, row), row.0);
+/// Sees the same of each text of each table, in the setting of the table. No memory is refused.
+fn assert_codes(rt: &impl Abort, alloc: Global, tables: &[(Setting, &[Row])]) {
+    for &(setting, rows) in tables {
+        for row in rows {
+            see(rt, tells(alloc, setting, row), row.0);
+        }
     }
 }
 
@@ -80,7 +73,7 @@ const COMMENTS: &[Row] = &[
 
 #[test]
 fn faulty_comments_tell_errors(rt: HostRuntime) {
-    assert_codes(&rt, rt.alloc(), PAGE, COMMENTS);
+    assert_codes(&rt, rt.alloc(), &[(PAGE, COMMENTS)]);
 }
 
 const TAGS: &[Row] = &[
@@ -134,7 +127,7 @@ const TAGS: &[Row] = &[
 
 #[test]
 fn faulty_tags_tell_errors(rt: HostRuntime) {
-    assert_codes(&rt, rt.alloc(), PAGE, TAGS);
+    assert_codes(&rt, rt.alloc(), &[(PAGE, TAGS)]);
 }
 
 const DOCTYPES: &[Row] = &[
@@ -211,7 +204,7 @@ const DOCTYPES: &[Row] = &[
 
 #[test]
 fn faulty_doctypes_tell_errors(rt: HostRuntime) {
-    assert_codes(&rt, rt.alloc(), PAGE, DOCTYPES);
+    assert_codes(&rt, rt.alloc(), &[(PAGE, DOCTYPES)]);
 }
 
 const TEXTS: &[Row] = &[
@@ -245,11 +238,6 @@ const TEXTS: &[Row] = &[
         " unexpected-null-character unexpected-null-character",
     ),
 ];
-
-#[test]
-fn faulty_texts_tell_errors(rt: HostRuntime) {
-    assert_codes(&rt, rt.alloc(), UNKNOWN, TEXTS);
-}
 
 const UNKNOWN_NAMES: &[Row] = &[
     ("&zz;", " unknown-named-character-reference"),
@@ -299,7 +287,7 @@ const UNKNOWN_EXACTLY: Setting = Setting {
     ..UNKNOWN
 };
 
-const UNKNOWN_EVERYWHERE: &[(Setting, &[Row])] = &[
+const UNKNOWN_TABLES: &[(Setting, &[Row])] = &[
     (UNKNOWN, UNKNOWN_NAMES),
     (UNKNOWN_EXACTLY, UNKNOWN_NAMES),
     (UNKNOWN_IN_TITLE, UNKNOWN_NAMES),
@@ -308,11 +296,10 @@ const UNKNOWN_EVERYWHERE: &[(Setting, &[Row])] = &[
 
 #[test]
 fn unknown_names_tell_errors(rt: HostRuntime) {
-    for &(setting, rows) in UNKNOWN_EVERYWHERE {
-        assert_codes(&rt, rt.alloc(), setting, rows);
-    }
+    assert_codes(&rt, rt.alloc(), UNKNOWN_TABLES);
 }
 
+// Sections that lack their end, and one that has it.
 const SECTIONS: &[Row] = &[
     ("<![CDATA[a", " eof-in-cdata"),
     ("<![CDATA[a]]", " eof-in-cdata"),
@@ -323,11 +310,6 @@ const WITH_SECTIONS: Setting = Setting {
     asks_cdata: true,
     ..PAGE
 };
-
-#[test]
-fn sections_without_an_end_tell_errors(rt: HostRuntime) {
-    assert_codes(&rt, rt.alloc(), WITH_SECTIONS, SECTIONS);
-}
 
 const SCRIPTS: &[Row] = &[
     ("<!--", " eof-in-script-html-comment-like-text"),
@@ -346,69 +328,7 @@ const IN_SCRIPT: Setting = Setting {
     ..PAGE
 };
 
-#[test]
-fn faulty_scripts_tell_errors(rt: HostRuntime) {
-    assert_codes(&rt, rt.alloc(), IN_SCRIPT, SCRIPTS);
-}
-
-/// How many errors a text tells, if it is read.
-fn errors(alloc: Global, setting: Setting, text: &str) -> Option<u64> {
-    match read_whole(alloc, setting, text) {
-        Ok(sink) => Some(sink.errors),
-        Err(_) => None,
-    }
-}
-
-const CLEAN_TEXTS: &[&str] = &[
-    "",
-    "<!DOCTYPE html><p class=\"a&amp;b\">x &lt; y</p><br>",
-    "<!doctype html SYSTEM \"about:legacy-compat\">",
-    "<!DOCTYPE html PUBLIC \"a\" 'b'>",
-    "<!-- a-b -- c --><!---->",
-    "<a b c=d e='f' g=\"h\" /><br/>",
-    "&#65;&#x1F600; & &amp &",
-    "<title>a&lt;</b></title><style></a></style>",
-    "<script><!--<script></script>--></script>\r\n\t\x0C",
-];
-
-/// Whether a text tells no errors, also where characters may be errors.
-fn is_clean(alloc: Global, text: &str) -> bool {
-    errors(alloc, PAGE, text) == Some(0) && errors(alloc, exact(PAGE), text) == Some(0)
-}
-
-#[test]
-fn clean_texts_tell_none(rt: HostRuntime) {
-    for &text in CLEAN_TEXTS {
-        see(&rt, is_clean(rt.alloc(), text), text);
-    }
-}
-
-// Texts, and how many of their characters are errors where those are told.
-const CHARACTERS: &[(&str, u64)] = &[
-    ("\u{1}a", 1),
-    ("\u{8}", 1),
-    ("\u{B}", 1),
-    ("\u{E}", 1),
-    ("\u{1F}", 1),
-    ("\u{7F}", 1),
-    ("\u{85}", 1),
-    ("\u{9F}", 1),
-    ("\u{FDD0}", 1),
-    ("\u{FDEF}", 1),
-    ("\u{FFFE}", 1),
-    ("\u{FFFF}", 1),
-    ("\u{1FFFF}", 1),
-    ("\u{10FFFE}", 1),
-    ("<a \u{1}='\u{FDD0}'><!--\u{85}-->", 3),
-    ("<style>\u{1}</style>", 1),
-    ("\t\n\u{C}\r\r\n ", 0),
-    ("\u{A0}~", 0),
-    ("\u{FDCF}\u{FDF0}", 0),
-    ("\u{FFFD}\u{10000}", 0),
-    ("<a b=c`d\"\0e=f`g h='`'>", 0),
-    ("\0", 0),
-];
-
+// Texts with characters that are errors where those are told.
 const FORBIDDEN: &[Row] = &[
     (
         "\u{1}\u{FDD0}",
@@ -420,20 +340,73 @@ const FORBIDDEN: &[Row] = &[
     ),
 ];
 
-/// Whether a text tells so many errors more where characters may be errors.
-fn has_more_errors(alloc: Global, text: &str, more: u64) -> bool {
-    let told = errors(alloc, exact(PAGE), text);
-    let others = errors(alloc, PAGE, text);
-    match (told, others) {
-        (Some(told), Some(others)) => told.checked_sub(others) == Some(more),
-        _ => false,
+const EXACTLY: Setting = Setting {
+    exact_errors: true,
+    ..PAGE
+};
+
+const TEXT_TABLES: &[(Setting, &[Row])] = &[
+    (UNKNOWN, TEXTS),
+    (WITH_SECTIONS, SECTIONS),
+    (IN_SCRIPT, SCRIPTS),
+    (EXACTLY, FORBIDDEN),
+];
+
+#[test]
+fn faulty_texts_tell_errors(rt: HostRuntime) {
+    assert_codes(&rt, rt.alloc(), TEXT_TABLES);
+}
+
+// Texts, how many errors they tell, and how many where characters may be errors.
+const COUNTED: &[(&str, u64, u64)] = &[
+    ("", 0, 0),
+    ("<!DOCTYPE html><p class=\"a&amp;b\">x &lt; y</p><br>", 0, 0),
+    ("<!doctype html SYSTEM \"about:legacy-compat\">", 0, 0),
+    ("<!DOCTYPE html PUBLIC \"a\" 'b'>", 0, 0),
+    ("<!-- a-b -- c --><!---->", 0, 0),
+    ("<a b c=d e='f' g=\"h\" /><br/>", 0, 0),
+    ("&#65;&#x1F600; & &amp &", 0, 0),
+    ("<title>a&lt;</b></title><style></a></style>", 0, 0),
+    ("<script><!--<script></script>--></script>\r\n\t\x0C", 0, 0),
+    ("\u{1}a", 0, 1),
+    ("\u{8}", 0, 1),
+    ("\u{B}", 0, 1),
+    ("\u{E}", 0, 1),
+    ("\u{1F}", 0, 1),
+    ("\u{7F}", 0, 1),
+    ("\u{85}", 0, 1),
+    ("\u{9F}", 0, 1),
+    ("\u{FDD0}", 0, 1),
+    ("\u{FDEF}", 0, 1),
+    ("\u{FFFE}", 0, 1),
+    ("\u{FFFF}", 0, 1),
+    ("\u{1FFFF}", 0, 1),
+    ("\u{10FFFE}", 0, 1),
+    ("<a \u{1}='\u{FDD0}'><!--\u{85}-->", 0, 3),
+    ("<style>\u{1}</style>", 0, 1),
+    ("\t\n\u{C}\r\r\n ", 0, 0),
+    ("\u{A0}~", 0, 0),
+    ("\u{FDCF}\u{FDF0}", 0, 0),
+    ("\u{FFFD}\u{10000}", 0, 0),
+    ("<a b=c`d\"\0e=f`g h='`'>", 5, 5),
+    ("\0", 1, 1),
+];
+
+/// Whether a text tells so many errors.
+fn has_errors(alloc: Global, setting: Setting, text: &str, errors: u64) -> bool {
+    match read_whole(alloc, setting, text) {
+        Ok(sink) => sink.errors == errors,
+        Err(_) => false,
     }
 }
 
+fn is_counted(alloc: Global, row: (&str, u64, u64)) -> bool {
+    has_errors(alloc, PAGE, row.0, row.1) && has_errors(alloc, EXACTLY, row.0, row.2)
+}
+
 #[test]
-fn characters_may_be_errors(rt: HostRuntime) {
-    assert_codes(&rt, rt.alloc(), exact(PAGE), FORBIDDEN);
-    for &(text, more) in CHARACTERS {
-        see(&rt, has_more_errors(rt.alloc(), text, more), text);
+fn errors_are_counted(rt: HostRuntime) {
+    for &row in COUNTED {
+        see(&rt, is_counted(rt.alloc(), row), row.0);
     }
 }

@@ -18,10 +18,7 @@ fn are_on(sink: &Listed, lines: &[u64]) -> bool {
 
 /// Whether the pieces tell tokens on these lines.
 fn are_pieces_on(alloc: Global, pieces: &[&str], lines: &[u64]) -> bool {
-    let Ok(given) = as_given(alloc, pieces) else {
-        return false;
-    };
-    match read(alloc, PAGE, given) {
+    match read(alloc, PAGE, as_given(alloc, pieces)) {
         Ok(sink) => are_on(&sink, lines),
         Err(_) => false,
     }

@@ -32,18 +32,6 @@ fn has_failed<S: TokenSink>(tokenizer: &mut Tokenizer<S>) -> bool
     once && again
 }
 
-/// Feeds what stands in the input, and the end.
-fn feed_to_end<S: TokenSink>(
-    tokenizer: &mut Tokenizer<S>,
-    input: &mut BufferQueue,
-) -> Result<(), ParseFault>
-    requires { IsReadyIf S.TokenSink (refusal tokenizer.old.stream) tokenizer.old }
-    ensures { IsReadyIf S.TokenSink (refusal tokenizer.new.stream) tokenizer.new }
-{
-    feed_all(tokenizer, input)?;
-    tokenizer.end()
-}
-
 /// Feeds what stands in the input, and the end. A tokenizer that lacks memory for them serves no more.
 fn feed_or_fail<S: TokenSink>(
     tokenizer: &mut Tokenizer<S>,
@@ -51,7 +39,10 @@ fn feed_or_fail<S: TokenSink>(
 ) -> Result<(), ParseFault>
     requires { IsReadyIf S.TokenSink (refusal tokenizer.old.stream) tokenizer.old }
 {
-    let answer = feed_to_end(tokenizer, input);
+    let answer = match feed_all(tokenizer, input) {
+        Ok(()) => tokenizer.end(),
+        Err(fault) => Err(fault),
+    };
     if answer.is_err() && !has_failed(tokenizer) {
         return Err(ParseFault::Shape);
     }
@@ -72,15 +63,11 @@ fn read_or_fail<S: TokenSink + Drop>(
     sink_if(tokenizer, answer)
 }
 
-/// What a list is told of a text and its end. The input is empty before.
-fn read_text(
-    alloc: Global,
-    setting: Setting,
-    input: &mut BufferQueue,
-    text: &str,
-) -> Result<Listed, ParseFault> {
-    put(alloc, input, text)?;
-    read_or_fail(alloc, list_of(alloc, setting), setting, input)
+/// What a list is told of a text and its end.
+fn read_text(alloc: Global, setting: Setting, text: &str) -> Result<Listed, ParseFault> {
+    let mut input = BufferQueue::new();
+    put(alloc, &mut input, text)?;
+    read_or_fail(alloc, list_of(alloc, setting), setting, &mut input)
 }
 
 /// Whether a list was told these tokens, or memory is refused for their words.
@@ -93,7 +80,7 @@ fn are_words_or_memory(alloc: Global, sink: &Listed, want: &str) -> bool {
 
 /// Whether a text tells its tokens, or memory was refused.
 fn is_told_or_memory(alloc: Global, setting: Setting, row: Row) -> bool {
-    match read_text(alloc, setting, &mut BufferQueue::new(), row.0) {
+    match read_text(alloc, setting, row.0) {
         Ok(sink) => are_words_or_memory(alloc, &sink, row.1),
         Err(fault) => fault == ParseFault::Memory,
     }
@@ -104,64 +91,38 @@ fn is_either_told_or_memory(alloc: Global, row: Row) -> bool {
     is_told_or_memory(alloc, PAGE, row) && is_told_or_memory(alloc, exact(PAGE), row)
 }
 
-const TEXT: Row = (
-    "a\r\nb<1>\0c</",
-    "text \"a\nb<1>\"; null; text \"c</\"; eof",
-);
+const ROWS: &[Row] = &[
+    (
+        "a\r\nb<1>\0c</",
+        "text \"a\nb<1>\"; null; text \"c</\"; eof",
+    ),
+    (
+        "<A B=1 b=2 =c d></a>",
+        "start a b=\"1\" =c=\"\" d=\"\" duplicates; end a; eof",
+    ),
+    (
+        "<!doctype HTML PUBLIC \"a\" 'b' c>",
+        "doctype \"html\" \"a\" \"b\"; eof",
+    ),
+    (
+        "&#x80;&amp;&am<a b='&lt;'>&#65",
+        "text \"€&&am\"; start a b=\"<\"; text \"A\"; eof",
+    ),
+    (
+        "<script><!--<script></script>--></script>x",
+        "start script; text \"<!--<script></script>-->\"; end script; text \"x\"; eof",
+    ),
+    (
+        "<!--a--!>b<!-c><!--d--",
+        "comment \"a\"; text \"b\"; comment \"-c\"; comment \"d\"; eof",
+    ),
+];
 
 #[test]
-fn memory_may_want_for_text(rt: HostRuntime) {
-    assert!(rt; is_either_told_or_memory(rt.alloc(), TEXT));
-}
-
-const TAGS: Row = (
-    "<A B=1 b=2 =c d></a>",
-    "start a b=\"1\" =c=\"\" d=\"\" duplicates; end a; eof",
-);
-
-#[test]
-fn memory_may_want_for_tags(rt: HostRuntime) {
-    assert!(rt; is_either_told_or_memory(rt.alloc(), TAGS));
-}
-
-const DOCTYPES: Row = (
-    "<!doctype HTML PUBLIC \"a\" 'b' c>",
-    "doctype \"html\" \"a\" \"b\"; eof",
-);
-
-#[test]
-fn memory_may_want_for_doctypes(rt: HostRuntime) {
-    assert!(rt; is_either_told_or_memory(rt.alloc(), DOCTYPES));
-}
-
-const REFERENCES: Row = (
-    "&#x80;&amp;&am<a b='&lt;'>&#65",
-    "text \"€&&am\"; start a b=\"<\"; text \"A\"; eof",
-);
-
-#[test]
-fn memory_may_want_for_references(rt: HostRuntime) {
-    assert!(rt; is_either_told_or_memory(rt.alloc(), REFERENCES));
-}
-
-const SCRIPTS: Row = (
-    "<script><!--<script></script>--></script>x",
-    "start script; text \"<!--<script></script>-->\"; end script; text \"x\"; eof",
-);
-
-#[test]
-fn memory_may_want_for_scripts(rt: HostRuntime) {
-    assert!(rt; is_either_told_or_memory(rt.alloc(), SCRIPTS));
-}
-
-const COMMENTS: Row = (
-    "<!--a--!>b<!-c><!--d--",
-    "comment \"a\"; text \"b\"; comment \"-c\"; comment \"d\"; eof",
-);
-
-#[test]
-fn memory_may_want_for_comments(rt: HostRuntime) {
-    assert!(rt; is_either_told_or_memory(rt.alloc(), COMMENTS));
+fn memory_may_want(rt: HostRuntime) {
+    for &row in ROWS {
+        see(&rt, is_either_told_or_memory(rt.alloc(), row), row.0);
+    }
 }
 
 /// Whether a text is refused by this fault, or the end behind it.
@@ -179,8 +140,7 @@ fn refuses_text<S: TokenSink>(
     if !at_end {
         return answer == Err(fault);
     }
-    let ended = tokenizer.end();
-    answer.is_ok() && ended == Err(fault)
+    answer.is_ok() && tokenizer.end() == Err(fault)
 }
 
 /// Whether a sink's refusal of a text is passed on, or of what is told at the end behind it, and the tokenizer serves no
@@ -234,6 +194,9 @@ const REFUSED: &[&str] = &[
     "<1",
 ];
 
+// Texts of which nothing is told before the end.
+const REFUSED_AT_THE_END: &[&str] = &["", "<", "&lt", "<a", "<!--a", "<!doctype", "\u{FEFF}"];
+
 const IN_TEXT: Refusing = Refusing { is_shape: false };
 
 const OF_SHAPE: Refusing = Refusing { is_shape: true };
@@ -245,19 +208,14 @@ fn are_refused(alloc: Global, text: &str, at_end: bool) -> bool {
         && is_refused(alloc, ended(alloc), text, at_end, ParseFault::Ended)
 }
 
+// Texts, and whether what is told of them is told at the end.
+const REFUSED_TABLES: &[(&[&str], bool)] = &[(REFUSED, false), (REFUSED_AT_THE_END, true)];
+
 #[test]
 fn refusals_are_passed_on(rt: HostRuntime) {
-    for &text in REFUSED {
-        see(&rt, are_refused(rt.alloc(), text, false), text);
-    }
-}
-
-// Texts of which nothing is told before the end.
-const REFUSED_AT_THE_END: &[&str] = &["", "<", "&lt", "<a", "<!--a", "<!doctype", "\u{FEFF}"];
-
-#[test]
-fn refusals_at_the_end_are_passed_on(rt: HostRuntime) {
-    for &text in REFUSED_AT_THE_END {
-        see(&rt, are_refused(rt.alloc(), text, true), text);
+    for &(texts, at_end) in REFUSED_TABLES {
+        for &text in texts {
+            see(&rt, are_refused(rt.alloc(), text, at_end), text);
+        }
     }
 }

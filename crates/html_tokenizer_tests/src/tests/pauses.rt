@@ -35,17 +35,29 @@ fn write(alloc: Global, queue: &mut BufferQueue, text: &str) -> Result<(), Parse
     queue.push_front(String::from_str(alloc, text)?)
 }
 
-/// A text that pauses for a script.
-struct Row {
-    text: &'static str,
-    /// The place of the end tag.
-    place: u64,
-    /// The tokens before the pause.
+/// Why a text pauses.
+enum Reason {
+    /// For the script of the end tag at this place.
+    Script(u64),
+    /// For an encoding of this name.
+    Encoding(&'static str),
+}
+
+/// A pause in a text.
+struct Pause {
+    reason: Reason,
+    /// The tokens before it.
     before: &'static str,
     /// What is not read yet.
     left: &'static str,
-    /// What the script writes.
+    /// What is written there.
     written: &'static str,
+}
+
+/// A text that pauses.
+struct Row {
+    text: &'static str,
+    pauses: &'static [Pause],
     /// All of the tokens.
     told: &'static str,
 }
@@ -53,60 +65,95 @@ struct Row {
 const SCRIPTS: &[Row] = &[
     Row {
         text: "</script>b",
-        place: 0,
-        before: "end script",
-        left: "b",
-        written: "c",
+        pauses: &[Pause {
+            reason: Reason::Script(0),
+            before: "end script",
+            left: "b",
+            written: "c",
+        }],
         told: "end script; text \"cb\"; eof",
     },
     Row {
         text: "<a></script>",
-        place: 1,
-        before: "start a; end script",
-        left: "",
-        written: "<b",
+        pauses: &[Pause {
+            reason: Reason::Script(1),
+            before: "start a; end script",
+            left: "",
+            written: "<b",
+        }],
         told: "start a; end script; eof",
     },
     Row {
         text: "<script><a></script>\r\nb",
-        place: 1,
-        before: "start script; text \"<a>\"; end script",
-        left: "\r\nb",
-        written: "\r",
+        pauses: &[Pause {
+            reason: Reason::Script(1),
+            before: "start script; text \"<a>\"; end script",
+            left: "\r\nb",
+            written: "\r",
+        }],
         told: "start script; text \"<a>\"; end script; text \"\n\nb\"; eof",
     },
     Row {
         text: "</script></b>",
-        place: 0,
-        before: "end script",
-        left: "</b>",
-        written: "<a></script",
+        pauses: &[Pause {
+            reason: Reason::Script(0),
+            before: "end script",
+            left: "</b>",
+            written: "<a></script",
+        }],
         told: "end script; start a; end script< b=\"\"; eof",
     },
     Row {
         text: "</script ></script>",
-        place: 0,
-        before: "end script",
-        left: "</script>",
-        written: "&lt;<plaintext>",
+        pauses: &[Pause {
+            reason: Reason::Script(0),
+            before: "end script",
+            left: "</script>",
+            written: "&lt;<plaintext>",
+        }],
         told: "end script; text \"<\"; start plaintext; text \"</script>\"; eof",
     },
 ];
 
-/// Whether what is fed pauses for the script at this place.
-fn pauses_at<S: TokenSink<Handle = u64>>(
+// A text that is read where each tag names an encoding.
+const ENCODINGS: Row = Row {
+    text: "x<a>b</A >\n",
+    pauses: &[
+        Pause {
+            reason: Reason::Encoding("a"),
+            before: "x",
+            left: "b</A >\n",
+            written: "c",
+        },
+        Pause {
+            reason: Reason::Encoding("a"),
+            before: "xcb",
+            left: "\n",
+            written: "",
+        },
+    ],
+    told: "xcb\n",
+};
+
+/// Whether what is fed pauses for this reason.
+fn pauses_for<S: TokenSink<Handle = u64>>(
     tokenizer: &mut Tokenizer<S>,
     input: &mut BufferQueue,
-    place: u64,
+    reason: &Reason,
 ) -> bool
     requires { IsReadyIf S.TokenSink (refusal tokenizer.old.stream) tokenizer.old }
     ensures { IsReadyIf S.TokenSink (refusal tokenizer.new.stream) tokenizer.new }
 {
-    let is_script = match tokenizer.feed(input) {
-        Ok(TokenizerResult::Script(found)) => found == place,
+    let is_reason = match tokenizer.feed(input) {
+        Ok(TokenizerResult::Script(found)) => {
+            matches!(reason, Reason::Script(place) if *place == found)
+        }
+        Ok(TokenizerResult::EncodingIndicator(named)) => {
+            matches!(reason, Reason::Encoding(name) if named.as_str() == *name)
+        }
         _ => false,
     };
-    is_script && tokenizer.nothing_pending()
+    is_reason && tokenizer.nothing_pending()
 }
 
 /// Whether all of the input is fed, and nothing in it pauses.
@@ -118,20 +165,6 @@ fn is_fed<S: TokenSink>(tokenizer: &mut Tokenizer<S>, input: &mut BufferQueue) -
     is_done && input.is_empty()
 }
 
-/// Feeds all of the input, in which nothing pauses, and the end.
-fn feed_to_end<S: TokenSink>(
-    tokenizer: &mut Tokenizer<S>,
-    input: &mut BufferQueue,
-) -> Result<(), ParseFault>
-    requires { IsReadyIf S.TokenSink (refusal tokenizer.old.stream) tokenizer.old }
-    ensures { IsReadyIf S.TokenSink (refusal tokenizer.new.stream) tokenizer.new }
-{
-    if !is_fed(tokenizer, input) {
-        return Err(ParseFault::Shape);
-    }
-    tokenizer.end()
-}
-
 /// Whether this is what a sink was told, in words.
 fn was_told<S: Spoken>(alloc: Global, sink: &S, want: &str) -> bool {
     match sink.words(alloc) {
@@ -140,8 +173,42 @@ fn was_told<S: Spoken>(alloc: Global, sink: &S, want: &str) -> bool {
     }
 }
 
-/// Whether a text pauses, and goes on behind what its script writes.
-fn is_script<S: TokenSink<Handle = u64> + Spoken>(
+/// Whether what is fed pauses so. What is written there stands before what is left.
+fn is_paused<S: TokenSink<Handle = u64> + Spoken>(
+    alloc: Global,
+    tokenizer: &mut Tokenizer<S>,
+    input: &mut BufferQueue,
+    pause: &Pause,
+) -> bool
+    requires { IsReadyIf S.TokenSink (refusal tokenizer.old.stream) tokenizer.old }
+    ensures { IsReadyIf S.TokenSink (refusal tokenizer.new.stream) tokenizer.new }
+{
+    pauses_for(tokenizer, input, &pause.reason)
+        && was_told(alloc, &tokenizer.sink, pause.before)
+        && has_left(alloc, input, pause.left)
+        && write(alloc, input, pause.written).is_ok()
+}
+
+/// The same of each of these pauses.
+fn are_paused<S: TokenSink<Handle = u64> + Spoken>(
+    alloc: Global,
+    tokenizer: &mut Tokenizer<S>,
+    input: &mut BufferQueue,
+    pauses: &[Pause],
+) -> bool
+    requires { IsReadyIf S.TokenSink (refusal tokenizer.old.stream) tokenizer.old }
+    ensures { IsReadyIf S.TokenSink (refusal tokenizer.new.stream) tokenizer.new }
+{
+    for pause in pauses {
+        if !is_paused(alloc, tokenizer, input, pause) {
+            return false;
+        }
+    }
+    true
+}
+
+/// Whether a text pauses so, and is read on behind its pauses.
+fn is_read_on<S: TokenSink<Handle = u64> + Spoken>(
     alloc: Global,
     tokenizer: &mut Tokenizer<S>,
     input: &mut BufferQueue,
@@ -150,84 +217,36 @@ fn is_script<S: TokenSink<Handle = u64> + Spoken>(
     requires { IsReadyIf S.TokenSink (refusal tokenizer.old.stream) tokenizer.old }
 {
     put(alloc, input, row.text).is_ok()
-        && pauses_at(tokenizer, input, row.place)
-        && was_told(alloc, &tokenizer.sink, row.before)
-        && has_left(alloc, input, row.left)
-        && write(alloc, input, row.written).is_ok()
-        && feed_to_end(tokenizer, input).is_ok()
+        && are_paused(alloc, tokenizer, input, row.pauses)
+        && is_fed(tokenizer, input)
+        && tokenizer.end().is_ok()
         && was_told(alloc, &tokenizer.sink, row.told)
 }
 
 /// The same of a tokenizer over this sink.
-fn runs_script<S: TokenSink<Handle = u64> + Spoken + Drop>(
-    alloc: Global,
-    sink: S,
-    row: &Row,
-) -> bool
+fn is_row<S: TokenSink<Handle = u64> + Spoken + Drop>(alloc: Global, sink: S, row: &Row) -> bool
     requires { S.is_sound (S.view sink) }
 {
     let Ok(mut tokenizer) = tokenizer_over(alloc, sink, PAGE) else {
         return false;
     };
-    let is_right = is_script(alloc, &mut tokenizer, &mut BufferQueue::new(), row);
+    let is_right = is_read_on(alloc, &mut tokenizer, &mut BufferQueue::new(), row);
     drop(sink_of(tokenizer));
     is_right
+}
+
+fn is_script(alloc: Global, row: &Row) -> bool {
+    is_row(alloc, list_of(alloc, PAGE), row)
 }
 
 #[test]
 fn scripts_write_before_what_is_left(rt: HostRuntime) {
     for row in SCRIPTS {
-        see(
-            &rt,
-            runs_script(rt.alloc(), list_of(rt.alloc(), PAGE), row),
-            row.text,
-        );
+        see(&rt, is_script(rt.alloc(), row), row.text);
     }
-}
-
-/// Whether what is fed pauses for the name of an encoding.
-fn names<S: TokenSink>(tokenizer: &mut Tokenizer<S>, input: &mut BufferQueue, name: &str) -> bool
-    requires { IsReadyIf S.TokenSink (refusal tokenizer.old.stream) tokenizer.old }
-    ensures { IsReadyIf S.TokenSink (refusal tokenizer.new.stream) tokenizer.new }
-{
-    match tokenizer.feed(input) {
-        Ok(TokenizerResult::EncodingIndicator(named)) => named.as_str() == name,
-        _ => false,
-    }
-}
-
-/// Whether each tag of a text pauses, where tags name encodings.
-fn pauses_at_each<S: TokenSink + Spoken>(
-    alloc: Global,
-    tokenizer: &mut Tokenizer<S>,
-    input: &mut BufferQueue,
-) -> bool
-    requires { IsReadyIf S.TokenSink (refusal tokenizer.old.stream) tokenizer.old }
-{
-    put(alloc, input, "x<a>b</A >\n").is_ok()
-        && names(tokenizer, input, "a")
-        && was_told(alloc, &tokenizer.sink, "x")
-        && has_left(alloc, input, "b</A >\n")
-        && write(alloc, input, "c").is_ok()
-        && names(tokenizer, input, "a")
-        && has_left(alloc, input, "\n")
-        && feed_to_end(tokenizer, input).is_ok()
-        && was_told(alloc, &tokenizer.sink, "xcb\n")
-}
-
-/// The same of a tokenizer over this sink.
-fn is_named<S: TokenSink + Spoken + Drop>(alloc: Global, sink: S) -> bool
-    requires { S.is_sound (S.view sink) }
-{
-    let Ok(mut tokenizer) = tokenizer_over(alloc, sink, PAGE) else {
-        return false;
-    };
-    let is_right = pauses_at_each(alloc, &mut tokenizer, &mut BufferQueue::new());
-    drop(sink_of(tokenizer));
-    is_right
 }
 
 #[test]
 fn names_of_encodings_pause(rt: HostRuntime) {
-    assert!(rt; is_named(rt.alloc(), Naming::new(rt.alloc())));
+    assert!(rt; is_row(rt.alloc(), Naming::new(rt.alloc()), &ENCODINGS));
 }

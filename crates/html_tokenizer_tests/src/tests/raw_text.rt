@@ -47,11 +47,6 @@ const RAW_TEXTS: &[Row] = &[
     ("</title>&lt;", "end title; text \"<\"; eof"),
 ];
 
-#[test]
-fn raw_text_ends_at_its_tag(rt: HostRuntime) {
-    assert_rows(&rt, rt.alloc(), PAGE, RAW_TEXTS);
-}
-
 const SCRIPTS: &[Row] = &[
     (
         "<script>a<b</script>c",
@@ -95,11 +90,7 @@ const SCRIPTS: &[Row] = &[
     ),
 ];
 
-#[test]
-fn scripts_may_hold_scripts(rt: HostRuntime) {
-    assert_rows(&rt, rt.alloc(), PAGE, SCRIPTS);
-}
-
+// Scripts that lack their end.
 const CUT_SCRIPTS: &[Row] = &[
     ("<script>a", "start script; text \"a\"; eof"),
     ("<script><", "start script; text \"<\"; eof"),
@@ -118,11 +109,14 @@ const CUT_SCRIPTS: &[Row] = &[
     ),
 ];
 
+const SCRIPT_TABLES: &[(Setting, &[Row])] = &[(PAGE, SCRIPTS), (PAGE, CUT_SCRIPTS)];
+
 #[test]
-fn scripts_may_miss_their_end(rt: HostRuntime) {
-    assert_rows(&rt, rt.alloc(), PAGE, CUT_SCRIPTS);
+fn scripts_may_hold_scripts(rt: HostRuntime) {
+    assert_rows(&rt, rt.alloc(), SCRIPT_TABLES);
 }
 
+// Text that nothing ends.
 const PLAIN_TEXTS: &[Row] = &[
     (
         "<plaintext>&lt;</plaintext>\0",
@@ -134,16 +128,12 @@ const PLAIN_TEXTS: &[Row] = &[
     ),
 ];
 
-#[test]
-fn plain_text_has_no_end(rt: HostRuntime) {
-    assert_rows(&rt, rt.alloc(), PAGE, PLAIN_TEXTS);
-}
-
 const IN_RCDATA: Setting = Setting {
     initial_state: Some(State::RawData(RawKind::Rcdata)),
     ..PAGE
 };
 
+// Raw text in which reading begins.
 const NAMED_FRAGMENTS: &[Row] = &[
     ("a&lt;</title>b", "text \"a<\"; end title; text \"b\"; eof"),
     ("a</Title >b", "text \"a\"; end title; text \"b\"; eof"),
@@ -155,35 +145,49 @@ const IN_TITLE: Setting = Setting {
     ..IN_RCDATA
 };
 
-#[test]
-fn reading_begins_in_raw_text(rt: HostRuntime) {
-    assert_rows(&rt, rt.alloc(), IN_TITLE, NAMED_FRAGMENTS);
-}
-
+// The same where no tag began it, so that no end tag fits.
 const NAMELESS_FRAGMENTS: &[Row] = &[
     ("a&lt;</title>b", "text \"a<</title>b\"; eof"),
     ("a</>", "text \"a</>\"; eof"),
 ];
 
-#[test]
-fn no_end_tag_fits_where_no_tag_began(rt: HostRuntime) {
-    assert_rows(&rt, rt.alloc(), IN_RCDATA, NAMELESS_FRAGMENTS);
-}
+const IN_DATA: Setting = Setting {
+    initial_state: Some(State::Data),
+    ..PAGE
+};
 
-const STARTS: &[(State, &str)] = &[
-    (State::Data, "text \"<\"; start b; eof"),
-    (State::Plaintext, "text \"&lt;<b>\"; eof"),
-    (State::RawData(RawKind::Rawtext), "text \"&lt;<b>\"; eof"),
-    (State::RawData(RawKind::ScriptData), "text \"&lt;<b>\"; eof"),
+const IN_PLAINTEXT: Setting = Setting {
+    initial_state: Some(State::Plaintext),
+    ..PAGE
+};
+
+const IN_RAWTEXT: Setting = Setting {
+    initial_state: Some(State::RawData(RawKind::Rawtext)),
+    ..PAGE
+};
+
+const IN_SCRIPT: Setting = Setting {
+    initial_state: Some(State::RawData(RawKind::ScriptData)),
+    ..PAGE
+};
+
+// The same text where reading begins among markup, and where it does not.
+const MARKUP: &[Row] = &[("&lt;<b>", "text \"<\"; start b; eof")];
+
+const NO_MARKUP: &[Row] = &[("&lt;<b>", "text \"&lt;<b>\"; eof")];
+
+const TABLES: &[(Setting, &[Row])] = &[
+    (PAGE, RAW_TEXTS),
+    (PAGE, PLAIN_TEXTS),
+    (IN_TITLE, NAMED_FRAGMENTS),
+    (IN_RCDATA, NAMELESS_FRAGMENTS),
+    (IN_DATA, MARKUP),
+    (IN_PLAINTEXT, NO_MARKUP),
+    (IN_RAWTEXT, NO_MARKUP),
+    (IN_SCRIPT, NO_MARKUP),
 ];
 
 #[test]
-fn reading_begins_in_any_text(rt: HostRuntime) {
-    for &(state, told) in STARTS {
-        let setting = Setting {
-            initial_state: Some(state),
-            ..PAGE
-        };
-        assert_rows(&rt, rt.alloc(), setting, &[("&lt;<b>", told)]);
-    }
+fn raw_text_ends_at_its_tag(rt: HostRuntime) {
+    assert_rows(&rt, rt.alloc(), TABLES);
 }

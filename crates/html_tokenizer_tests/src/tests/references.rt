@@ -20,11 +20,6 @@ const NUMBERS: &[Row] = &[
     ("&#;&#x&#xg;&#a", "text \"&#;&#x&#xg;&#a\"; eof"),
 ];
 
-#[test]
-fn numbers_stand_for_characters(rt: HostRuntime) {
-    assert_rows(&rt, rt.alloc(), PAGE, NUMBERS);
-}
-
 const FIVE_NAMES: &[Row] = &[
     ("&amp&amp;", "text \"&amp&\"; eof"),
     ("&amp;&lt;&gt;&quot;&nbsp;", "text \"&<>\"\u{A0}\"; eof"),
@@ -44,11 +39,7 @@ const FIVE_NAMES: &[Row] = &[
     ),
 ];
 
-#[test]
-fn names_stand_for_characters(rt: HostRuntime) {
-    assert_rows(&rt, rt.alloc(), PAGE, FIVE_NAMES);
-}
-
+// References in values.
 const VALUES: &[Row] = &[
     (
         "<a b=&lt; c='&amp' d=\"&#65\">",
@@ -61,11 +52,7 @@ const VALUES: &[Row] = &[
     ("<a &lt;=1>", "start a &lt;=\"1\"; eof"),
 ];
 
-#[test]
-fn references_stand_in_values(rt: HostRuntime) {
-    assert_rows(&rt, rt.alloc(), PAGE, VALUES);
-}
-
+// Names of which the longest counts.
 const LONGEST_NAMES: &[Row] = &[
     ("&notit;&notin;", "text \"¬it;∉\"; eof"),
     (
@@ -95,7 +82,14 @@ const WITH_NOT: Setting = Setting {
     ..PAGE
 };
 
+const TABLES: &[(Setting, &[Row])] = &[
+    (PAGE, NUMBERS),
+    (PAGE, FIVE_NAMES),
+    (PAGE, VALUES),
+    (WITH_NOT, LONGEST_NAMES),
+];
+
 #[test]
-fn the_longest_name_counts(rt: HostRuntime) {
-    assert_rows(&rt, rt.alloc(), WITH_NOT, LONGEST_NAMES);
+fn references_stand_for_characters(rt: HostRuntime) {
+    assert_rows(&rt, rt.alloc(), TABLES);
 }

@@ -1,6 +1,6 @@
 //! Tags and their attributes.
 
-use super::{PAGE, Row, assert_rows};
+use super::{PAGE, Row, Setting, assert_rows};
 
 const TAGS: &[Row] = &[
     ("<a>b</a>", "start a; text \"b\"; end a; eof"),
@@ -16,11 +16,6 @@ const TAGS: &[Row] = &[
     ("x</a ", "text \"x\"; eof"),
     ("<a <b>", "start a <b=\"\"; eof"),
 ];
-
-#[test]
-fn tags_are_read(rt: HostRuntime) {
-    assert_rows(&rt, rt.alloc(), PAGE, TAGS);
-}
 
 const ATTRIBUTES: &[Row] = &[
     (
@@ -46,11 +41,7 @@ const ATTRIBUTES: &[Row] = &[
     ("<a b==c>", "start a b=\"=c\"; eof"),
 ];
 
-#[test]
-fn attributes_are_read(rt: HostRuntime) {
-    assert_rows(&rt, rt.alloc(), PAGE, ATTRIBUTES);
-}
-
+// Attributes that lack their values.
 const MISSING_VALUES: &[Row] = &[
     (
         "<a b=>c<a b=c/><a/ b/>",
@@ -61,7 +52,9 @@ const MISSING_VALUES: &[Row] = &[
     ("<a b=/>", "start a b=\"/\"; eof"),
 ];
 
+const TABLES: &[(Setting, &[Row])] = &[(PAGE, TAGS), (PAGE, ATTRIBUTES), (PAGE, MISSING_VALUES)];
+
 #[test]
-fn values_may_miss(rt: HostRuntime) {
-    assert_rows(&rt, rt.alloc(), PAGE, MISSING_VALUES);
+fn tags_are_read(rt: HostRuntime) {
+    assert_rows(&rt, rt.alloc(), TABLES);
 }

@@ -22,11 +22,7 @@ const TEXTS: &[Row] = &[
     ),
 ];
 
-#[test]
-fn texts_are_joined(rt: HostRuntime) {
-    assert_rows(&rt, rt.alloc(), PAGE, TEXTS);
-}
-
+// Marks, of which the one at the front is dropped.
 const MARKS: &[Row] = &[
     ("\u{FEFF}", "eof"),
     ("\u{FEFF}a\r\n\u{FEFF}b", "text \"a\n\u{FEFF}b\"; eof"),
@@ -35,11 +31,7 @@ const MARKS: &[Row] = &[
     ("<a \u{FEFF}>", "start a \u{FEFF}=\"\"; eof"),
 ];
 
-#[test]
-fn the_mark_at_the_front_is_dropped(rt: HostRuntime) {
-    assert_rows(&rt, rt.alloc(), PAGE, MARKS);
-}
-
+// The same where it is kept.
 const KEPT_MARKS: &[Row] = &[
     ("\u{FEFF}", "text \"\u{FEFF}\"; eof"),
     (
@@ -53,11 +45,7 @@ const KEEPING_MARKS: Setting = Setting {
     ..PAGE
 };
 
-#[test]
-fn the_mark_at_the_front_is_kept(rt: HostRuntime) {
-    assert_rows(&rt, rt.alloc(), KEEPING_MARKS, KEPT_MARKS);
-}
-
+// CDATA sections, which are text.
 const SECTIONS: &[Row] = &[
     ("<![CDATA[a]]]>b", "text \"a]b\"; eof"),
     ("<![CDATA[]]>", "eof"),
@@ -77,11 +65,7 @@ const WITH_SECTIONS: Setting = Setting {
     ..PAGE
 };
 
-#[test]
-fn sections_are_text(rt: HostRuntime) {
-    assert_rows(&rt, rt.alloc(), WITH_SECTIONS, SECTIONS);
-}
-
+// The same in a page, where they are comments.
 const NO_SECTIONS: &[Row] = &[
     (
         "<![CDATA[a]]]>b",
@@ -90,7 +74,15 @@ const NO_SECTIONS: &[Row] = &[
     ("<![CDATA[a", "comment \"[CDATA[a\"; eof"),
 ];
 
+const TABLES: &[(Setting, &[Row])] = &[
+    (PAGE, TEXTS),
+    (PAGE, MARKS),
+    (KEEPING_MARKS, KEPT_MARKS),
+    (WITH_SECTIONS, SECTIONS),
+    (PAGE, NO_SECTIONS),
+];
+
 #[test]
-fn sections_are_comments_in_a_page(rt: HostRuntime) {
-    assert_rows(&rt, rt.alloc(), PAGE, NO_SECTIONS);
+fn texts_are_joined(rt: HostRuntime) {
+    assert_rows(&rt, rt.alloc(), TABLES);
 }

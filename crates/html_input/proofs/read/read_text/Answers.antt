@@ -1,8 +1,8 @@
-use Rattle.std.proofs.Common.{◌≡◌, ◌≤◌, ◌<◌, ◌++◌, take, refl, arith, length, List, ℕ, subst, rules}
+use Rattle.std.proofs.Common.{◌≡◌, ◌≤◌, ◌<◌, ◌++◌, take, refl, arith, length, List, ℕ, subst, sym, rules}
 use Rattle.std.proofs.lemmas.Grind.{common_steps}
 use Rattle.std.proofs.lemmas.List.{length-take}
 use Rattle.html_input.specs.Reading.{IsFront, StaysAtFault}
-use Rattle.html_input.proofs.Utf8.{IsFront-nil, moved-none, moved-more, shows-fault, shows-end, begun-shown, BeginsText-front}
+use Rattle.html_input.proofs.Utf8.{IsFront-nil, moved-none, moved-more, shows-fault, shows-end, begun-shown, BeginsText-front, front-kept, front-all}
 use Rattle.html_input.proofs.read.read_text.Goals as goal
 
 pub loop-count-init : goal.loop-count-init
@@ -43,3 +43,12 @@ loop-count-preserved g c =
       room = search rules;
       same_references = search rules;
     }
+
+pub valid_front-requires-clause-front : goal.valid_front-requires-clause-front
+valid_front-requires-clause-front g c =
+    front-kept c.loop-count.bytes.items (take c.in-Ok.count c.read_some.new.buffer) c.extend_from_slice.new.self.items c.as_slice.result.now c.loop-count.valid c.loop-count.invariant.front
+    c.in_ok-extend_from_slice.ensures.items c.as_slice.ensures.value
+
+pub unwrap-requires : goal.unwrap-requires
+unwrap-requires g c =
+    c.from_utf8.ensures.succeeds (front-all c.loop-count.bytes.items c.loop-count.valid c.len.result _ c.loop-count.invariant.front c.len.ensures (sym c.loop-count.bytes.ok.0) c.if-valid-len.false)
