@@ -99,7 +99,7 @@ impl<Sink: TokenSink> Tokenizer<Sink> {
         ensures fault { IfErr result (λ fault. fault ≡ Memory) }
         ensures sink { self.new.sink ≡ self.old.sink }
     {
-        self.attribute_value = Text::empty(self.stream.alloc);
+        self.attribute_value.clear();
         self.finish_attribute()
     }
 
@@ -214,7 +214,7 @@ impl<Sink: TokenSink> Tokenizer<Sink> {
             self.state = State::BeforeAttributeName;
             return self.before_attribute_name_state(c);
         }
-        self.attribute_value = Text::empty(self.stream.alloc);
+        self.attribute_value.clear();
         if c == '"' {
             self.state = State::AttributeValue(AttrValueKind::DoubleQuoted);
             return Ok(ProcessResult::Continue);

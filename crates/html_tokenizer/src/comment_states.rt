@@ -29,9 +29,8 @@ impl<Sink: TokenSink> Tokenizer<Sink> {
         requires sound { Sink.is_sound (Sink.view self.old.sink) }
         ensures { Tells Sink.TokenSink a_fault (CommentToken self.old.comment) (record self.old { comment = []; state = state.Data }) self.new result }
     {
-        let comment = mem::replace(&mut self.comment, Text::empty(self.stream.alloc));
-        self.state = State::Data;
-        self.tell_faulty(code, Token::CommentToken(comment))
+        self.tell_error(code)?;
+        self.emit_comment()
     }
 
     /// Hands out a comment that is bogus. What follows is data.
@@ -81,7 +80,7 @@ impl<Sink: TokenSink> Tokenizer<Sink> {
             self.state = State::CommentStartDash;
             return Ok(ProcessResult::Continue);
         }
-        self.comment = Text::empty(self.stream.alloc);
+        self.comment.clear();
         if c == '>' {
             self.emit_faulty_comment(ErrorCode::AbruptClosingOfEmptyComment)?;
             return Ok(ProcessResult::Continue);
@@ -98,7 +97,7 @@ impl<Sink: TokenSink> Tokenizer<Sink> {
         requires sound { Sink.is_sound (Sink.view self.old.sink) }
         ensures { Keeps Sink.TokenSink self.old self.new c result }
     {
-        self.comment = Text::empty(self.stream.alloc);
+        self.comment.clear();
         if c == '-' {
             self.state = State::CommentEnd;
             return Ok(ProcessResult::Continue);

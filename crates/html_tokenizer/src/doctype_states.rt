@@ -5,7 +5,7 @@ ghost use Rattle.html_tokens.specs.declared.states.DoctypeIdKind.TheVariants as 
 ghost use Rattle.html_tokens.specs.declared.token.Token.TheVariants.{DoctypeToken};
 ghost use Rattle.html_tokens.specs.Doctypes;
 ghost use Rattle.html_tokenizer.specs.Rest.{with_identifier};
-ghost use Rattle.html_tokenizer.specs.Steps.{IsAt, Tells, Keeps, owed_for};
+ghost use Rattle.html_tokenizer.specs.Steps.{IsAt, Tells, Keeps, nothing_owed, owed_for};
 ghost use Rattle.html_tokens.specs.Item.{grave_if};
 
 use crate::tokenizer::Tokenizer;
@@ -78,6 +78,16 @@ fn abrupt_end(kind: DoctypeIdKind) -> ErrorCode {
 }
 
 impl<Sink: TokenSink> Tokenizer<Sink> {
+    /// Hands out the doctype, where its error was told. What follows is data.
+    fn tell_doctype(&mut self) -> Result<(), ParseFault>
+        requires sound { Sink.is_sound (Sink.view self.old.sink) }
+        ensures { Tells Sink.TokenSink nothing_owed (DoctypeToken self.old.doctype) (record self.old { doctype = Doctypes.no_doctype; state = state.Data }) self.new result }
+    {
+        let doctype = mem::replace(&mut self.doctype, no_doctype());
+        self.state = State::Data;
+        self.tell(Token::DoctypeToken(doctype))
+    }
+
     /// Hands out the doctype. What follows is data.
     pub(crate) fn emit_doctype(&mut self) -> Result<(), ParseFault>
         requires sound { Sink.is_sound (Sink.view self.old.sink) }
@@ -92,13 +102,8 @@ impl<Sink: TokenSink> Tokenizer<Sink> {
         requires sound { Sink.is_sound (Sink.view self.old.sink) }
         ensures { Tells Sink.TokenSink (owed_for (grave_if self.old.doctype.force_quirks)) (DoctypeToken self.old.doctype) (record self.old { doctype = Doctypes.no_doctype; state = state.Data }) self.new result }
     {
-        let doctype = mem::replace(&mut self.doctype, no_doctype());
-        self.state = State::Data;
-        if doctype.force_quirks {
-            self.tell_faulty(fault, Token::DoctypeToken(doctype))
-        } else {
-            self.tell(Token::DoctypeToken(doctype))
-        }
+        self.tell_if(self.doctype.force_quirks, fault)?;
+        self.tell_doctype()
     }
 
     pub(crate) fn doctype_state(
@@ -140,7 +145,7 @@ impl<Sink: TokenSink> Tokenizer<Sink> {
             self.emit_doctype_for(ErrorCode::MissingDoctypeName)?;
             return Ok(ProcessResult::Continue);
         }
-        self.temporary = Text::empty(self.stream.alloc);
+        self.temporary.clear();
         self.state = State::DoctypeName;
         self.doctype_name_state(c)
     }
@@ -227,12 +232,12 @@ impl<Sink: TokenSink> Tokenizer<Sink> {
             return Ok(ProcessResult::Continue);
         }
         if c == '"' {
-            self.temporary = Text::empty(self.stream.alloc);
+            self.temporary.clear();
             self.state = State::DoctypeIdentifierDoubleQuoted(kind);
             return Ok(ProcessResult::Continue);
         }
         if c == '\'' {
-            self.temporary = Text::empty(self.stream.alloc);
+            self.temporary.clear();
             self.state = State::DoctypeIdentifierSingleQuoted(kind);
             return Ok(ProcessResult::Continue);
         }
@@ -373,12 +378,12 @@ impl<Sink: TokenSink> Tokenizer<Sink> {
             return Ok(ProcessResult::Continue);
         }
         if c == '"' {
-            self.temporary = Text::empty(self.stream.alloc);
+            self.temporary.clear();
             self.state = State::DoctypeIdentifierDoubleQuoted(DoctypeIdKind::System);
             return Ok(ProcessResult::Continue);
         }
         if c == '\'' {
-            self.temporary = Text::empty(self.stream.alloc);
+            self.temporary.clear();
             self.state = State::DoctypeIdentifierSingleQuoted(DoctypeIdKind::System);
             return Ok(ProcessResult::Continue);
         }

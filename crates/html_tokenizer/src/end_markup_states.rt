@@ -28,7 +28,7 @@ impl<Sink: TokenSink> Tokenizer<Sink> {
         requires sound { Sink.is_sound (Sink.view self.old.sink) }
         ensures { Tells Sink.TokenSink a_fault (CommentToken []) (record self.old { comment = []; state = state.Data }) self.new result }
     {
-        self.comment = Text::empty(self.stream.alloc);
+        self.comment.clear();
         self.end_comment()
     }
 

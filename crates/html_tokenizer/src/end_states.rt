@@ -180,29 +180,8 @@ impl<Sink: TokenSink> Tokenizer<Sink> {
             | State::AttributeValue(_)
             | State::AfterAttributeValueQuoted
             | State::SelfClosingStartTag => self.end_tag_part(),
-            State::BogusComment
-            | State::MarkupDeclarationOpen
-            | State::CommentStart
-            | State::CommentStartDash
-            | State::Comment
-            | State::CommentLessThanSign
-            | State::CommentLessThanSignBang
-            | State::CommentLessThanSignBangDash
-            | State::CommentLessThanSignBangDashDash
-            | State::CommentEndDash
-            | State::CommentEnd
-            | State::CommentEndBang
-            | State::Doctype
-            | State::BeforeDoctypeName
-            | State::DoctypeName
-            | State::AfterDoctypeName
-            | State::AfterDoctypeKeyword(_)
-            | State::BeforeDoctypeIdentifier(_)
-            | State::DoctypeIdentifierDoubleQuoted(_)
-            | State::DoctypeIdentifierSingleQuoted(_)
-            | State::AfterDoctypeIdentifier(_)
-            | State::BetweenDoctypePublicAndSystemIdentifiers
-            | State::BogusDoctype => self.end_markup_part(),
+            // A comment or a doctype.
+            _ => self.end_markup_part(),
         }
     }
 

@@ -41,7 +41,7 @@ fn plain_stops() -> SmallCharSet
 
 /// Whether a grave accent stands in a text, which is an error in a value without quotes.
 fn has_grave_accent(text: &str) -> bool {
-    text.as_bytes().iter().any(|byte| *byte == b'`')
+    text.as_bytes().contains(&b'`')
 }
 
 /// Whether a character stands at the front.

@@ -58,7 +58,7 @@ impl<Sink: TokenSink> Tokenizer<Sink> {
             return self.tag_name_state(c);
         }
         if c == '?' {
-            self.comment = Text::empty(self.stream.alloc);
+            self.comment.clear();
             self.fault = ErrorCode::UnexpectedQuestionMarkInsteadOfTagName;
             self.state = State::BogusComment;
             return self.bogus_comment_state(c);
@@ -88,7 +88,7 @@ impl<Sink: TokenSink> Tokenizer<Sink> {
             self.state = State::Data;
             return Ok(ProcessResult::Continue);
         }
-        self.comment = Text::empty(self.stream.alloc);
+        self.comment.clear();
         self.fault = ErrorCode::InvalidFirstCharacterOfTagName;
         self.state = State::BogusComment;
         self.bogus_comment_state(c)

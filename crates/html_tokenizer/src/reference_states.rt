@@ -1,11 +1,14 @@
 //! Character references in text and in attributes' values (HTML Standard, sections 13.2.5.72 to 13.2.5.80).
-ghost use Rattle.std.specs.Prelude.{◌≡◌, Some, None, true, false};
+ghost use Rattle.std.specs.Prelude.{◌≡◌, IfErr, IfOk, Some, None, true, false};
+ghost use Rattle.std.specs.List.{list_all};
 ghost use Rattle.std.specs.Char.{is_ascii_alphanumeric};
+ghost use Rattle.html_references.specs.References.{IsCheckedTable};
+ghost use Rattle.markup.specs.declared.fault.ParseFault.TheVariants.{Memory};
 ghost use Rattle.html_tokens.specs.Reference.{fault_of_reference};
 ghost use Rattle.html_tokens.specs.declared.states.RawKind.TheVariants as raw;
 ghost use Rattle.html_tokens.specs.declared.states.State.TheVariants as state;
 ghost use Rattle.html_tokens.specs.declared.token.Token.TheVariants.{CharacterTokens};
-ghost use Rattle.html_tokenizer_parts.specs.CharRefs.{IsDecided, has_fault, is_held_front, may_hold, resolved};
+ghost use Rattle.html_tokenizer_parts.specs.CharRefs.{IsDecided, has_fault, is_held, is_held_front, may_go_on, may_hold, resolved};
 ghost use Rattle.html_tokenizer_parts.specs.declared.held_reference.Ampersand.TheVariants.{Held, Unknown};
 ghost use Rattle.html_tokenizer.specs.Rest.{rows_of};
 ghost use Rattle.html_tokenizer.specs.Steps.{IsAt, Keeps, Errs, Tells, owed_for};
@@ -180,11 +183,61 @@ impl<Sink: TokenSink> Tokenizer<Sink> {
         self.step(c)
     }
 
+    /// A reference that is held takes one character more.
+    fn hold_more(
+        &mut self,
+        mut held: HeldReference,
+        c: char,
+    ) -> Result<ProcessResult<Sink::Handle>, ParseFault>
+        requires fresh { self.old.char_ref ≡ None }
+        requires fits { may_hold self.old.state ≡ true }
+        requires held { is_held c ≡ true }
+        requires front { may_go_on (rows_of self.old) held c ≡ true }
+        requires sound { Sink.is_sound (Sink.view self.old.sink) }
+        ensures { Keeps Sink.TokenSink (record self.old { char_ref = Some (Held held) }) self.new c result }
+    {
+        held.push(c)?;
+        self.char_ref = Some(Ampersand::Held(held));
+        Ok(ProcessResult::Continue)
+    }
+
+    /// A reference that is held ends before a character.
+    fn end_held(
+        &mut self,
+        held: HeldReference,
+        c: char,
+    ) -> Result<ProcessResult<Sink::Handle>, ParseFault>
+        requires fresh { self.old.char_ref ≡ None }
+        requires fits { may_hold self.old.state ≡ true }
+        requires decided { IsDecided (rows_of self.old) held c }
+        requires sound { Sink.is_sound (Sink.view self.old.sink) }
+        ensures { Keeps Sink.TokenSink (record self.old { char_ref = Some (Held held) }) self.new c result }
+    {
+        match self.state {
+            State::Data => self.end_reference_in_data(&held, c),
+            State::RawData(RawKind::Rcdata) => self.end_reference_in_rcdata(&held, c),
+            State::AttributeValue(kind) => self.end_reference_in_value(kind, &held, c),
+            // Never met: behind `&` the machine is in one of these three.
+            _ => Ok(ProcessResult::Continue),
+        }
+    }
+
+    /// Whether a reference that is held goes on by a character.
+    fn goes_on(&self, held: &HeldReference, c: char) -> Result<bool, ParseFault>
+        requires { is_held_front (rows_of self.now) held.now ≡ true }
+        ensures is { IfOk result (λ goes_on. goes_on ≡ may_go_on (rows_of self.now) held.now c) }
+        ensures table { IsCheckedTable (rows_of self.now) }
+        ensures held { list_all is_held held.now ≡ true }
+        ensures fault { IfErr result (λ fault. fault ≡ Memory) }
+    {
+        may_go_on(self.stream.alloc, &self.stream.table, held, c)
+    }
+
     /// Goes on with the reference that was held: by one character more of it, or else by what it stands for and then the character.
     #[inline(never)]
     pub(crate) fn reference_state(
         &mut self,
-        mut held: HeldReference,
+        held: HeldReference,
         c: char,
     ) -> Result<ProcessResult<Sink::Handle>, ParseFault>
         requires fresh { self.old.char_ref ≡ None }
@@ -193,18 +246,10 @@ impl<Sink: TokenSink> Tokenizer<Sink> {
         requires sound { Sink.is_sound (Sink.view self.old.sink) }
         ensures { Keeps Sink.TokenSink (record self.old { char_ref = Some (Held held) }) self.new c result }
     {
-        let goes_on = may_go_on(self.stream.alloc, &self.stream.table, &held, c)?;
+        let goes_on = self.goes_on(&held, c)?;
         if goes_on {
-            held.push(c)?;
-            self.char_ref = Some(Ampersand::Held(held));
-            return Ok(ProcessResult::Continue);
+            return self.hold_more(held, c);
         }
-        match self.state {
-            State::Data => self.end_reference_in_data(&held, c),
-            State::RawData(RawKind::Rcdata) => self.end_reference_in_rcdata(&held, c),
-            State::AttributeValue(kind) => self.end_reference_in_value(kind, &held, c),
-            // Never met: behind `&` the machine is in one of these three.
-            _ => Ok(ProcessResult::Continue),
-        }
+        self.end_held(held, c)
     }
 }

@@ -95,17 +95,6 @@ impl<Sink: TokenSink> Tokenizer<Sink> {
         self.tell(Token::CharacterTokens(text))
     }
 
-    /// Tells of a parse error, and hands out the token that has it.
-    pub(crate) fn tell_faulty(&mut self, code: ErrorCode, token: Token) -> Result<(), ParseFault>
-        requires no_tag { IsNoTag token }
-        requires of_text { IsOfText token }
-        requires sound { Sink.is_sound (Sink.view self.old.sink) }
-        ensures { Tells Sink.TokenSink a_fault token self.old self.new result }
-    {
-        self.tell_error(code)?;
-        self.tell(token)
-    }
-
     /// Hands out U+FFFD in place of U+0000, which is a parse error.
     fn tell_replacement(&mut self) -> Result<(), ParseFault>
         requires sound { Sink.is_sound (Sink.view self.old.sink) }

@@ -65,15 +65,21 @@ impl<Sink: TokenSink> Tokenizer<Sink> {
         Ok(ProcessResult::Continue)
     }
 
-    /// Hands out U+0000 for its reader to decide on, and goes on.
+    /// Hands out U+0000 for its reader to decide on, which is a parse error.
+    fn tell_null_for_reader(&mut self) -> Result<(), ParseFault>
+        requires sound { Sink.is_sound (Sink.view self.old.sink) }
+        ensures { Tells Sink.TokenSink a_fault NullCharacterToken self.old self.new result }
+    {
+        self.tell_error(ErrorCode::UnexpectedNullCharacter)?;
+        self.tell(Token::NullCharacterToken)
+    }
+
+    /// The same, and goes on.
     pub(crate) fn take_null(&mut self) -> Result<ProcessResult<Sink::Handle>, ParseFault>
         requires sound { Sink.is_sound (Sink.view self.old.sink) }
         ensures { TakesAs Sink.TokenSink a_fault NullCharacterToken self.old self.new result }
     {
-        self.tell_faulty(
-            ErrorCode::UnexpectedNullCharacter,
-            Token::NullCharacterToken,
-        )?;
+        self.tell_null_for_reader()?;
         Ok(ProcessResult::Continue)
     }
 

@@ -62,6 +62,21 @@ module _ {K H : Type 0} (Sink : Ghosts K H) (laws : SinkLaws Sink.is_sound Sink.
       let f : Falls Sink mid.sink new.sink (Sink.step (Sink.view old.sink) token (line_number old.stream.breaks)) fault = rw (← h.sink) (rw (ap (λ k. line_number k.stream.breaks) h.changed) at fails) in
       (fell-behind Sink old.sink mid.sink new.sink h.stays f.0, fails-before Sink old.sink mid.sink new.sink _ fault h.stays f.1)
 
+  -- the same where the machine changes besides, between the two, all but its sink
+  pub tells-erred_besides : (owed : Owed) (said : Tokenizer K → Token) (next : Tokenizer K → Tokenizer K) → ((k : Tokenizer K) (s : K) → said (record k { sink = s }) ≡ said k) → ((k : Tokenizer K) (s : K) → next (record k { sink = s }) ≡ record (next k) { sink = s })
+      → (old mid new : Tokenizer K) (result : Result (Unit {0}) ParseFault) → Erred Sink owed old mid → Tells Sink nothing_owed (said mid) (next mid) new result → Tells Sink owed (said old) (next old) new result
+  tells-erred_besides owed said next says goes old mid new result h told =
+      let own : (next old).sink ≡ old.sink = ap {A = Tokenizer K} (λ k. k.sink) (goes old old.sink) in
+      tells-erred owed (next old) (record (next old) { sink = mid.sink }) new (said old) result
+      (record {
+        sink = h.sink ∙ ap Sink.view (sym own);
+        changed = refl;
+        stays = subst (λ s. Stays Sink s mid.sink) (sym own) h.stays;
+        rises = subst (λ s. Rises Sink.errors owed s mid.sink) (sym own) h.rises;
+      })
+      (subst (λ k. Tells Sink nothing_owed (said old) k new result) (ap next h.changed ∙ goes old mid.sink)
+      (subst (λ token. Tells Sink nothing_owed token (next mid) new result) (ap said h.changed ∙ says old mid.sink) told))
+
   -- what told what is owed told what says no more
   pub tells-less : (owed less : Owed) (old new : Tokenizer K) (token : Token) (result : Result (Unit {0}) ParseFault) → IsNoMore less owed → Tells Sink owed token old new result → Tells Sink less token old new result
   tells-less owed less old new token (Ok x) no_more told = record {

@@ -1,5 +1,6 @@
 -- How the machine goes on with a reference that it holds.
-use Rattle.std.proofs.Common.{◌≡◌, ◌∙◌, ℕ, true, List, [], ◌∷◌, ◌++◌, Option, Some, Result, refl, sym, ap, append_assoc}
+use Rattle.std.proofs.Common.{◌≡◌, ◌∙◌, ℕ, true, List, [], ◌∷◌, ◌++◌, Option, Some, Result, refl, sym, subst, ap, append_assoc}
+use Rattle.std.proofs.lemmas.Bool.{and_parts}
 use Rattle.std.specs.Result.{IsErrAnd}
 use Rattle.std.proofs.lemmas.Result.{err_from_is_err_and}
 use Rattle.markup.specs.declared.fault.ParseFault.{ParseFault}
@@ -11,11 +12,12 @@ use Rattle.html_tokens.specs.declared.states.State.{State}
 use Rattle.html_tokens.specs.declared.states.State.TheVariants as state
 use Rattle.html_tokens.specs.declared.token.Token.{Token}
 use Rattle.html_tokens.specs.declared.sink.TokenSink.{Ghosts}
+use Rattle.html_tokens.specs.declared.table.ReferenceRow.{ReferenceRow}
 use Rattle.html_tokens.specs.Notes.{Notes, noting}
 use Rattle.html_tokens.specs.Reading.{◌>>=◌, line_number}
-use Rattle.html_tokenizer_parts.specs.CharRefs.{is_held, is_held_front, may_go_on, may_hold}
+use Rattle.html_tokenizer_parts.specs.CharRefs.{fits_in, is_held, is_held_front, may_go_on, may_hold}
 use Rattle.html_tokenizer_parts.specs.declared.held_reference.Ampersand.{Ampersand}
-use Rattle.html_tokenizer_parts.specs.declared.held_reference.Ampersand.TheVariants.{Held}
+use Rattle.html_tokenizer_parts.specs.declared.held_reference.Ampersand.TheVariants.{Held, Unknown}
 use Rattle.html_tokenizer.specs.declared.tokenizer.Tokenizer.{Tokenizer}
 use Rattle.std.specs.Prelude.{◌&&◌}
 use Rattle.html_tokenizer.specs.Rest.{held_at, rows_of}
@@ -23,6 +25,14 @@ use Rattle.html_tokenizer.specs.Steps.{Owed, and_heard, IsAt, more as more_noted
 use Rattle.html_tokenizer.proofs.Steps.Keeping.{at, keeps-behind, no-break, now-target, token-fails, told-next, stays-same}
 use Rattle.html_tokenizer.proofs.HeldReferences.Readings.{held-unbroken}
 use Rattle.html_tokenizer.proofs.Errors.Rises.{rises-same}
+
+-- a reference that is held where it fits is the beginning of one, and the machine is where it may be held
+pub fits-held : (rows : List ReferenceRow) (r : Option Ampersand) (cs : List ℕ) (st : State) → r ≡ Some (Held cs) → fits_in rows r st ≡ true → (is_held_front rows cs ≡ true) × (may_hold st ≡ true)
+fits-held rows r cs st e fits = and_parts (is_held_front rows cs) (may_hold st) (subst (λ x. fits_in rows x st ≡ true) e fits)
+
+-- an unknown name is behind `&` where a reference may be held
+pub fits-unknown : (rows : List ReferenceRow) (r : Option Ampersand) (st : State) → r ≡ Some Unknown → fits_in rows r st ≡ true → may_hold st ≡ true
+fits-unknown rows r st e fits = subst (λ x. fits_in rows x st ≡ true) e fits
 
 module _ {K H : Type 0} (Sink : Ghosts K H) where
   -- The reference that is held does not matter to what its state makes of a text.

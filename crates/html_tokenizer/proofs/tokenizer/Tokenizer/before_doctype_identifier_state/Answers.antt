@@ -11,12 +11,12 @@ returns-then-is_white_space g c =
 pub returns-then-c-eq34 : goal.returns-then-c-eq34
 returns-then-c-eq34 g c =
     let m = g.Sink.TokenSink in
-    rw c.if-c-eq34.true (double-opened m g.met.Sink.TokenSink.laws c.args.self.now c.requires.sound c.args.kind c.empty.result c.requires.at c.empty.ensures)
+    rw c.if-c-eq34.true (double-opened m g.met.Sink.TokenSink.laws c.args.self.now c.requires.sound c.args.kind c.clear.new.self c.requires.at c.clear.ensures)
 
 pub returns-then-c-eq39 : goal.returns-then-c-eq39
 returns-then-c-eq39 g c =
     let m = g.Sink.TokenSink in
-    rw c.if-c-eq39.true (single-opened m g.met.Sink.TokenSink.laws c.args.self.now c.requires.sound c.args.kind c.empty-then-c-eq39.result c.requires.at c.empty-then-c-eq39.ensures)
+    rw c.if-c-eq39.true (single-opened m g.met.Sink.TokenSink.laws c.args.self.now c.requires.sound c.args.kind c.clear-then-c-eq39.new.self c.requires.at c.clear-then-c-eq39.ensures)
 
 pub returns : goal.returns
 returns g c =

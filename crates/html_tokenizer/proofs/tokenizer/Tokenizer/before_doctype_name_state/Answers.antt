@@ -25,4 +25,4 @@ returns-then-c-eq62 g c =
 pub returns : goal.returns
 returns g c =
     let m = g.Sink.TokenSink in
-    before_name-other m g.met.Sink.TokenSink.laws c.args.self.now _ c.args.c _ c.empty.result c.no_doctype.result c.requires.at (sym c.is_white_space.ensures ∙ c.if-is_white_space.false) (ne_eqb c.args.c 62 c.if-c-eq62.false) c.empty.ensures c.doctype_name_state.ensures
+    before_name-other m g.met.Sink.TokenSink.laws c.args.self.now _ c.args.c _ c.clear.new.self c.no_doctype.result c.requires.at (sym c.is_white_space.ensures ∙ c.if-is_white_space.false) (ne_eqb c.args.c 62 c.if-c-eq62.false) c.clear.ensures c.doctype_name_state.ensures

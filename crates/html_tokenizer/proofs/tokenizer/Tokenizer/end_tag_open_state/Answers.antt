@@ -22,4 +22,4 @@ returns-then-c-eq62 g c =
 pub returns : goal.returns
 returns g c =
     let m = g.Sink.TokenSink in
-    end-bogus_kept m g.met.Sink.TokenSink.laws _ c.args.self.now _ c.args.c c.empty.result _ c.requires.at (sym c.is_ascii_alphabetic.ensures.value ∙ c.if-is_ascii_alphabetic.false) (ne_eqb c.args.c 62 c.if-c-eq62.false) c.empty.ensures c.bogus_comment_state.ensures
+    end-bogus_kept m g.met.Sink.TokenSink.laws _ c.args.self.now _ c.args.c c.clear.new.self _ c.requires.at (sym c.is_ascii_alphabetic.ensures.value ∙ c.if-is_ascii_alphabetic.false) (ne_eqb c.args.c 62 c.if-c-eq62.false) c.clear.ensures c.bogus_comment_state.ensures

@@ -21,7 +21,7 @@ returns-then-is_ascii_alphabetic g c =
 pub returns-then-c-eq63 : goal.returns-then-c-eq63
 returns-then-c-eq63 g c =
     let m = g.Sink.TokenSink in
-    open-bogus m g.met.Sink.TokenSink.laws _ c.args.self.now _ c.args.c c.empty.result _ c.requires.at c.if-c-eq63.true c.empty.ensures c.bogus_comment_state.ensures
+    open-bogus m g.met.Sink.TokenSink.laws _ c.args.self.now _ c.args.c c.clear.new.self _ c.requires.at c.if-c-eq63.true c.clear.ensures c.bogus_comment_state.ensures
 
 pub returns-in_err-tell_unopened : goal.returns-in_err-tell_unopened
 returns-in_err-tell_unopened g c =

@@ -16,15 +16,15 @@ returns-then-c-eq62 g c =
 pub returns-then-c-eq34 : goal.returns-then-c-eq34
 returns-then-c-eq34 g c =
     let m = g.Sink.TokenSink in
-    value_before-quote m c.args.self.now _ _ c.requires.at c.requires.sound c.if-c-eq34.true c.empty.ensures
+    value_before-quote m c.args.self.now _ _ c.requires.at c.requires.sound c.if-c-eq34.true c.clear.ensures
 
 pub returns-then-c-eq39 : goal.returns-then-c-eq39
 returns-then-c-eq39 g c =
     let m = g.Sink.TokenSink in
-    value_before-apostrophe m c.args.self.now _ _ c.requires.at c.requires.sound c.if-c-eq39.true c.empty.ensures
+    value_before-apostrophe m c.args.self.now _ _ c.requires.at c.requires.sound c.if-c-eq39.true c.clear.ensures
 
 pub returns : goal.returns
 returns g c =
     let m = g.Sink.TokenSink in
     value_before-other m c.args.self.now _ _ _ _ c.requires.at
-    (sym c.is_white_space.ensures ∙ c.if-is_white_space.false) c.if-c-eq62.false c.if-c-eq34.false c.if-c-eq39.false c.empty.ensures c.unquoted_value_state.ensures
+    (sym c.is_white_space.ensures ∙ c.if-is_white_space.false) c.if-c-eq62.false c.if-c-eq34.false c.if-c-eq39.false c.clear.ensures c.unquoted_value_state.ensures

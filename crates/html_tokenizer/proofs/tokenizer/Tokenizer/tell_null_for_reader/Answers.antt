@@ -1,5 +1,5 @@
 use Rattle.html_tokenizer.proofs.Errors.RefusedErrors.{tells-erred, tells-failed}
-use Rattle.html_tokenizer.proofs.tokenizer.Tokenizer.tell_faulty.Goals as goal
+use Rattle.html_tokenizer.proofs.tokenizer.Tokenizer.tell_null_for_reader.Goals as goal
 use Rattle.html_tokenizer.specs.Steps.{a_fault}
 
 pub returns-in_err-tell_error : goal.returns-in_err-tell_error
