@@ -8,16 +8,8 @@ use markup::{
 };
 use std::alloc::{AllocError, Global};
 
-fn text(alloc: Global, characters: &str) -> Result<Text, AllocError> {
+fn text(alloc: Global, characters: &str) -> Result<Text, ParseFault> {
     Ok(Text::new(String::from_str(alloc, characters)?))
-}
-
-fn local_name(alloc: Global, characters: &str) -> Result<LocalName, AllocError> {
-    Ok(LocalName::new(String::from_str(alloc, characters)?))
-}
-
-fn namespace(alloc: Global, characters: &str) -> Result<Namespace, AllocError> {
-    Ok(Namespace::new(String::from_str(alloc, characters)?))
 }
 
 fn prefix(alloc: Global, characters: &str) -> Result<Prefix, AllocError> {
@@ -49,51 +41,63 @@ const GROWN: &[(&str, &str, &str)] = &[
     ),
 ];
 
-fn grows_by_text(alloc: Global, start: &str, more: &str, whole: &str) -> bool {
-    let Ok(mut made) = Text::from_str(alloc, start) else {
-        return false;
-    };
-    made.push_str(more).is_ok() && made.as_str() == whole
+/// By what a text grows.
+enum By {
+    /// A text.
+    Text,
+    /// The characters of a text.
+    Characters,
+    /// A text of its own kind.
+    Own,
+    /// A text in small letters, once all that stood there is replaced by `X`.
+    Lowered,
 }
 
-fn push_characters(made: &mut Text, more: &str) -> bool {
+fn push_characters(made: &mut Text, more: &str) -> Result<(), ParseFault> {
     for character in more.chars() {
-        if made.push(character).is_err() {
-            return false;
-        }
+        made.push(character)?;
     }
-    true
+    Ok(())
 }
 
-fn grows_by_characters(alloc: Global, start: &str, more: &str, whole: &str) -> bool {
-    let Ok(mut made) = text(alloc, start) else {
-        return false;
-    };
-    push_characters(&mut made, more) && made.as_str() == whole
-}
-
-fn append(alloc: Global, made: &mut Text, more: &str) -> Result<(), ParseFault> {
+fn push_own(alloc: Global, made: &mut Text, more: &str) -> Result<(), ParseFault> {
     made.append(&Text::from_str(alloc, more)?)
 }
 
-fn grows_by_own(alloc: Global, start: &str, more: &str, whole: &str) -> bool {
-    let Ok(mut made) = text(alloc, start) else {
-        return false;
-    };
-    append(alloc, &mut made, more).is_ok() && made.as_str() == whole
+fn replace_lowered(made: &mut Text, more: &str) -> Result<(), ParseFault> {
+    made.clear();
+    made.push_str("X")?;
+    made.push_lowered(more)
+}
+
+fn grow(alloc: Global, made: &mut Text, by: &By, more: &str) -> Result<(), ParseFault> {
+    match by {
+        By::Text => made.push_str(more),
+        By::Characters => push_characters(made, more),
+        By::Own => push_own(alloc, made, more),
+        By::Lowered => replace_lowered(made, more),
+    }
+}
+
+// Whether a text that was made grows so to a whole.
+fn grows(alloc: Global, made: Result<Text, ParseFault>, by: &By, more: &str, whole: &str) -> bool {
+    match made {
+        Ok(mut made) => grow(alloc, &mut made, by, more).is_ok() && made.as_str() == whole,
+        Err(_) => false,
+    }
 }
 
 // Whether a text grows so by a text, by its characters, and by a text of its own. It is made anew for each.
-fn is_grown(alloc: Global, start: &str, more: &str, whole: &str) -> bool {
-    grows_by_text(alloc, start, more, whole)
-        && grows_by_characters(alloc, start, more, whole)
-        && grows_by_own(alloc, start, more, whole)
+fn is_grown(alloc: Global, row: &(&str, &str, &str)) -> bool {
+    grows(alloc, Text::from_str(alloc, row.0), &By::Text, row.1, row.2)
+        && grows(alloc, text(alloc, row.0), &By::Characters, row.1, row.2)
+        && grows(alloc, text(alloc, row.0), &By::Own, row.1, row.2)
 }
 
 #[test]
 fn texts_grow_at_their_end(rt: HostRuntime) {
-    for &(start, more, whole) in GROWN {
-        see(&rt, is_grown(rt.alloc(), start, more, whole), whole);
+    for row in GROWN {
+        see(&rt, is_grown(rt.alloc(), row), row.2);
     }
 }
 
@@ -110,23 +114,20 @@ const LOWERED: &[(&str, &str)] = &[
     ),
 ];
 
-// Whether a text that is emptied holds then what is added so behind `X`.
-fn takes_lowered(made: &mut Text, more: &str, want: &str) -> bool {
-    made.clear();
-    made.push_str("X").is_ok() && made.push_lowered(more).is_ok() && made.as_str() == want
-}
-
-fn is_lowered(alloc: Global, more: &str, want: &str) -> bool {
-    match Text::from_str(alloc, "let go") {
-        Ok(mut made) => takes_lowered(&mut made, more, want),
-        Err(_) => false,
-    }
+fn is_lowered(alloc: Global, row: &(&str, &str)) -> bool {
+    grows(
+        alloc,
+        Text::from_str(alloc, "let go"),
+        &By::Lowered,
+        row.0,
+        row.1,
+    )
 }
 
 #[test]
 fn texts_are_lowered_at_their_end(rt: HostRuntime) {
-    for &(more, want) in LOWERED {
-        see(&rt, is_lowered(rt.alloc(), more, want), want);
+    for row in LOWERED {
+        see(&rt, is_lowered(rt.alloc(), row), row.1);
     }
 }
 
@@ -151,11 +152,6 @@ fn is_whole_or_unchanged(alloc: Global) -> bool {
     }
 }
 
-#[test]
-fn a_refused_text_is_unchanged(rt: HostRuntime) {
-    assert!(rt; is_whole_or_unchanged(rt.alloc()));
-}
-
 // The same of an empty list to which an attribute comes.
 fn takes_one_or_stands(list: &mut Attributes, first: Attribute) -> bool {
     match list.push(first) {
@@ -172,7 +168,8 @@ fn is_longer_or_unchanged(alloc: Global) -> bool {
 }
 
 #[test]
-fn a_refused_list_is_unchanged(rt: HostRuntime) {
+fn a_refused_text_or_list_is_unchanged(rt: HostRuntime) {
+    assert!(rt; is_whole_or_unchanged(rt.alloc()));
     assert!(rt; is_longer_or_unchanged(rt.alloc()));
 }
 
@@ -209,20 +206,23 @@ fn push_numbered(
     }
 }
 
-fn numbered(alloc: Global, count: usize, value: &'static str) -> Result<Attributes, ParseFault> {
-    let mut list = Attributes::new(alloc);
-    push_numbered(alloc, &mut list, count, value)?;
-    Ok(list)
+fn have_value(attributes: &[Attribute], value: &str) -> bool {
+    for attribute in attributes {
+        if attribute.value.as_str() != value {
+            return false;
+        }
+    }
+    true
 }
 
 // Whether so many attributes have the value `x`, and all others, so many in all, the value `y`.
 fn are_filled(list: &Attributes, has: usize, count: usize) -> bool {
-    for (place, attribute) in list.as_slice().iter().enumerate() {
-        if attribute.value.as_str() != if place < has { "x" } else { "y" } {
-            return false;
+    match list.as_slice().split_at_checked(has) {
+        Some((first, others)) => {
+            have_value(first, "x") && have_value(others, "y") && list.len() == count
         }
+        None => false,
     }
-    list.len() == count
 }
 
 // How many attributes there are, how many come, and how many there are then. From the seventeenth on places are kept.
@@ -234,21 +234,28 @@ const MISSING: &[(&str, usize, usize, usize)] = &[
     ("forty to five", 5, 40, 40),
 ];
 
-// Whether those of so many that are missing are added to so many attributes.
-fn are_added(alloc: Global, has: usize, more: usize, want: usize) -> bool {
-    let Ok(mut list) = numbered(alloc, has, "x") else {
-        return false;
-    };
-    let Ok(coming) = numbered(alloc, more, "y") else {
-        return false;
-    };
-    list.add_missing(coming).is_ok() && are_filled(&list, has, want)
+// Of so many attributes `a0`, `a1` and so on, those that are missing are added.
+fn add_numbered(alloc: Global, list: &mut Attributes, count: usize) -> Result<(), ParseFault> {
+    let mut coming = Attributes::new(alloc);
+    push_numbered(alloc, &mut coming, count, "y")?;
+    list.add_missing(coming)
+}
+
+// Whether those that are missing are added to a list that was empty.
+fn are_added(alloc: Global, list: &mut Attributes, row: &(&str, usize, usize, usize)) -> bool {
+    push_numbered(alloc, list, row.1, "x").is_ok()
+        && add_numbered(alloc, list, row.2).is_ok()
+        && are_filled(list, row.1, row.3)
 }
 
 #[test]
 fn missing_attributes_are_added(rt: HostRuntime) {
-    for &(name, has, more, want) in MISSING {
-        see(&rt, are_added(rt.alloc(), has, more, want), name);
+    for row in MISSING {
+        see(
+            &rt,
+            are_added(rt.alloc(), &mut Attributes::new(rt.alloc()), row),
+            row.0,
+        );
     }
 }
 
@@ -296,62 +303,63 @@ fn is_usual(alloc: Global, known: KnownNamespace, want: &str) -> bool {
     made == other && is_prefix_copied(alloc, &made, &other, want)
 }
 
-fn is_known(alloc: Global, row: (KnownNamespace, &str, &str)) -> bool {
+fn is_known(alloc: Global, row: &(KnownNamespace, &str, &str)) -> bool {
     is_usual(alloc, row.0, row.1) && Namespace::from_known(row.0).as_str() == row.2
 }
 
 #[test]
 fn known_namespaces_have_their_prefixes_and_texts(rt: HostRuntime) {
-    for &row in KNOWN {
+    for row in KNOWN {
         see(&rt, is_known(rt.alloc(), row), row.2);
     }
 }
 
-// Texts that are copied below.
-const WORDS: &[&str] = &["", "href", "Ünïcode"];
+// The prefixes, namespaces and local names of names that are copied below.
+const NAMES: &[[&str; 3]] = &[
+    ["", "", ""],
+    ["href", "href", "href"],
+    ["Ünïcode", "Ünïcode", "Ünïcode"],
+    ["xlink", namespaces::XLINK, "href"],
+];
 
-fn is_text_copied(alloc: Global, characters: &str) -> bool {
-    let Ok(made) = text(alloc, characters) else {
-        return false;
-    };
+fn is_text_copied(alloc: Global, made: &Text, characters: &str) -> bool {
     match made.copy(alloc) {
         Ok(copied) => copied.as_str() == characters,
         Err(_) => false,
     }
 }
 
-fn is_local_name_copied(alloc: Global, characters: &str) -> bool {
-    let Ok(made) = local_name(alloc, characters) else {
-        return false;
-    };
+fn is_local_name_copied(alloc: Global, made: &LocalName, characters: &str) -> bool {
     match made.copy(alloc) {
         Ok(copied) => copied.as_str() == characters,
         Err(_) => false,
     }
 }
 
-fn is_namespace_copied(alloc: Global, characters: &str) -> bool {
-    let Ok(made) = namespace(alloc, characters) else {
-        return false;
-    };
+fn is_namespace_copied(alloc: Global, made: &Namespace, characters: &str) -> bool {
     match made.copy(alloc) {
         Ok(copied) => copied.as_str() == characters,
         Err(_) => false,
     }
 }
 
-fn is_word_of_prefix_copied(alloc: Global, characters: &str) -> bool {
-    let Ok(made) = prefix(alloc, characters) else {
-        return false;
-    };
-    is_prefix_copied(alloc, &made, &made, characters)
+fn is_prefix_of(alloc: Global, made: &Option<Prefix>, characters: &str) -> bool {
+    match made {
+        Some(made) => is_prefix_copied(alloc, made, made, characters),
+        None => false,
+    }
+}
+
+// A name once more, by the calls that take its characters.
+fn name_again(alloc: Global, name: &LocalName) -> Result<String, ParseFault> {
+    let again = LocalName::from_str(alloc, name.as_str())?;
+    Text::from_str(alloc, again.as_str())?.into_string()
 }
 
 // A text once more, by the calls that take it or its characters.
 fn again(alloc: Global, characters: &str) -> Result<String, ParseFault> {
     let name = LocalName::from_text(Text::from_str(alloc, characters)?);
-    let name_again = LocalName::from_str(alloc, name.as_str())?;
-    Text::from_str(alloc, name_again.as_str())?.into_string()
+    name_again(alloc, &name)
 }
 
 fn is_same_again(alloc: Global, characters: &str) -> bool {
@@ -361,20 +369,16 @@ fn is_same_again(alloc: Global, characters: &str) -> bool {
     }
 }
 
-// Whether a text is copied as each kind of word.
-fn is_copied(alloc: Global, characters: &str) -> bool {
-    is_text_copied(alloc, characters)
-        && is_local_name_copied(alloc, characters)
-        && is_namespace_copied(alloc, characters)
-        && is_word_of_prefix_copied(alloc, characters)
-        && is_same_again(alloc, characters)
-}
-
-// The name `xlink:href`.
-fn link(alloc: Global) -> Result<QualName, AllocError> {
-    let before = prefix(alloc, "xlink")?;
-    let ns = namespace(alloc, namespaces::XLINK)?;
-    Ok(QualName::new(Some(before), ns, local_name(alloc, "href")?))
+// The name of a prefix, a namespace and a local name.
+fn qualified(alloc: Global, words: &[&str; 3]) -> Result<QualName, AllocError> {
+    let before = String::from_str(alloc, words[0])?;
+    let ns = String::from_str(alloc, words[1])?;
+    let local = String::from_str(alloc, words[2])?;
+    Ok(QualName::new(
+        Some(Prefix::new(before)),
+        Namespace::new(ns),
+        LocalName::new(local),
+    ))
 }
 
 fn is_name_copied(alloc: Global, name: &QualName) -> bool {
@@ -384,9 +388,18 @@ fn is_name_copied(alloc: Global, name: &QualName) -> bool {
     }
 }
 
-fn is_link_copied(alloc: Global) -> bool {
-    match link(alloc) {
-        Ok(name) => is_name_copied(alloc, &name),
+// Whether a name is copied, and so is each of its parts, and the text of the last.
+fn are_parts_copied(alloc: Global, name: &QualName, words: &[&str; 3]) -> bool {
+    is_name_copied(alloc, name)
+        && is_prefix_of(alloc, &name.prefix, words[0])
+        && is_namespace_copied(alloc, &name.ns, words[1])
+        && is_local_name_copied(alloc, &name.local, words[2])
+        && is_text_copied(alloc, name.local.as_text(), words[2])
+}
+
+fn is_copied(alloc: Global, words: &[&str; 3]) -> bool {
+    match qualified(alloc, words) {
+        Ok(name) => are_parts_copied(alloc, &name, words) && is_same_again(alloc, words[2]),
         Err(_) => false,
     }
 }
@@ -411,11 +424,9 @@ fn are_two_copied(alloc: Global) -> bool {
 
 #[test]
 fn copies_equal_their_source(rt: HostRuntime) {
-    for &characters in WORDS {
-        see(&rt, is_copied(rt.alloc(), characters), characters);
+    for words in NAMES {
+        see(&rt, is_copied(rt.alloc(), words), words[0]);
     }
-    assert!(rt; is_link_copied(rt.alloc()));
-    assert!(rt; are_two_copied(rt.alloc()));
 }
 
 // Whether the two attributes without the second are the first alone.
@@ -436,18 +447,23 @@ fn is_first(attributes: &[Attribute]) -> bool {
 }
 
 #[test]
-fn attributes_are_a_vector(rt: HostRuntime) {
+fn attributes_are_copied_and_are_a_vector(rt: HostRuntime) {
+    assert!(rt; are_two_copied(rt.alloc()));
     assert!(rt; is_first_alone(rt.alloc()));
 }
 
-// Whether a name stands at this place of the table of known names, or at none.
-fn is_at(alloc: Global, characters: &str, place: Option<usize>) -> bool {
-    let Ok(made) = LocalName::from_str(alloc, characters) else {
-        return false;
-    };
-    match made.known() {
-        Some(known) => place == Some(usize::from(known.place)),
-        None => place.is_none(),
+// The place of a name in the table of known names, if it stands there.
+fn place_of(name: &LocalName) -> Option<usize> {
+    match name.known() {
+        Some(known) => Some(usize::from(known.place)),
+        None => None,
+    }
+}
+
+fn is_at(alloc: Global, row: &(&str, Option<usize>)) -> bool {
+    match LocalName::from_str(alloc, row.0) {
+        Ok(made) => place_of(&made) == row.1,
+        Err(_) => false,
     }
 }
 
@@ -470,8 +486,8 @@ const PLACES: &[(&str, Option<usize>)] = &[
 
 #[test]
 fn known_names_are_found_in_their_table(rt: HostRuntime) {
-    for &(characters, place) in PLACES {
-        see(&rt, is_at(rt.alloc(), characters, place), characters);
+    for row in PLACES {
+        see(&rt, is_at(rt.alloc(), row), row.0);
     }
 }
 
@@ -485,8 +501,8 @@ const FAULTS: &[(ParseFault, u8, &str)] = &[
 
 #[test]
 fn faults_have_their_numbers(rt: HostRuntime) {
-    for &(fault, want, name) in FAULTS {
-        see(&rt, fault as u8 == want, name);
+    for row in FAULTS {
+        see(&rt, row.0 as u8 == row.1, row.2);
     }
     assert!(rt; ParseFault::from(AllocError) == ParseFault::Memory);
 }

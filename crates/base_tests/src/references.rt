@@ -23,10 +23,10 @@ fn table(alloc: Global, rows: &[Row]) -> Result<References, TableFault> {
     References::new(alloc, rows_of(alloc, rows)?)
 }
 
-fn has_fault(alloc: Global, rows: &[Row], want: TableFault) -> bool {
-    match table(alloc, rows) {
+fn has_fault(alloc: Global, row: &FaultyRows) -> bool {
+    match table(alloc, row.0) {
         Ok(_) => false,
-        Err(fault) => fault == want,
+        Err(fault) => fault == row.1,
     }
 }
 
@@ -82,8 +82,8 @@ const FAULTY: &[FaultyRows] = &[
 
 #[test]
 fn the_first_faulty_row_is_told(rt: HostRuntime) {
-    for &(rows, fault) in FAULTY {
-        assert!(rt; has_fault(rt.alloc(), rows, fault));
+    for row in FAULTY {
+        assert!(rt; has_fault(rt.alloc(), row));
     }
 }
 

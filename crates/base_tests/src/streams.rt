@@ -37,14 +37,14 @@ fn reads(reader: &mut MemReader, given: &[u8; 3]) -> bool {
     read_once(reader, &mut buffer).is_ok() && buffer == *given
 }
 
-fn reads_each(alloc: Global, piece: usize, wanted: &[&[u8; 3]; 4]) -> bool {
-    if piece == 0 {
+fn reads_each(alloc: Global, row: &(usize, [&[u8; 3]; 4])) -> bool {
+    if row.0 == 0 {
         return false;
     }
-    let Ok(bytes) = five_bytes(alloc) else {
-        return false;
-    };
-    are_read(&mut MemReader::new(bytes, piece, None), wanted)
+    match five_bytes(alloc) {
+        Ok(bytes) => are_read(&mut MemReader::new(bytes, row.0, None), &row.1),
+        Err(_) => false,
+    }
 }
 
 // Whether reads leave these.
@@ -55,13 +55,6 @@ fn are_read(reader: &mut MemReader, wanted: &[&[u8; 3]; 4]) -> bool {
         }
     }
     true
-}
-
-#[test]
-fn reads_once_a_call(rt: HostRuntime) {
-    for (piece, wanted) in READS {
-        assert!(rt; reads_each(rt.alloc(), *piece, wanted), "{piece}");
-    }
 }
 
 fn reads_nothing(reader: &mut MemReader) -> bool {
@@ -78,7 +71,10 @@ fn five_are_not_read(alloc: Global) -> bool {
 }
 
 #[test]
-fn reads_into_no_room(rt: HostRuntime) {
+fn reads_once_a_call(rt: HostRuntime) {
+    for row in READS {
+        assert!(rt; reads_each(rt.alloc(), row), "{}", row.0);
+    }
     assert!(rt; five_are_not_read(rt.alloc()));
 }
 
@@ -106,7 +102,7 @@ fn fails(alloc: Global, reader: &mut MemReader) -> bool {
     matches!(read_whole(alloc, reader), Err(ReadFault::Read))
 }
 
-fn fails_once(alloc: Global, row: (Option<u64>, bool, &str)) -> bool {
+fn fails_once(alloc: Global, row: &(Option<u64>, bool, &str)) -> bool {
     let Ok(bytes) = five_bytes(alloc) else {
         return false;
     };
@@ -116,34 +112,113 @@ fn fails_once(alloc: Global, row: (Option<u64>, bool, &str)) -> bool {
 
 #[test]
 fn reads_fail_once_or_never(rt: HostRuntime) {
-    for &row in FAILED {
+    for row in FAILED {
         see(&rt, fails_once(rt.alloc(), row), row.2);
     }
 }
 
-// Room and the most bytes a call, which call fails and whether by 0, what three writes of "abc" answer, and what stands then.
-type Writes = (
-    (usize, usize),
-    (Option<u64>, bool),
-    [Result<usize, DeviceFault>; 3],
-    &'static str,
-);
+/// What is asked of a writer.
+enum Asked {
+    /// That three writes of "abc" answer this.
+    Thrice(&'static [Result<usize, DeviceFault>]),
+    /// That a write of nothing answers this, that nothing is then written in whole, and "a" behind it, or not.
+    Nothing(Result<usize, DeviceFault>, bool),
+    /// That "abcde" is written in whole, or is not.
+    Whole(bool),
+}
 
-const WRITES: &[Writes] = &[
-    ((7, 1), (None, false), [Ok(1), Ok(1), Ok(1)], "aaa"),
-    ((7, 2), (None, true), [Ok(2), Ok(2), Ok(2)], "ababab"),
-    ((7, 9), (None, false), [Ok(3), Ok(3), Ok(1)], "abcabca"),
-    ((4, 9), (None, true), [Ok(3), Ok(1), FAULT], "abca"),
-    ((0, 9), (None, false), [FAULT, FAULT, FAULT], ""),
-    ((7, 2), (Some(0), false), [Ok(2), Ok(2), Ok(2)], "ababab"),
-    ((7, 2), (Some(1), false), [FAULT, Ok(2), Ok(2)], "abab"),
-    ((7, 2), (Some(2), false), [Ok(2), FAULT, Ok(2)], "abab"),
-    ((7, 2), (Some(3), true), [Ok(2), Ok(2), Ok(0)], "abab"),
-    ((7, 2), (Some(4), true), [Ok(2), Ok(2), Ok(2)], "ababab"),
+/// Room and the most bytes a call, which call fails and whether by 0, what is asked, and what stands then.
+type Row = ((usize, usize), (Option<u64>, bool), Asked, &'static str);
+
+const WRITES: &[Row] = &[
+    (
+        (7, 1),
+        (None, false),
+        Asked::Thrice(&[Ok(1), Ok(1), Ok(1)]),
+        "aaa",
+    ),
+    (
+        (7, 2),
+        (None, true),
+        Asked::Thrice(&[Ok(2), Ok(2), Ok(2)]),
+        "ababab",
+    ),
+    (
+        (7, 9),
+        (None, false),
+        Asked::Thrice(&[Ok(3), Ok(3), Ok(1)]),
+        "abcabca",
+    ),
+    (
+        (4, 9),
+        (None, true),
+        Asked::Thrice(&[Ok(3), Ok(1), FAULT]),
+        "abca",
+    ),
+    (
+        (0, 9),
+        (None, false),
+        Asked::Thrice(&[FAULT, FAULT, FAULT]),
+        "",
+    ),
+    (
+        (7, 2),
+        (Some(0), false),
+        Asked::Thrice(&[Ok(2), Ok(2), Ok(2)]),
+        "ababab",
+    ),
+    (
+        (7, 2),
+        (Some(1), false),
+        Asked::Thrice(&[FAULT, Ok(2), Ok(2)]),
+        "abab",
+    ),
+    (
+        (7, 2),
+        (Some(2), false),
+        Asked::Thrice(&[Ok(2), FAULT, Ok(2)]),
+        "abab",
+    ),
+    (
+        (7, 2),
+        (Some(3), true),
+        Asked::Thrice(&[Ok(2), Ok(2), Ok(0)]),
+        "abab",
+    ),
+    (
+        (7, 2),
+        (Some(4), true),
+        Asked::Thrice(&[Ok(2), Ok(2), Ok(2)]),
+        "ababab",
+    ),
 ];
 
+const EMPTY: &[Row] = &[
+    ((1, 1), (None, false), Asked::Nothing(Ok(0), true), "a"),
+    ((0, 1), (None, false), Asked::Nothing(Ok(0), false), ""),
+    ((1, 1), (Some(1), true), Asked::Nothing(Ok(0), true), "a"),
+    ((1, 1), (Some(1), false), Asked::Nothing(FAULT, true), "a"),
+];
+
+const WHOLE: &[Row] = &[
+    ((5, 2), (Some(4), false), Asked::Whole(true), "abcde"),
+    ((5, 2), (Some(4), true), Asked::Whole(true), "abcde"),
+    ((5, 2), (Some(3), false), Asked::Whole(false), "abcd"),
+    ((5, 2), (Some(3), true), Asked::Whole(false), "abcd"),
+    ((5, 2), (Some(2), false), Asked::Whole(false), "ab"),
+    ((5, 2), (Some(2), true), Asked::Whole(false), "ab"),
+    ((5, 2), (Some(1), false), Asked::Whole(false), ""),
+    ((5, 2), (Some(1), true), Asked::Whole(false), ""),
+    ((4, 2), (Some(4), false), Asked::Whole(false), "abcd"),
+    ((4, 2), (Some(4), true), Asked::Whole(false), "abcd"),
+    ((0, 2), (Some(4), false), Asked::Whole(false), ""),
+    ((0, 2), (Some(4), true), Asked::Whole(false), ""),
+];
+
+const TABLES: &[&[Row]] = &[WRITES, EMPTY, WHOLE];
+
 // Whether writes of "abc" answer so.
-fn writes_each(writer: &mut MemWriter, answers: &[Result<usize, DeviceFault>; 3]) -> bool {
+fn writes_each(writer: &mut MemWriter, answers: &[Result<usize, DeviceFault>]) -> bool {
     for answer in answers {
         if write_once(&mut *writer, b"abc") != *answer {
             return false;
@@ -152,77 +227,38 @@ fn writes_each(writer: &mut MemWriter, answers: &[Result<usize, DeviceFault>; 3]
     true
 }
 
-fn is_written(alloc: Global, row: &Writes) -> bool {
-    let &((room, piece), (fail_at, zero), answers, held) = row;
+fn writes_nothing(writer: &mut MemWriter, answer: &Result<usize, DeviceFault>) -> bool {
+    write_once(&mut *writer, b"") == *answer && write_whole(&mut *writer, b"").is_ok()
+}
+
+fn answers(writer: &mut MemWriter, asked: &Asked) -> bool {
+    match asked {
+        Asked::Thrice(answers) => writes_each(writer, answers),
+        Asked::Nothing(answer, has_room) => {
+            writes_nothing(writer, answer) && write_once(writer, b"a").is_ok() == *has_room
+        }
+        Asked::Whole(has_room) => write_whole(writer, b"abcde").is_ok() == *has_room,
+    }
+}
+
+fn is_written(alloc: Global, row: &Row) -> bool {
+    let (room, piece) = row.0;
+    let (fail_at, zero) = row.1;
     if piece == 0 {
         return false;
     }
-    let Ok(mut writer) = MemWriter::new(alloc, room, piece, fail_at, zero) else {
-        return false;
-    };
-    writes_each(&mut writer, &answers) && writer.written() == held.as_bytes()
-}
-
-#[test]
-fn writes_once_a_call(rt: HostRuntime) {
-    for row in WRITES {
-        see(&rt, is_written(rt.alloc(), row), row.3);
+    match MemWriter::new(alloc, room, piece, fail_at, zero) {
+        Ok(mut writer) => { answers(&mut writer, &row.2) && writer.written() == row.3.as_bytes() }
+        Err(_) => false,
     }
 }
 
-type Empty = (usize, Option<u64>, bool, Result<usize, DeviceFault>);
-
-// The room, the call that fails, whether it answers 0, and what a write of nothing answers first.
-const EMPTY: &[Empty] = &[
-    (1, None, false, Ok(0)),
-    (0, None, false, Ok(0)),
-    (1, Some(1), true, Ok(0)),
-    (1, Some(1), false, FAULT),
-];
-
-fn is_nothing_written(alloc: Global, row: &Empty) -> bool {
-    let Ok(mut writer) = MemWriter::new(alloc, row.0, 1, row.1, row.2) else {
-        return false;
-    };
-    write_once(&mut writer, b"") == row.3
-        && write_whole(&mut writer, b"").is_ok()
-        && write_once(&mut writer, b"a").is_ok() == (row.0 == 1)
-}
-
 #[test]
-fn writes_nothing(rt: HostRuntime) {
-    for row in EMPTY {
-        assert!(rt; is_nothing_written(rt.alloc(), row));
-    }
-}
-
-// The room, the call that fails, and what stands behind the write of "abcde".
-const WHOLE: &[(usize, u64, &str)] = &[
-    (5, 4, "abcde"),
-    (5, 3, "abcd"),
-    (5, 2, "ab"),
-    (5, 1, ""),
-    (4, 4, "abcd"),
-    (0, 4, ""),
-];
-
-fn is_whole_written(
-    alloc: Global,
-    &(room, fail_at, held): &(usize, u64, &str),
-    zero: bool,
-) -> bool {
-    let Ok(mut writer) = MemWriter::new(alloc, room, 2, Some(fail_at), zero) else {
-        return false;
-    };
-    write_whole(&mut writer, b"abcde").is_ok() == (held.len() == 5)
-        && writer.written() == held.as_bytes()
-}
-
-#[test]
-fn writes_the_whole(rt: HostRuntime) {
-    for row in WHOLE {
-        assert!(rt; is_whole_written(rt.alloc(), row, false));
-        assert!(rt; is_whole_written(rt.alloc(), row, true));
+fn writes_once_nothing_and_the_whole(rt: HostRuntime) {
+    for &rows in TABLES {
+        for row in rows {
+            see(&rt, is_written(rt.alloc(), row), row.3);
+        }
     }
 }
 

@@ -21,12 +21,12 @@ refused_laws = record {
   quiet = λ s h a b line. tt;
 }
 
--- each tag names an encoding
+-- each tag names an encoding, and nothing that is told changes whether `<![CDATA[` opens a section
 abbrev pub reply_to : Token → Reply
 reply_to (TagToken tag) = EncodingIndicator tag.name
 reply_to _ = Continue
 
-abbrev pub named : Step (Unit {0})
+abbrev pub named : Step Bool
 named s token line = Ok (s, reply_to token)
 
 reply-fits : (t : Token) → IsReplyTo t (reply_to t)
@@ -42,25 +42,5 @@ named_laws = record {
   idle = λ s h t i line. refl;
   idle_refused = λ s h t i line r any other. r;
   replies = λ s h t line. reply-fits t;
-  quiet = λ s h a b line. refl;
-}
-
--- nothing that is told changes whether `<![CDATA[` opens a section
-abbrev pub unheard : Step Bool
-unheard s token line = Ok (s, Continue)
-
-continues : (t : Token) → IsReplyTo t Continue
-continues (TagToken tag) = tt
-continues _ = refl
-
-pub unheard_laws : SinkLaws (λ _. Unit {0}) unheard (λ s. s) (λ _ _. true)
-unheard_laws = record {
-  keeps = λ s h t line. tt;
-  ends = λ s h. tt;
-  pieces = λ s h a b line. refl;
-  lines = λ s h a line other. refl;
-  idle = λ s h t i line. refl;
-  idle_refused = λ s h t i line r any other. r;
-  replies = λ s h t line. continues t;
   quiet = λ s h a b line. refl;
 }

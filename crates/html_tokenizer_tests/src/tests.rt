@@ -4,7 +4,6 @@ ghost use Rattle.html_tokens.specs.TextState.{is_text_state};
 ghost use Rattle.html_tokenizer.specs.Calls.{IsReadyIf, refusal};
 
 mod calls;
-mod codes;
 mod comments;
 mod errors;
 mod lines;
@@ -202,10 +201,7 @@ fn feed_to_end<S: TokenSink>(
     ensures { IsReadyIf S.TokenSink (refusal tokenizer.new.stream) tokenizer.new }
 {
     feed_pieces(tokenizer, pieces)?;
-    if tells_end {
-        tokenizer.end()?;
-    }
-    Ok(())
+    if tells_end { tokenizer.end() } else { Ok(()) }
 }
 
 /// Whether a tokenizer refuses both calls by this fault.
@@ -217,10 +213,7 @@ fn refuses<S: TokenSink>(
     requires { IsReadyIf S.TokenSink (refusal tokenizer.old.stream) tokenizer.old }
     ensures { IsReadyIf S.TokenSink (refusal tokenizer.new.stream) tokenizer.new }
 {
-    let refuses_input = match tokenizer.feed(input) {
-        Ok(_) => false,
-        Err(found) => found == fault,
-    };
+    let refuses_input = tokenizer.feed(input).err() == Some(fault);
     let refuses_end = tokenizer.end() == Err(fault);
     refuses_input && refuses_end
 }
@@ -259,7 +252,8 @@ type Pieces = Result<Vec<String>, AllocError>;
 
 /// What a list is told of these pieces, and of their end where it is told.
 fn read(alloc: Global, setting: Setting, pieces: Pieces) -> Result<Listed, ParseFault> {
-    read_over(alloc, list_of(alloc, setting), setting, pieces?)
+    let pieces = pieces?;
+    read_over(alloc, list_of(alloc, setting), setting, pieces)
 }
 
 /// The same of a whole text.
@@ -355,7 +349,9 @@ const WHOLE_PAGE: &[Row] = &[
     ),
 ];
 
+const PAGE_TABLE: &[(Setting, &[Row])] = &[(PAGE, WHOLE_PAGE)];
+
 #[test]
 fn a_page_is_read(rt: HostRuntime) {
-    assert_rows(&rt, rt.alloc(), &[(PAGE, WHOLE_PAGE)]);
+    assert_rows(&rt, rt.alloc(), PAGE_TABLE);
 }

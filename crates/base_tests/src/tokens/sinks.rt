@@ -28,25 +28,25 @@ fn tell_null(sink: &mut Listed, line: u64) -> Result<(), ParseFault> {
     Ok(())
 }
 
-fn tell_three(alloc: Global, sink: &mut Listed) -> Result<(), ParseFault> {
-    tell_text(alloc, sink, "a")?;
-    tell_text(alloc, sink, "b")?;
-    tell_null(sink, 3)?;
-    tell_text(alloc, sink, "c")
-}
-
 fn is_null_at(told: &Told, line: u64, text: &str) -> bool {
     told.text.as_str() == text && told.token == Token::NullCharacterToken && told.line == line
 }
 
+fn lists_one_null(sink: &Listed) -> bool {
+    match sink.told.as_slice() {
+        [told] => is_null_at(told, 3, "ab"),
+        _ => false,
+    }
+}
+
 // Whether the text of two pieces, a null and a third text are listed.
 fn are_listed(alloc: Global, sink: &mut Listed) -> bool {
-    tell_three(alloc, sink).is_ok()
+    tell_text(alloc, sink, "a").is_ok()
+        && tell_text(alloc, sink, "b").is_ok()
+        && tell_null(sink, 3).is_ok()
+        && tell_text(alloc, sink, "c").is_ok()
         && sink.text.as_str() == "c"
-        && match sink.told.as_slice() {
-            [told] => is_null_at(told, 3, "ab"),
-            _ => false,
-        }
+        && lists_one_null(sink)
 }
 
 // What a sink answers, in words.
@@ -143,11 +143,6 @@ fn is_taken_or_failed_thrice(alloc: Global, sink: &mut Listed) -> bool {
     true
 }
 
-#[test]
-fn refused_memory_fails_the_sink(rt: HostRuntime) {
-    assert!(rt; is_taken_or_failed_thrice(rt.alloc(), &mut Listed::new(rt.alloc(), false)));
-}
-
 fn push_piece(
     alloc: Global,
     pieces: &mut Vec<(Text, u64)>,
@@ -211,10 +206,45 @@ fn takes_when_lent(sink: &mut Listed) -> bool {
     tell_and_end(&mut lent, 7).is_ok() && sink.has_ended && sink.told.len() == 1
 }
 
+/// What is asked of a list.
+enum Asked {
+    /// That it lists the text of two pieces, and a null.
+    TextAndNull,
+    /// That it is told a text in pieces, and an error.
+    TextAndError,
+    /// That it takes what its loan is told.
+    Loan,
+    /// That it refuses what stands behind its end.
+    End,
+    /// That it fails where memory is refused.
+    Memory,
+}
+
+const ASKED: &[(Asked, &str)] = &[
+    (Asked::TextAndNull, "text and null"),
+    (Asked::TextAndError, "text and error"),
+    (Asked::Loan, "loan"),
+    (Asked::End, "end"),
+    (Asked::Memory, "memory"),
+];
+
+fn is_right(alloc: Global, sink: &mut Listed, asked: &Asked) -> bool {
+    match asked {
+        Asked::TextAndNull => are_listed(alloc, sink),
+        Asked::TextAndError => are_text_and_error_told(alloc, sink),
+        Asked::Loan => takes_when_lent(sink),
+        Asked::End => refuses_behind_its_end(sink),
+        Asked::Memory => is_taken_or_failed_thrice(alloc, sink),
+    }
+}
+
 #[test]
-fn lists_take_tokens_until_their_end(rt: HostRuntime) {
-    assert!(rt; are_listed(rt.alloc(), &mut Listed::new(rt.alloc(), false)));
-    assert!(rt; are_text_and_error_told(rt.alloc(), &mut Listed::new(rt.alloc(), false)));
-    assert!(rt; takes_when_lent(&mut Listed::new(rt.alloc(), false)));
-    assert!(rt; refuses_behind_its_end(&mut Listed::new(rt.alloc(), false)));
+fn lists_take_tokens_until_they_end_or_fail(rt: HostRuntime) {
+    for row in ASKED {
+        see(
+            &rt,
+            is_right(rt.alloc(), &mut Listed::new(rt.alloc(), false), &row.0),
+            row.1,
+        );
+    }
 }

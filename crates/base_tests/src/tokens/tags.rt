@@ -55,30 +55,30 @@ const THREE: &[Pair] = &[("b", "1"), ("c", "2"), ("b", "3")];
 // Names, and the value that is found by each in `<a b=1 c=2 b=3>`.
 const VALUES: &[(&str, Option<&str>)] = &[("b", Some("1")), ("c", Some("2")), ("d", None)];
 
-// Whether this is the value of a name in that tag.
-fn has_value(alloc: Global, sought: &str, value: Option<&str>) -> bool {
-    match tag(alloc, TagKind::StartTag, "a", THREE) {
-        Ok(tag) => has_value_in(alloc, &tag, sought, value),
-        Err(_) => false,
-    }
-}
-
-fn has_value_in(alloc: Global, tag: &Tag, sought: &str, value: Option<&str>) -> bool {
-    match value_in(alloc, tag, sought) {
-        Ok(Some(text)) => value == Some(text.as_str()),
-        Ok(None) => value.is_none(),
-        Err(_) => false,
-    }
-}
-
 fn value_in(alloc: Global, tag: &Tag, sought: &str) -> Result<Option<Text>, ParseFault> {
     tag.get_attribute(alloc, &LocalName::from_str(alloc, sought)?)
 }
 
+fn has_value_in(alloc: Global, tag: &Tag, row: &(&str, Option<&str>)) -> bool {
+    match value_in(alloc, tag, row.0) {
+        Ok(Some(text)) => row.1 == Some(text.as_str()),
+        Ok(None) => row.1.is_none(),
+        Err(_) => false,
+    }
+}
+
+// Whether this is the value of a name in that tag.
+fn has_value(alloc: Global, row: &(&str, Option<&str>)) -> bool {
+    match tag(alloc, TagKind::StartTag, "a", THREE) {
+        Ok(tag) => has_value_in(alloc, &tag, row),
+        Err(_) => false,
+    }
+}
+
 #[test]
 fn first_attribute_of_a_name_is_found(rt: HostRuntime) {
-    for &(sought, value) in VALUES {
-        see(&rt, has_value(rt.alloc(), sought, value), sought);
+    for row in VALUES {
+        see(&rt, has_value(rt.alloc(), row), row.0);
     }
 }
 

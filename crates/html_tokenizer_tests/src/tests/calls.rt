@@ -2,7 +2,7 @@
 
 ghost use Rattle.html_tokenizer.specs.Calls.{IsReadyIf, refusal};
 
-use super::words::is_in_words;
+use super::words::{Spoken, is_in_words};
 use super::{
     PAGE, Setting, Table, feed_piece, list_of, put, read, refuses, see, sink_if, sink_of,
     tokenizer_over,
@@ -239,9 +239,11 @@ fn assert_told(rt: &impl Abort, alloc: Global, tables: &[(Setting, &[Told])]) {
     }
 }
 
+const TOLD_TABLE: &[(Setting, &[Told])] = &[(BEFORE_THE_END, TOLD)];
+
 #[test]
 fn what_is_decided_is_told_before_the_end(rt: HostRuntime) {
-    assert_told(&rt, rt.alloc(), &[(BEFORE_THE_END, TOLD)]);
+    assert_told(&rt, rt.alloc(), TOLD_TABLE);
 }
 
 const HELD_TABLES: &[(Setting, &[Told])] = &[
@@ -298,11 +300,8 @@ fn refused_behind<S: TokenSink + Drop>(
 }
 
 /// Whether a list was told the text `a<` and the end, and this input is left.
-fn has_left_all(alloc: Global, sink: &Listed, input: &mut BufferQueue) -> bool {
-    sink.has_ended
-        && is_in_words(alloc, sink, "text \"a<\"; eof")
-        && input.next() == Some('b')
-        && input.is_empty()
+fn has_left_all(alloc: Global, sink: &Listed, input: &BufferQueue) -> bool {
+    sink.has_ended && is_in_words(alloc, sink, "text \"a<\"; eof") && input.as_str() == "b"
 }
 
 /// Whether calls behind the end are refused, and leave the input, which was empty, and the sink as they are.
@@ -321,8 +320,10 @@ fn calls_behind_the_end_are_refused(rt: HostRuntime) {
     assert!(rt; are_refused_behind(rt.alloc(), &mut BufferQueue::new()));
 }
 
-// What is read before all that follows is text, what is read then, and the tokens.
-const PLAIN: &[(&str, &str, &str)] = &[
+/// What is read before all that follows is text, what is read then, and the tokens.
+type Plain = (&'static str, &'static str, &'static str);
+
+const PLAIN: &[Plain] = &[
     ("a", "<b>&amp;", "text \"a<b>&amp;\"; eof"),
     ("", "<", "text \"<\"; eof"),
     ("<b>\r", "\n\0</b>", "start b; text \"\n\u{FFFD}</b>\"; eof"),
@@ -345,48 +346,42 @@ fn turn_plain<S: TokenSink>(tokenizer: &mut Tokenizer<S>) -> Result<(), ParseFau
     Ok(())
 }
 
-/// Feeds a text, then one that is all text, behind which nothing is pending, and the end.
-fn feed_plainly<S: TokenSink>(
+/// Whether a text is read, then one that is all text, behind which nothing is pending, and the end, and the tokens are
+/// told.
+fn is_fed_plainly<S: TokenSink + Spoken>(
     alloc: Global,
     tokenizer: &mut Tokenizer<S>,
-    before: &str,
-    text: &str,
-) -> Result<(), ParseFault>
+    row: &Plain,
+) -> bool
     requires { IsReadyIf S.TokenSink (refusal tokenizer.old.stream) tokenizer.old }
 {
-    feed_text(alloc, tokenizer, before)?;
-    turn_plain(tokenizer)?;
-    feed_text(alloc, tokenizer, text)?;
-    if !tokenizer.nothing_pending() {
-        return Err(ParseFault::Shape);
-    }
-    tokenizer.end()
+    feed_text(alloc, tokenizer, row.0).is_ok()
+        && turn_plain(tokenizer).is_ok()
+        && feed_text(alloc, tokenizer, row.1).is_ok()
+        && tokenizer.nothing_pending()
+        && tokenizer.end().is_ok()
+        && is_in_words(alloc, &tokenizer.sink, row.2)
 }
 
-/// The same of a tokenizer over this sink, which is handed out.
-fn read_plainly<S: TokenSink + Drop>(
-    alloc: Global,
-    sink: S,
-    before: &str,
-    text: &str,
-) -> Result<S, ParseFault>
+/// The same of a tokenizer over this sink.
+fn is_read_plainly<S: TokenSink + Spoken + Drop>(alloc: Global, sink: S, row: &Plain) -> bool
     requires { S.is_sound (S.view sink) }
 {
-    let mut tokenizer = tokenizer_over(alloc, sink, PAGE)?;
-    let answer = feed_plainly(alloc, &mut tokenizer, before, text);
-    sink_if(tokenizer, answer)
+    let Ok(mut tokenizer) = tokenizer_over(alloc, sink, PAGE) else {
+        return false;
+    };
+    let is_right = is_fed_plainly(alloc, &mut tokenizer, row);
+    drop(sink_of(tokenizer));
+    is_right
 }
 
-fn is_read_plainly(alloc: Global, row: (&str, &str, &str)) -> bool {
-    match read_plainly(alloc, list_of(alloc, PAGE), row.0, row.1) {
-        Ok(sink) => is_in_words(alloc, &sink, row.2),
-        Err(_) => false,
-    }
+fn is_plain(alloc: Global, row: &Plain) -> bool {
+    is_read_plainly(alloc, list_of(alloc, PAGE), row)
 }
 
 #[test]
 fn all_that_follows_may_be_text(rt: HostRuntime) {
-    for &row in PLAIN {
-        see(&rt, is_read_plainly(rt.alloc(), row), row.0);
+    for row in PLAIN {
+        see(&rt, is_plain(rt.alloc(), row), row.0);
     }
 }

@@ -1,10 +1,10 @@
 //! Which texts tell errors, by their codes.
 
-use super::codes::Codes;
+use super::sinks::Naming;
 use super::{PAGE, Pieces, Setting, Table, read_over, read_whole, see};
 use html_tokenizer::State;
 use html_tokenizer::states::RawKind;
-use markup::{ParseFault, Text};
+use markup::ParseFault;
 use std::alloc::Global;
 use std::process::Abort;
 use text_pieces::in_two;
@@ -12,16 +12,17 @@ use text_pieces::in_two;
 /// A text, and the codes of its errors, each behind a space.
 type Row = (&'static str, &'static str);
 
-/// The codes that a text in these pieces tells.
-fn codes(alloc: Global, setting: Setting, pieces: Pieces) -> Result<Text, ParseFault> {
-    let sink = Codes::new(alloc, setting.asks_cdata);
-    Ok(read_over(alloc, sink, setting, pieces?)?.codes)
+/// What a sink is told that keeps the codes of the errors of a text in these pieces.
+fn read_codes(alloc: Global, setting: Setting, pieces: Pieces) -> Result<Naming, ParseFault> {
+    let pieces = pieces?;
+    let sink = Naming::new(alloc, setting.asks_cdata);
+    read_over(alloc, sink, setting, pieces)
 }
 
 /// Whether a text that is cut at this place tells just these errors.
 fn tells_cut(alloc: Global, setting: Setting, row: &Row, place: usize) -> bool {
-    match codes(alloc, setting, in_two(alloc, row.0, place)) {
-        Ok(codes) => codes.as_str() == row.1,
+    match read_codes(alloc, setting, in_two(alloc, row.0, place)) {
+        Ok(sink) => sink.codes.as_str() == row.1,
         Err(_) => false,
     }
 }
@@ -71,9 +72,11 @@ const COMMENTS: &[Row] = &[
     ),
 ];
 
+const COMMENT_TABLE: &[(Setting, &[Row])] = &[(PAGE, COMMENTS)];
+
 #[test]
 fn faulty_comments_tell_errors(rt: HostRuntime) {
-    assert_codes(&rt, rt.alloc(), &[(PAGE, COMMENTS)]);
+    assert_codes(&rt, rt.alloc(), COMMENT_TABLE);
 }
 
 const TAGS: &[Row] = &[
@@ -125,9 +128,11 @@ const TAGS: &[Row] = &[
     ("</>x<a", " missing-end-tag-name eof-in-tag"),
 ];
 
+const TAG_TABLE: &[(Setting, &[Row])] = &[(PAGE, TAGS)];
+
 #[test]
 fn faulty_tags_tell_errors(rt: HostRuntime) {
-    assert_codes(&rt, rt.alloc(), &[(PAGE, TAGS)]);
+    assert_codes(&rt, rt.alloc(), TAG_TABLE);
 }
 
 const DOCTYPES: &[Row] = &[
@@ -202,9 +207,11 @@ const DOCTYPES: &[Row] = &[
     ),
 ];
 
+const DOCTYPE_TABLE: &[(Setting, &[Row])] = &[(PAGE, DOCTYPES)];
+
 #[test]
 fn faulty_doctypes_tell_errors(rt: HostRuntime) {
-    assert_codes(&rt, rt.alloc(), &[(PAGE, DOCTYPES)]);
+    assert_codes(&rt, rt.alloc(), DOCTYPE_TABLE);
 }
 
 const TEXTS: &[Row] = &[

@@ -2,32 +2,15 @@
 ghost use Rattle.html_tokenizer.specs.Calls.{IsReadyIf, refusal};
 
 use super::sinks::Naming;
-use super::words::Spoken;
+use super::words::{Spoken, is_in_words};
 use super::{PAGE, list_of, put, see, sink_of, tokenizer_over};
 use html_tokenizer::{BufferQueue, TokenSink, Tokenizer};
 use markup::{ParseFault, TokenizerResult};
-use std::alloc::{AllocError, Global};
+use std::alloc::Global;
 
-/// Above the number of characters that are left in any queue below.
-const LONGEST: u32 = 12;
-
-/// What stands in the queue, which is empty afterwards.
-fn left_of(alloc: Global, queue: &mut BufferQueue) -> Result<String, AllocError> {
-    let mut left = String::new(alloc);
-    for _place in 0..LONGEST {
-        if let Some(c) = queue.next() {
-            left.push(c)?;
-        }
-    }
-    Ok(left)
-}
-
-/// Whether this is what stands in the queue, which is left there.
-fn has_left(alloc: Global, queue: &mut BufferQueue, want: &str) -> bool {
-    let Ok(left) = left_of(alloc, queue) else {
-        return false;
-    };
-    left.as_str() == want && queue.push_front(left).is_ok()
+/// Whether this is what stands in the queue.
+fn has_left(queue: &BufferQueue, want: &str) -> bool {
+    queue.as_str() == want
 }
 
 /// Puts a text before what is left.
@@ -35,8 +18,10 @@ fn write(alloc: Global, queue: &mut BufferQueue, text: &str) -> Result<(), Parse
     queue.push_front(String::from_str(alloc, text)?)
 }
 
-/// Why a text pauses.
+/// Why feeding ends.
 enum Reason {
+    /// All of the text is fed.
+    Done,
     /// For the script of the end tag at this place.
     Script(u64),
     /// For an encoding of this name.
@@ -135,8 +120,19 @@ const ENCODINGS: Row = Row {
     told: "xcb\n",
 };
 
-/// Whether what is fed pauses for this reason.
-fn pauses_for<S: TokenSink<Handle = u64>>(
+/// Whether this is why feeding ended.
+fn is_reason(found: &TokenizerResult<u64>, reason: &Reason) -> bool {
+    match found {
+        TokenizerResult::Done => matches!(reason, Reason::Done),
+        TokenizerResult::Script(found) => matches!(reason, Reason::Script(place) if place == found),
+        TokenizerResult::EncodingIndicator(named) => {
+            matches!(reason, Reason::Encoding(name) if named.as_str() == *name)
+        }
+    }
+}
+
+/// Whether feeding ends for this reason.
+fn ends_for<S: TokenSink<Handle = u64>>(
     tokenizer: &mut Tokenizer<S>,
     input: &mut BufferQueue,
     reason: &Reason,
@@ -144,31 +140,8 @@ fn pauses_for<S: TokenSink<Handle = u64>>(
     requires { IsReadyIf S.TokenSink (refusal tokenizer.old.stream) tokenizer.old }
     ensures { IsReadyIf S.TokenSink (refusal tokenizer.new.stream) tokenizer.new }
 {
-    let is_reason = match tokenizer.feed(input) {
-        Ok(TokenizerResult::Script(found)) => {
-            matches!(reason, Reason::Script(place) if *place == found)
-        }
-        Ok(TokenizerResult::EncodingIndicator(named)) => {
-            matches!(reason, Reason::Encoding(name) if named.as_str() == *name)
-        }
-        _ => false,
-    };
-    is_reason && tokenizer.nothing_pending()
-}
-
-/// Whether all of the input is fed, and nothing in it pauses.
-fn is_fed<S: TokenSink>(tokenizer: &mut Tokenizer<S>, input: &mut BufferQueue) -> bool
-    requires { IsReadyIf S.TokenSink (refusal tokenizer.old.stream) tokenizer.old }
-    ensures { IsReadyIf S.TokenSink (refusal tokenizer.new.stream) tokenizer.new }
-{
-    let is_done = matches!(tokenizer.feed(input), Ok(TokenizerResult::Done));
-    is_done && input.is_empty()
-}
-
-/// Whether this is what a sink was told, in words.
-fn was_told<S: Spoken>(alloc: Global, sink: &S, want: &str) -> bool {
-    match sink.words(alloc) {
-        Ok(words) => words.as_str() == want,
+    match tokenizer.feed(input) {
+        Ok(found) => is_reason(&found, reason),
         Err(_) => false,
     }
 }
@@ -183,9 +156,10 @@ fn is_paused<S: TokenSink<Handle = u64> + Spoken>(
     requires { IsReadyIf S.TokenSink (refusal tokenizer.old.stream) tokenizer.old }
     ensures { IsReadyIf S.TokenSink (refusal tokenizer.new.stream) tokenizer.new }
 {
-    pauses_for(tokenizer, input, &pause.reason)
-        && was_told(alloc, &tokenizer.sink, pause.before)
-        && has_left(alloc, input, pause.left)
+    ends_for(tokenizer, input, &pause.reason)
+        && tokenizer.nothing_pending()
+        && is_in_words(alloc, &tokenizer.sink, pause.before)
+        && has_left(input, pause.left)
         && write(alloc, input, pause.written).is_ok()
 }
 
@@ -218,9 +192,10 @@ fn is_read_on<S: TokenSink<Handle = u64> + Spoken>(
 {
     put(alloc, input, row.text).is_ok()
         && are_paused(alloc, tokenizer, input, row.pauses)
-        && is_fed(tokenizer, input)
+        && ends_for(tokenizer, input, &Reason::Done)
+        && input.is_empty()
         && tokenizer.end().is_ok()
-        && was_told(alloc, &tokenizer.sink, row.told)
+        && is_in_words(alloc, &tokenizer.sink, row.told)
 }
 
 /// The same of a tokenizer over this sink.
@@ -248,5 +223,5 @@ fn scripts_write_before_what_is_left(rt: HostRuntime) {
 
 #[test]
 fn names_of_encodings_pause(rt: HostRuntime) {
-    assert!(rt; is_row(rt.alloc(), Naming::new(rt.alloc()), &ENCODINGS));
+    assert!(rt; is_row(rt.alloc(), Naming::new(rt.alloc(), false), &ENCODINGS));
 }

@@ -1,5 +1,5 @@
-//! A sink that names encodings.
-ghost use Rattle.std.specs.Prelude.{◌≡◌, ⊤, true, false, IfOk, IfErr};
+//! A sink that names encodings, and keeps text and the codes of errors.
+ghost use Rattle.std.specs.Prelude.{◌≡◌, ⊤, true, IfOk, IfErr};
 ghost use Rattle.markup.specs.declared.fault.ParseFault.TheVariants.{Memory};
 ghost use Rattle.html_tokens.specs.Sink.{numbered, fails, tells_failed, Counts, Gives, OnRefused};
 ghost use Rattle.html_tokenizer_tests.specs.TestSinks.{reply_to, named, named_laws};
@@ -9,24 +9,69 @@ use html_tokenizer::{Token, TokenSink, TokenSinkResult};
 use markup::{ParseFault, Text};
 use std::alloc::{AllocError, Global};
 
-/// A sink to which each tag names an encoding.
+/// A sink to which each tag names an encoding. It keeps the text and the codes of the errors that it is told.
 #[derive(Drop)]
 pub struct Naming {
     alloc: Global,
+    asks_cdata: bool,
     // The text that was told, in one.
     text: Text,
+    /// The codes of the errors that were told, each behind a space.
+    pub codes: Text,
     errors: u64,
     has_failed: bool,
 }
 
 impl Naming {
-    /// A sink that was told nothing yet.
-    pub fn new(alloc: Global) -> Naming {
+    /// A sink that was told nothing yet. `asks_cdata` says whether `<![CDATA[` opens a section.
+    pub fn new(alloc: Global, asks_cdata: bool) -> Naming {
         Naming {
             alloc,
-            text: Text::new(String::new(alloc)),
+            asks_cdata,
+            text: Text::empty(alloc),
+            codes: Text::empty(alloc),
             errors: 0,
             has_failed: false,
+        }
+    }
+
+    // Keeps a code.
+    fn keep_code(&mut self, code: &str) -> Result<(), ParseFault>
+        ensures memory { IfErr result (λ fault. fault ≡ Memory) }
+        ensures kept { self.new ≡ record self.old { codes = self.new.codes } }
+    {
+        self.codes.push(' ')?;
+        self.codes.push_str(code)
+    }
+
+    // Keeps the text or the code of a token.
+    fn keep(&mut self, token: &Token) -> Result<(), ParseFault>
+        ensures counts { Counts true token.now result self.old.errors self.new.errors }
+        ensures memory { IfErr result (λ fault. fault ≡ Memory) }
+        ensures kept { self.new.has_failed ≡ self.old.has_failed }
+        ensures asks { self.new.asks_cdata ≡ self.old.asks_cdata }
+    {
+        match token {
+            Token::CharacterTokens(text) => self.text.append(text),
+            Token::ParseError(code) => {
+                self.errors = self.errors.saturating_add(1);
+                self.keep_code(code)
+            }
+            _ => Ok(()),
+        }
+    }
+
+    // What a token is answered by.
+    fn reply(&self, token: &Token) -> Result<TokenSinkResult<u64>, ParseFault>
+        ensures reply { IfOk result (λ reply. reply_to token.now ≡ numbered (λ n. n) reply) }
+        ensures memory { IfErr result (λ fault. fault ≡ Memory) }
+    {
+        match token {
+            Token::TagToken(tag) => {
+                let name = Text::from_str(self.alloc, tag.name.as_str())?;
+                Ok(TokenSinkResult::EncodingIndicator(name))
+            }
+            _ => Ok(TokenSinkResult::Continue),
         }
     }
 
@@ -36,29 +81,18 @@ impl Naming {
         ensures counts { Counts true token.now result self.old.errors self.new.errors }
         ensures memory { IfErr result (λ fault. fault ≡ Memory) }
         ensures kept { self.new.has_failed ≡ self.old.has_failed }
+        ensures asks { self.new.asks_cdata ≡ self.old.asks_cdata }
     {
-        match token {
-            Token::TagToken(tag) => {
-                let name = Text::from_str(self.alloc, tag.name.as_str())?;
-                Ok(TokenSinkResult::EncodingIndicator(name))
-            }
-            Token::CharacterTokens(text) => {
-                self.text.append(text)?;
-                Ok(TokenSinkResult::Continue)
-            }
-            Token::ParseError(_) => {
-                self.errors = self.errors.saturating_add(1);
-                Ok(TokenSinkResult::Continue)
-            }
-            _ => Ok(TokenSinkResult::Continue),
-        }
+        self.keep(token)?;
+        self.reply(token)
     }
 
     // Takes a token, or refuses it where memory was wanting.
     fn hear(&mut self, token: &Token, line_number: u64) -> Result<TokenSinkResult<u64>, ParseFault>
-        ensures gives { Gives (λ n. n) (named tt token.now line_number) result tt }
+        ensures gives { Gives (λ n. n) (named self.old.asks_cdata token.now line_number) result self.new.asks_cdata }
         ensures failed_before { tells_failed result ≡ self.old.has_failed }
         ensures failed_after { self.new.has_failed ≡ fails result }
+        ensures unchanged { OnRefused result (self.new.asks_cdata ≡ self.old.asks_cdata) }
         ensures same_errors { OnRefused result (self.new.errors ≡ self.old.errors) }
         ensures counts { Counts true token.now result self.old.errors self.new.errors }
     {
@@ -74,11 +108,13 @@ impl Naming {
 }
 
 impl TokenSink for Naming {
+    ghost use Rattle.std.specs.Prelude.{Bool};
+
     type Handle = u64;
 
-    ghost State = { Unit {0} };
+    ghost State = { Bool };
 
-    ghost view = { λ _. tt };
+    ghost view = { λ n. n.asks_cdata };
 
     ghost is_sound = { λ _. ⊤ };
 
@@ -86,7 +122,7 @@ impl TokenSink for Naming {
 
     ghost ended = { λ s. s };
 
-    ghost asks_cdata = { λ _. false };
+    ghost asks_cdata = { λ s. s };
 
     ghost errors = { λ n. n.errors };
 
@@ -105,13 +141,15 @@ impl TokenSink for Naming {
         token: Token,
         line_number: u64,
     ) -> Result<TokenSinkResult<u64>, ParseFault> {
-        self.hear(&token, line_number)
+        let answer = self.hear(&token, line_number);
+        drop(token);
+        answer
     }
 
     fn end(&mut self) {}
 
     fn adjusted_current_node_present_but_not_in_html_namespace(&self) -> bool {
-        false
+        self.asks_cdata
     }
 }
 

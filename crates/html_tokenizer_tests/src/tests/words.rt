@@ -91,14 +91,6 @@ pub fn in_words(alloc: Global, sink: &Listed) -> Result<String, AllocError> {
     Ok(out)
 }
 
-/// Whether this is what a list was told, in words.
-pub fn is_in_words(alloc: Global, sink: &Listed, want: &str) -> bool {
-    match in_words(alloc, sink) {
-        Ok(words) => words.as_str() == want,
-        Err(_) => false,
-    }
-}
-
 /// A sink that says in words what it was told.
 pub trait Spoken {
     fn words(&self, alloc: Global) -> Result<String, AllocError>;
@@ -107,5 +99,13 @@ pub trait Spoken {
 impl Spoken for Listed {
     fn words(&self, alloc: Global) -> Result<String, AllocError> {
         in_words(alloc, self)
+    }
+}
+
+/// Whether this is what a sink was told, in words.
+pub fn is_in_words<S: Spoken>(alloc: Global, sink: &S, want: &str) -> bool {
+    match sink.words(alloc) {
+        Ok(words) => words.as_str() == want,
+        Err(_) => false,
     }
 }
