@@ -1,10 +1,12 @@
 -- What a turn comes to, step by step.
-use Rattle.std.proofs.Common.{◌≡◌, ◌∙◌, ℕ, ◌-◌, suc, true, false, refl, sym, ap, subst, arith}
+use Rattle.std.proofs.Common.{◌≡◌, ◌∙◌, ℕ, ◌-◌, suc, true, false, Result, refl, sym, ap, subst, arith}
+use Rattle.std.specs.Prelude.{IfOk}
 use Rattle.html_tokens.specs.declared.token.Token.{Token}
+use Rattle.html_rules.specs.Actions.{act}
 use Rattle.html_rules.specs.ForeignContent.{is_foreign}
 use Rattle.html_rules.specs.Modes.Foreign.{in_foreign_content}
-use Rattle.html_rules.specs.Rules.{Finished, first_fit, most_modes, rows, turn, turn_by_row, turn_of, using_rules_for}
-use Rattle.html_rules.specs.State.{State}
+use Rattle.html_rules.specs.Rules.{Finished, Turn, concluded, first_fit, most_modes, rows, turn, turn_by_row, turn_of, using_rules_for}
+use Rattle.html_rules.specs.State.{State, current_number}
 use Rattle.html_rules.specs.Table.{Row}
 use Rattle.html_rules.specs.declared.insertion_mode.InsertionMode.{InsertionMode}
 use Rattle.html_tree_builder.specs.Turning.{MayTakeRow, MayUse}
@@ -27,6 +29,14 @@ unfolding MayUse
 may-use-row n m t s r some is may =
     let row : MayUse (suc (n - 1)) m t s = subst (λ n. MayUse n m t s) (sym (one-less n some)) may in
     subst (λ r. MayTakeRow (MayUse (n - 1)) (using_rules_for (n - 1)) r t s) (sym is) row
+
+-- what a row makes of a token, where its actions and its end are done one by one
+pub turned-row : (n : ℕ) (r : Row) (t : Token) (s u : State) (script : ℕ) (x : Turn) → script ≡ current_number s.open_elems → u ≡ act r.does t s → concluded (using_rules_for n) r.ends t script u ≡ x → x ≡ turn_by_row (using_rules_for n) r t s
+turned-row n r t s u script x number acted is = sym is ∙ (ap (λ number. concluded (using_rules_for n) r.ends t number u) number ∙ ap (concluded (using_rules_for n) r.ends t (current_number s.open_elems)) acted)
+
+-- what an answer comes to is the same as something
+pub comes-to : {T E A : Type 0} (f : T → A) (r : Result T E) (x y : A) → x ≡ y → IfOk r (λ v. f v ≡ x) → IfOk r (λ v. f v ≡ y)
+comes-to f r x y e = subst (λ z. IfOk r (λ v. f v ≡ z)) e
 
 -- the row of foreign content
 pub turned-foreign : (t : Token) (s : State) (r : Row) → true ≡ is_foreign s t → r ≡ first_fit in_foreign_content t s → turn_by_row (using_rules_for most_modes) r t s ≡ turn t s

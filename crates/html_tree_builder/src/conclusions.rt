@@ -12,6 +12,8 @@ ghost use Rattle.html_rules.specs.declared.insertion_mode.InsertionMode.{Inserti
 ghost use Rattle.html_names.specs.Given.{Gives};
 ghost use Rattle.html_modes.specs.Tables.{conclusion_of};
 ghost use Rattle.html_tree_builder.specs.Rows.{ending_of, next_turn};
+ghost use Rattle.html_tree_builder.specs.declared.conclusions.Ending.TheVariants.{Replied};
+ghost use Rattle.html_tree_builder.specs.declared.conclusions.Next.TheVariants.{Ends};
 ghost use Rattle.html_tree_builder.specs.States.{Stands, state_of};
 ghost use Rattle.html_tree_builder.specs.Told.{token_of};
 ghost use Rattle.html_tree_builder.specs.Turning.{MayConclude, MayGoOn, MayUse};
@@ -110,6 +112,13 @@ fn encoding_reply<Handle>(alloc: Global, label: Option<&str>) -> Result<Ending<H
     }
 }
 
+/// The turn ends with a reply.
+fn replied<Handle>(reply: TokenSinkResult<Handle>) -> Next<Handle>
+    ensures { result ≡ Ends (Replied reply) }
+{
+    Next::Ends(Ending::Replied(reply))
+}
+
 impl<Sink: TreeSink> Construction<Sink> {
     /// What comes once the actions of a row are done, where `script` was the current node before them.
     pub(crate) fn conclude(
@@ -138,13 +147,9 @@ impl<Sink: TreeSink> Construction<Sink> {
             Conclusion::Using(mode) => Ok(Next::Using(*mode)),
             Conclusion::UsingThen(mode, after) => Ok(Next::UsingThen(*mode, after)),
             Conclusion::UsingCurrentMode => Ok(Next::Using(self.mode)),
-            Conclusion::RawText(kind) => Ok(Next::Ends(Ending::Replied(TokenSinkResult::RawData(
-                *kind,
-            )))),
-            Conclusion::PlainText => Ok(Next::Ends(Ending::Replied(TokenSinkResult::Plaintext))),
-            Conclusion::RunScript => Ok(Next::Ends(Ending::Replied(TokenSinkResult::Script(
-                script,
-            )))),
+            Conclusion::RawText(kind) => Ok(replied(TokenSinkResult::RawData(*kind))),
+            Conclusion::PlainText => Ok(replied(TokenSinkResult::Plaintext)),
+            Conclusion::RunScript => Ok(replied(TokenSinkResult::Script(script))),
             Conclusion::TellEncoding => {
                 Ok(Next::Ends(encoding_reply(self.alloc, told.encoding_hint())?))
             }

@@ -47,16 +47,19 @@ fn name_of(mode: InsertionMode) -> &'static str {
     }
 }
 
-/// The same, with the tag's name and the mode.
-fn exactly(alloc: Global, told: &Told<'_>, mode: InsertionMode) -> Result<String, ParseFault> {
-    let mut message = String::new(alloc);
+/// Writes the same, with the tag's name and the mode.
+fn write_exactly(
+    message: &mut String,
+    told: &Told<'_>,
+    mode: InsertionMode,
+) -> Result<(), ParseFault> {
     message.push_str(unexpected(told))?;
     message.push_str(" ")?;
     message.push_str(told.name.as_str())?;
     message.push_str(" in the mode \"")?;
     message.push_str(name_of(mode))?;
     message.push_str("\"")?;
-    Ok(message)
+    Ok(())
 }
 
 /// What the sink is told of a token that was not expected; if `exact`, with the tag's name and the mode, where there is memory for that.
@@ -67,7 +70,8 @@ pub(crate) fn of_token(
     exact: bool,
 ) -> CowStr<'static> {
     if exact {
-        if let Ok(message) = exactly(alloc, told, mode) {
+        let mut message = String::new(alloc);
+        if let Ok(()) = write_exactly(&mut message, told, mode) {
             return CowStr::Owned(message);
         }
     }

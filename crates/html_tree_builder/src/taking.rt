@@ -163,20 +163,29 @@ impl<Sink: TreeSink> Construction<Sink> {
         Ok(())
     }
 
-    /// Takes a doctype.
+    /// Takes a doctype, which is taken out where it belongs.
     #[inline(never)]
-    fn take_doctype(&mut self, sink: &mut Sink, doctype: Doctype) -> Result<(), ParseFault>
+    fn take_doctype(&mut self, sink: &mut Sink, doctype: &mut Doctype) -> Result<(), ParseFault>
         requires stands { Stands (Sink.forest sink.old) self.old }
-        ensures ok { OnOk result ((a : Answers) → state_of a self.new (Sink.forest sink.new) ≡ doctype_taken self.old.mode doctype (state_of a self.old (Sink.forest sink.old))) }
+        ensures ok { OnOk result ((a : Answers) → state_of a self.new (Sink.forest sink.new) ≡ doctype_taken self.old.mode doctype.old (state_of a self.old (Sink.forest sink.old))) }
         ensures fault { IfErr result (λ fault. fault ≡ Memory) }
     {
         match self.mode {
-            InsertionMode::Initial => self.take_first_doctype(sink, doctype),
+            InsertionMode::Initial => {
+                self.take_first_doctype(sink, mem::replace(doctype, Doctype::default()))
+            }
             _ => {
                 self.tell_doctype(sink, true);
                 Ok(())
             }
         }
+    }
+
+    /// Takes the message of an error, which is told on. Nothing else changes.
+    fn take_error(&mut self, sink: &mut Sink, message: &mut CowStr<'static>)
+        ensures { built Sink.TreeSink self.new (Sink.forest sink.new) ≡ parse_error (built Sink.TreeSink self.old (Sink.forest sink.old)) }
+    {
+        sink.parse_error(mem::replace(message, CowStr::Borrowed("")));
     }
 
     /// Takes what is neither text nor a doctype.
@@ -218,9 +227,9 @@ impl<Sink: TreeSink> Construction<Sink> {
         self.take_told(sink, &Told::of_tag(tag), turns)
     }
 
-    /// Takes a token, of which an error's message and a doctype are taken out. An error is told on, and an empty text changes nothing. Its
-    /// turns are counted, unless it is text.
-    #[tactic(auto, unfolding(html_rules::specs::Step::taken, html_rules::specs::Stack::parse_error))]
+    /// Takes a token, of which an error's message is taken out, and a doctype where it belongs. An error is told on, and an empty text
+    /// changes nothing. Its turns are counted, unless it is text.
+    #[tactic(auto, unfolding(html_rules::specs::Step::taken))]
     pub(crate) fn take(
         &mut self,
         sink: &mut Sink,
@@ -237,7 +246,7 @@ impl<Sink: TreeSink> Construction<Sink> {
     {
         match token {
             Token::ParseError(message) => {
-                sink.parse_error(mem::replace(message, CowStr::Borrowed("")));
+                self.take_error(sink, message);
                 Ok(TokenSinkResult::Continue)
             }
             Token::CharacterTokens(text) => {
@@ -246,7 +255,7 @@ impl<Sink: TreeSink> Construction<Sink> {
             }
             Token::DoctypeToken(doctype) => {
                 self.set_ignore_lf(false);
-                self.take_doctype(sink, mem::replace(doctype, Doctype::default()))?;
+                self.take_doctype(sink, doctype)?;
                 Ok(TokenSinkResult::Continue)
             }
             Token::TagToken(tag) => self.take_tag(sink, tag, turns),

@@ -1,5 +1,5 @@
 //! What is inserted under another name than the token's, or without a token (HTML Standard, sections 13.2.6.1 and 13.2.6.4.7).
-ghost use Rattle.std.specs.Prelude.{◌≡◌, ◌∷◌, [], false, IfErr, OnOk};
+ghost use Rattle.std.specs.Prelude.{◌≡◌, ◌∷◌, [], false, IfErr, IfOk, OnOk};
 ghost use Rattle.markup.specs.declared.fault.ParseFault.TheVariants.{Memory};
 ghost use Rattle.html_modes.specs.Tables.{spelled};
 ghost use Rattle.html_rules.specs.Actions.{for_tag};
@@ -16,6 +16,22 @@ use html_modes::Implied;
 use html_names::ElementClass;
 use html_tokens::{Tag, TagKind};
 use markup::{Attributes, ParseFault, Text, TreeSink};
+use std::alloc::Global;
+
+/// A tag under another name.
+fn renamed(alloc: Global, tag: &Tag, name: Implied) -> Result<Tag, ParseFault>
+    ensures ok { IfOk result (λ made. made ≡ record tag.now { name = spelled name }) }
+    ensures fault { IfErr result (λ fault. fault ≡ Memory) }
+{
+    let attrs = tag.attrs.copy(alloc)?;
+    Ok(Tag {
+        kind: tag.kind,
+        name: name.local_name(alloc)?,
+        self_closing: tag.self_closing,
+        attrs,
+        had_duplicate_attributes: tag.had_duplicate_attributes,
+    })
+}
 
 impl<Sink: TreeSink> Construction<Sink> {
     /// A tag's element is inserted under another name, and popped at once.
@@ -33,16 +49,8 @@ impl<Sink: TreeSink> Construction<Sink> {
         let Content::Tag(tag) = told.content else {
             return Ok(());
         };
-        let name = name.local_name(self.alloc)?;
-        let class = ElementClass::html(&name);
-        let attrs = tag.attrs.copy(self.alloc)?;
-        let tag = Tag {
-            kind: tag.kind,
-            name,
-            self_closing: tag.self_closing,
-            attrs,
-            had_duplicate_attributes: tag.had_duplicate_attributes,
-        };
+        let tag = renamed(self.alloc, tag, name)?;
+        let class = ElementClass::html(&tag.name);
         self.stack
             .insert_and_pop_element_for(sink, class, tag, self.foster_parenting, self.form_elem)?;
         Ok(())

@@ -1,4 +1,6 @@
-use Rattle.std.proofs.Common.{◌∙◌, ap}
+use Rattle.std.proofs.Common.{◌∙◌, ap, subst, sym}
+use Rattle.std.specs.Prelude.{IsSome}
+use Rattle.markup.specs.Forest.{above_of, data_of, element_name}
 use Rattle.html_rules.specs.Documents.{before_fragment}
 use Rattle.html_tree_builder.specs.States.{answers_of, built, context_in, number_if, setting_of}
 use Rattle.html_tree_builder.proofs.BuildersBegun.{form-node, fragment-usable}
@@ -30,3 +32,12 @@ returns-clause-usable g c =
     fragment-usable setting n form (g.Sink.TreeSink.forest c.args.sink) f (built g.Sink.TreeSink c.in_ok-construction.construction r) c.get_document.ensures.same c.get_document.ensures.is_forest c.get_document.ensures.contents
     c.requires.top c.requires.context c.requires.form
     (c.in_ok-construction.ensures.ok a ∙ ap (λ context. before_fragment setting context form f) c.in_ok-context.ensures.ok)
+
+pub context_of-requires : goal.context_of-requires
+context_of-requires g c = subst (λ f. IsSome (element_name (data_of f (g.Sink.TreeSink.node c.args.context)))) (sym c.get_document.ensures.same) c.requires.context
+
+pub for_fragment-requires-clause-tree : goal.for_fragment-requires-clause-tree
+for_fragment-requires-clause-tree g c = record { forest = c.get_document.ensures.is_forest; contents = c.get_document.ensures.contents }
+
+pub for_fragment-requires-clause-top : goal.for_fragment-requires-clause-top
+for_fragment-requires-clause-top g c = ap (λ f. above_of f 0) c.get_document.ensures.same ∙ c.requires.top

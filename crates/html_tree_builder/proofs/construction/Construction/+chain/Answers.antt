@@ -1,11 +1,12 @@
-use Rattle.std.proofs.Common.{rules, ◌≡◌, sym, subst}
+use Rattle.std.proofs.Common.{rules, ◌≡◌, ◌∙◌, ap, sym, subst}
 use Rattle.html_rules.specs.Actions.{act}
-use Rattle.html_rules.specs.Rules.{using_rules_for}
+use Rattle.html_rules.specs.Rules.{turn_of, using_rules_for}
 use Rattle.html_modes.specs.Tables.{action_of, conclusion_of, row_of}
+use Rattle.html_tree_builder.specs.Rows.{ending_of}
 use Rattle.html_tree_builder.specs.States.{answers_of, built}
 use Rattle.html_tree_builder.specs.Told.{token_of}
 use Rattle.html_tree_builder.specs.Turning.{MayConclude, MayUse}
-use Rattle.html_tree_builder.proofs.Turned.{may-use-row, used-none, used-row}
+use Rattle.html_tree_builder.proofs.Turned.{comes-to, may-use-row, turned-row, used-none, used-row}
 use Rattle.html_tree_builder.proofs.construction.Construction.+chain.Goals as goal
 
 pub go_on-use_rules_for-requires : goal.go_on-use_rules_for-requires
@@ -24,7 +25,7 @@ take_by_row-go_on-requires g t c κs within =
     let sink = g.Sink.TreeSink in
     let token = token_of c.args.told.now.content in
     let f = sink.forest c.take_action.new.sink in
-    let acted : built sink c.take_action.new.self f ≡ act (action_of c.args.row.now.does) token (built sink c.args.self.now (sink.forest c.args.sink.now)) = rw (← c.current_handle-script.ensures.same) c.in_ok-take_action.ensures.ok in
+    let acted : built sink c.take_action.new.self f ≡ act (action_of c.args.row.now.does) token (built sink c.args.self.now (sink.forest c.args.sink.now)) = c.in_ok-take_action.ensures.ok ∙ ap (λ x. act (action_of c.args.row.now.does) token (built sink c.args.self.now x)) c.current_handle-script.ensures.same in
     let ends = subst (MayConclude (MayUse c.args.left) (using_rules_for c.args.left) (conclusion_of c.args.row.now.ends) token) (sym acted) c.requires.may.1 in
     let may = c.in_ok-next.ensures.may c.args.left (answers_of sink.integration_point sink.allows_shadow_roots sink.attaches_shadow) f ends in
     let stands = c.in_ok-next.ensures.stands f c.in_ok-take_action.ensures.stands in
@@ -46,8 +47,22 @@ use_rules_for-returns-clause-ok g t c =
     let sink = g.Sink.TreeSink in
     let f = sink.forest c.args.sink.now in
     let is = c.first_row-row.ensures (answers_of sink.integration_point sink.allows_shadow_roots sink.attaches_shadow) f in
-    rw (← used-row c.args.left c.args.mode (token_of c.args.told.now.content) (built sink c.args.self.now f) (row_of c.first_row-row.result.now) c.if-left-eq0.false is)
+    comes-to (λ ending. turn_of (built sink c.take_by_row.new.self (sink.forest c.take_by_row.new.sink)) (ending_of sink.node ending)) c.take_by_row.result _ _
+    (used-row c.args.left c.args.mode (token_of c.args.told.now.content) (built sink c.args.self.now f) (row_of c.first_row-row.result.now) c.if-left-eq0.false is)
     c.take_by_row.ensures.ok
 
 pub go_on-returns-in_ok-take_action-in-UsingThen-clause-ok : goal.go_on-returns-in_ok-take_action-in-UsingThen-clause-ok
 go_on-returns-in_ok-take_action-in-UsingThen-clause-ok g t c = search rules
+
+pub take_by_row-returns-clause-ok : goal.take_by_row-returns-clause-ok
+take_by_row-returns-clause-ok g t c =
+    let sink = g.Sink.TreeSink in
+    let token = token_of c.args.told.now.content in
+    let f = sink.forest c.take_action.new.sink in
+    let s = built sink c.args.self.now (sink.forest c.args.sink.now) in
+    comes-to (λ ending. turn_of (built sink c.go_on.new.self (sink.forest c.go_on.new.sink)) (ending_of sink.node ending)) c.go_on.result _ _
+    (turned-row c.args.left (row_of c.args.row.now) token s (built sink c.take_action.new.self f) (sink.node c.current_handle-script.result) _
+    c.current_handle-script.ensures.number
+    (c.in_ok-take_action.ensures.ok ∙ ap (λ x. act (action_of c.args.row.now.does) token (built sink c.args.self.now x)) c.current_handle-script.ensures.same)
+    (c.in_ok-next.ensures.ok (answers_of sink.integration_point sink.allows_shadow_roots sink.attaches_shadow) f (using_rules_for c.args.left)))
+    c.go_on.ensures.ok

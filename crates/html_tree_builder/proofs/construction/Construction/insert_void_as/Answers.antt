@@ -1,4 +1,4 @@
-use Rattle.std.proofs.Common.{refl, sym, ◌∙◌, ap, ap₂}
+use Rattle.std.proofs.Common.{refl, sym, ◌∙◌, ap}
 use Rattle.html_modes.specs.Tables.{spelled}
 use Rattle.html_rules.specs.Actions.{for_tag}
 use Rattle.html_rules.specs.Places.{insert_and_pop_element_for}
@@ -12,5 +12,5 @@ returns-clause-ok g c = λ a.
     rw (← c.self.view_is)
     (let s = state_of a (left_of c.self.view_is) (g.Sink.TreeSink.forest c.args.sink.now) in
     c.in_ok-insert_and_pop_element_for.ensures.ok s refl
-    ∙ ap₂ (λ name attrs. insert_and_pop_element_for (record c.in-Tag.tag.now { name = name; attrs = attrs }) s) c.in_ok-name.ensures.ok c.in_ok-attrs.ensures.ok
+    ∙ ap (λ tag. insert_and_pop_element_for tag s) c.in_ok-tag.ensures.ok
     ∙ ap (λ x. for_tag (λ tag. insert_and_pop_element_for (record tag { name = spelled c.args.name })) (token_of x) s) (sym c.in-Tag.is))

@@ -1,6 +1,7 @@
-use Rattle.std.proofs.Common.{◌≡◌}
+use Rattle.std.proofs.Common.{◌≡◌, subst}
 use Rattle.html_tokens.specs.Sink.{numbered}
 use Rattle.html_rules.specs.Rules.{Again, Finished, Replied, settle, turn, turn_of}
+use Rattle.html_tree_builder.specs.Rows.{ending_of}
 use Rattle.html_tree_builder.specs.States.{answers_of, built}
 use Rattle.html_tree_builder.specs.Told.{token_of}
 use Rattle.html_tree_builder.proofs.MayTurns.{may-turn}
@@ -29,7 +30,7 @@ loop-acknowledged-smaller g c =
     let t = token_of c.args.told.now.content in
     let s = built sink c.loop-acknowledged.self (sink.forest c.loop-acknowledged.sink) in
     let r = built sink c.turn.new.self (sink.forest c.turn.new.sink) in
-    let made : turn_of r Again ≡ turn t s = rw c.in-Again.is at c.in_ok-turn.ensures.ok in
+    let made : turn_of r Again ≡ turn t s = subst (λ e. turn_of r (ending_of sink.node e) ≡ turn t s) c.in-Again.is c.in_ok-turn.ensures.ok in
     fewer (all_turns c.args.self.now.stack.open_elems) t (settle t (built sink c.args.self.now (sink.forest c.args.sink.now))) s r c.loop-acknowledged.invariant.on made
 
 pub loop-acknowledged-preserved : goal.loop-acknowledged-preserved
@@ -38,7 +39,7 @@ loop-acknowledged-preserved g c =
     let t = token_of c.args.told.now.content in
     let s = built sink c.loop-acknowledged.self (sink.forest c.loop-acknowledged.sink) in
     let r = built sink c.turn.new.self (sink.forest c.turn.new.sink) in
-    let made : turn_of r Again ≡ turn t s = rw c.in-Again.is at c.in_ok-turn.ensures.ok in
+    let made : turn_of r Again ≡ turn t s = subst (λ e. turn_of r (ending_of sink.node e) ≡ turn t s) c.in-Again.is c.in_ok-turn.ensures.ok in
     record {
       stands = c.in_ok-turn.ensures.stands;
       may = comes-again t s r c.loop-acknowledged.invariant.may made;
@@ -52,7 +53,7 @@ returns-in-Finished-clause-state g c =
     let t = token_of c.args.told.now.content in
     let s = built sink c.loop-acknowledged.self (sink.forest c.loop-acknowledged.sink) in
     let r = built sink c.turn.new.self (sink.forest c.turn.new.sink) in
-    let made : turn_of r (Finished c.in-Finished.acknowledged) ≡ turn t s = rw c.in-Finished.is at c.in_ok-turn.ensures.ok in
+    let made : turn_of r (Finished c.in-Finished.acknowledged) ≡ turn t s = subst (λ e. turn_of r (ending_of sink.node e) ≡ turn t s) c.in-Finished.is c.in_ok-turn.ensures.ok in
     let checked = c.check_acknowledged.ensures.state (answers_of sink.integration_point sink.allows_shadow_roots sink.attaches_shadow) in
     (finishes (all_turns c.args.self.now.stack.open_elems) t (settle t (built sink c.args.self.now (sink.forest c.args.sink.now))) s r (built sink c.turn.new.self (sink.forest c.check_acknowledged.new.sink)) c.in-Finished.acknowledged c.loop-acknowledged.invariant.on made checked).0
 
@@ -62,7 +63,7 @@ returns-in-Finished-clause-reply g c =
     let t = token_of c.args.told.now.content in
     let s = built sink c.loop-acknowledged.self (sink.forest c.loop-acknowledged.sink) in
     let r = built sink c.turn.new.self (sink.forest c.turn.new.sink) in
-    let made : turn_of r (Finished c.in-Finished.acknowledged) ≡ turn t s = rw c.in-Finished.is at c.in_ok-turn.ensures.ok in
+    let made : turn_of r (Finished c.in-Finished.acknowledged) ≡ turn t s = subst (λ e. turn_of r (ending_of sink.node e) ≡ turn t s) c.in-Finished.is c.in_ok-turn.ensures.ok in
     let checked = c.check_acknowledged.ensures.state (answers_of sink.integration_point sink.allows_shadow_roots sink.attaches_shadow) in
     (finishes (all_turns c.args.self.now.stack.open_elems) t (settle t (built sink c.args.self.now (sink.forest c.args.sink.now))) s r (built sink c.turn.new.self (sink.forest c.check_acknowledged.new.sink)) c.in-Finished.acknowledged c.loop-acknowledged.invariant.on made checked).1
 
@@ -72,7 +73,7 @@ returns-in-Replied-clause-state g c =
     let t = token_of c.args.told.now.content in
     let s = built sink c.loop-acknowledged.self (sink.forest c.loop-acknowledged.sink) in
     let r = built sink c.turn.new.self (sink.forest c.turn.new.sink) in
-    let made : turn_of r (Replied (numbered sink.node c.in-Replied.reply)) ≡ turn t s = rw c.in-Replied.is at c.in_ok-turn.ensures.ok in
+    let made : turn_of r (Replied (numbered sink.node c.in-Replied.reply)) ≡ turn t s = subst (λ e. turn_of r (ending_of sink.node e) ≡ turn t s) c.in-Replied.is c.in_ok-turn.ensures.ok in
     (replies (all_turns c.args.self.now.stack.open_elems) t (settle t (built sink c.args.self.now (sink.forest c.args.sink.now))) s r (numbered sink.node c.in-Replied.reply) c.loop-acknowledged.invariant.on made).0
 
 pub returns-in-Replied-clause-reply : goal.returns-in-Replied-clause-reply
@@ -81,7 +82,7 @@ returns-in-Replied-clause-reply g c =
     let t = token_of c.args.told.now.content in
     let s = built sink c.loop-acknowledged.self (sink.forest c.loop-acknowledged.sink) in
     let r = built sink c.turn.new.self (sink.forest c.turn.new.sink) in
-    let made : turn_of r (Replied (numbered sink.node c.in-Replied.reply)) ≡ turn t s = rw c.in-Replied.is at c.in_ok-turn.ensures.ok in
+    let made : turn_of r (Replied (numbered sink.node c.in-Replied.reply)) ≡ turn t s = subst (λ e. turn_of r (ending_of sink.node e) ≡ turn t s) c.in-Replied.is c.in_ok-turn.ensures.ok in
     (replies (all_turns c.args.self.now.stack.open_elems) t (settle t (built sink c.args.self.now (sink.forest c.args.sink.now))) s r (numbered sink.node c.in-Replied.reply) c.loop-acknowledged.invariant.on made).1
 
 pub returns-in-Finished-clause-counted : goal.returns-in-Finished-clause-counted
@@ -90,7 +91,7 @@ returns-in-Finished-clause-counted g c =
     let t = token_of c.args.told.now.content in
     let s = built sink c.loop-acknowledged.self (sink.forest c.loop-acknowledged.sink) in
     let r = built sink c.turn.new.self (sink.forest c.turn.new.sink) in
-    let made : turn_of r (Finished c.in-Finished.acknowledged) ≡ turn t s = rw c.in-Finished.is at c.in_ok-turn.ensures.ok in
+    let made : turn_of r (Finished c.in-Finished.acknowledged) ≡ turn t s = subst (λ e. turn_of r (ending_of sink.node e) ≡ turn t s) c.in-Finished.is c.in_ok-turn.ensures.ok in
     counted-finishes (all_turns c.args.self.now.stack.open_elems) t (settle t (built sink c.args.self.now (sink.forest c.args.sink.now))) s r c.in-Finished.acknowledged _ c.loop-acknowledged.turns.count _ c.loop-acknowledged.invariant.on made c.loop-acknowledged.invariant.counted c.add_one.ensures
 
 pub returns-in-Replied-clause-counted : goal.returns-in-Replied-clause-counted
@@ -99,7 +100,7 @@ returns-in-Replied-clause-counted g c =
     let t = token_of c.args.told.now.content in
     let s = built sink c.loop-acknowledged.self (sink.forest c.loop-acknowledged.sink) in
     let r = built sink c.turn.new.self (sink.forest c.turn.new.sink) in
-    let made : turn_of r (Replied (numbered sink.node c.in-Replied.reply)) ≡ turn t s = rw c.in-Replied.is at c.in_ok-turn.ensures.ok in
+    let made : turn_of r (Replied (numbered sink.node c.in-Replied.reply)) ≡ turn t s = subst (λ e. turn_of r (ending_of sink.node e) ≡ turn t s) c.in-Replied.is c.in_ok-turn.ensures.ok in
     counted-replies (all_turns c.args.self.now.stack.open_elems) t (settle t (built sink c.args.self.now (sink.forest c.args.sink.now))) s r (numbered sink.node c.in-Replied.reply) _ c.loop-acknowledged.turns.count _ c.loop-acknowledged.invariant.on made c.loop-acknowledged.invariant.counted c.add_one.ensures
 
 pub returns-in_err-turn-clause-most : goal.returns-in_err-turn-clause-most
@@ -122,3 +123,12 @@ returns-in-Replied-clause-most g c =
     let t = token_of c.args.told.now.content in
     let s = built sink c.loop-acknowledged.self (sink.forest c.loop-acknowledged.sink) in
     counted-most (all_turns c.args.self.now.stack.open_elems) t (settle t (built sink c.args.self.now (sink.forest c.args.sink.now))) s _ c.loop-acknowledged.turns.count _ c.loop-acknowledged.invariant.on c.loop-acknowledged.invariant.counted c.add_one.ensures
+
+pub turn-requires-clause-told : goal.turn-requires-clause-told
+turn-requires-clause-told g c = c.requires.told
+
+pub returns-in-Finished-clause-stands : goal.returns-in-Finished-clause-stands
+returns-in-Finished-clause-stands g c = c.check_acknowledged.ensures.stands c.in_ok-turn.ensures.stands
+
+pub returns-in-Replied-clause-stands : goal.returns-in-Replied-clause-stands
+returns-in-Replied-clause-stands g c = c.in_ok-turn.ensures.stands

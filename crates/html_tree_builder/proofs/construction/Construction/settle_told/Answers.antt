@@ -1,7 +1,8 @@
-use Rattle.html_tree_builder.specs.States.{built}
+use Rattle.html_tree_builder.specs.States.{answers_of, built}
 use Rattle.html_tree_builder.specs.Told.{token_of}
 use Rattle.html_builder_laws.proofs.TokensTaken.{is-settled, may-come}
 use Rattle.html_tree_builder.proofs.Settles.{at-most}
+use Rattle.html_tree_builder.proofs.TextsTaken.{usable-stands}
 use Rattle.html_tree_builder.proofs.construction.Construction.settle_told.Goals as goal
 
 pub settle-requires-clause-may : goal.settle-requires-clause-may
@@ -13,3 +14,8 @@ settle-requires-clause-settled g c = is-settled (token_of c.args.told.now.conten
 pub returns-clause-most : goal.returns-clause-most
 returns-clause-most g c =
     at-most (token_of c.args.told.now.content) (built g.Sink.TreeSink c.args.self.now (g.Sink.TreeSink.forest c.args.sink.now)) c.args.turns.now.count c.settle.new.turns.count c.settle.ensures.most
+
+pub settle-requires-clause-stands : goal.settle-requires-clause-stands
+settle-requires-clause-stands g c =
+    let a = answers_of g.Sink.TreeSink.integration_point g.Sink.TreeSink.allows_shadow_roots g.Sink.TreeSink.attaches_shadow in
+    usable-stands a c.args.self.now (g.Sink.TreeSink.forest c.args.sink.now) c.requires.usable c.requires.going

@@ -1,10 +1,10 @@
-use Rattle.std.proofs.Common.{◌∙◌, ap, subst, sym}
+use Rattle.std.proofs.Common.{◌∙◌, ap, refl, subst, sym}
 use Rattle.std.specs.Str.{chars}
 use Rattle.html_tokens.specs.declared.token.Token.TheVariants.{CharacterTokens}
 use Rattle.html_builder_laws.proofs.TokensTaken.{settled-going, settled-usable}
 use Rattle.html_builder_laws.specs.Usable.{Usable}
 use Rattle.html_tree_builder.specs.States.{answers_of, built}
-use Rattle.html_tree_builder.proofs.TextsTaken.{next-character, run-taken}
+use Rattle.html_tree_builder.proofs.TextsTaken.{next-character, run-taken, usable-stands}
 use Rattle.html_tree_builder.proofs.construction.Construction.take_text.Goals as goal
 
 pub returns-in-Some-run-clause-ok : goal.returns-in-Some-run-clause-ok
@@ -28,3 +28,20 @@ loop-character-preserved g c =
       going = ap (λ x. x.has_ended) same ∙ settled-going t s c.loop-character.invariant.going;
       same = next-character c.loop-character.rest.now c.in-Some.character.now c.in-Some.behind.now s r c.in-Some.ensures same ∙ c.loop-character.invariant.same;
     }
+
+pub loop-character-init : goal.loop-character-init
+loop-character-init g c = record { text = c.utf8.text; usable = c.requires.usable; going = c.requires.going; same = refl }
+
+pub loop-character-smaller : goal.loop-character-smaller
+loop-character-smaller g c = c.in-Some.ensures.shorter
+
+pub take_run-requires : goal.take_run-requires
+take_run-requires g c =
+    let a = answers_of g.Sink.TreeSink.integration_point g.Sink.TreeSink.allows_shadow_roots g.Sink.TreeSink.attaches_shadow in
+    record { stands = usable-stands a c.loop-character.self (g.Sink.TreeSink.forest c.loop-character.sink) c.loop-character.invariant.usable c.loop-character.invariant.going }
+
+pub take_character-requires-clause-usable : goal.take_character-requires-clause-usable
+take_character-requires-clause-usable g c = c.loop-character.invariant.usable
+
+pub take_character-requires-clause-going : goal.take_character-requires-clause-going
+take_character-requires-clause-going g c = c.loop-character.invariant.going
