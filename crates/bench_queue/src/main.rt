@@ -10,9 +10,8 @@ use drain::{characters_by_next, runs_by_pop_except_from};
 use html_queue::BufferQueue;
 use markup::ParseFault;
 use std::alloc::Global;
-use std::env;
-use std::rt::{Clock, Env};
 use std::time::Instant;
+use std::{env, io};
 
 const DEFAULT_CHARACTERS: usize = 100_000_000;
 
@@ -21,79 +20,59 @@ const LINE: &str = "<p class=one>Caf\u{e9} &amp; bar, a plain line</p>....\n";
 
 fn main(rt: HostRuntime) -> Result<()> {
     let characters = wanted_characters(&rt)?;
-    take_both(&rt, rt.alloc(), characters, &mut BufferQueue::new())
+    take_both(&rt, characters, &mut BufferQueue::new())
 }
 
-fn wanted_characters<R: Env + Alloc>(rt: &R) -> Result<usize> {
-    let mut arguments = env::args(rt)?;
-    let _program = arguments.next();
-    match arguments.next() {
-        Some(argument) => argument
-            .as_str()
-            .parse()
-            .context("the number of characters"),
+fn wanted_characters(rt: &HostRuntime) -> Result<usize> {
+    match env::args(rt)?.nth(1) {
+        Some(argument) => number_of(argument.as_str()),
         None => Ok(DEFAULT_CHARACTERS),
     }
 }
 
+fn number_of(argument: &str) -> Result<usize> {
+    argument.parse().context("the number of characters")
+}
+
 /// Takes the characters of a queue one by one, and then once more in runs.
-fn take_both<R: Clock + Print + Eprint>(
-    rt: &R,
-    alloc: Global,
-    characters: usize,
-    queue: &mut BufferQueue,
-) -> Result<()> {
-    take_by_next(rt, alloc, characters, queue)?;
-    take_by_pop_except_from(rt, alloc, characters, queue)
+fn take_both(rt: &HostRuntime, characters: usize, queue: &mut BufferQueue) -> Result<()> {
+    take_by_next(rt, characters, queue)?;
+    take_by_pop_except_from(rt, characters, queue)
 }
 
 /// Fills a queue and takes its characters one by one.
-fn take_by_next<R: Clock + Print + Eprint>(
-    rt: &R,
-    alloc: Global,
-    characters: usize,
-    queue: &mut BufferQueue,
-) -> Result<()> {
+fn take_by_next(rt: &HostRuntime, characters: usize, queue: &mut BufferQueue) -> Result<()> {
     let start = Instant::now(rt)?;
-    fill(alloc, queue, characters)?;
+    fill(rt.alloc(), queue, characters)?;
     tell_time(rt, "push_back", start)?;
     let start = Instant::now(rt)?;
     let taken = characters_by_next(queue);
-    tell(rt, "next", start, taken, "characters")
+    Ok(tell(rt, "next", start, taken, "characters")?)
 }
 
 /// Fills a queue and takes its runs and the stops between them.
-fn take_by_pop_except_from<R: Clock + Print + Eprint>(
-    rt: &R,
-    alloc: Global,
+fn take_by_pop_except_from(
+    rt: &HostRuntime,
     characters: usize,
     queue: &mut BufferQueue,
 ) -> Result<()> {
-    fill(alloc, queue, characters)?;
+    fill(rt.alloc(), queue, characters)?;
     let start = Instant::now(rt)?;
     let Ok(runs) = runs_by_pop_except_from(queue) else {
         bail!("no memory");
     };
-    tell(rt, "pop_except_from", start, runs, "runs and members")
+    Ok(tell(rt, "pop_except_from", start, runs, "runs and members")?)
 }
 
 /// Tells how long something took, and what was taken.
-fn tell<R: Clock + Print + Eprint>(
-    rt: &R,
-    name: &str,
-    start: Instant,
-    taken: u64,
-    what: &str,
-) -> Result<()> {
+fn tell(rt: &HostRuntime, name: &str, start: Instant, taken: u64, what: &str) -> io::Result<()> {
     tell_time(rt, name, start)?;
-    println!(rt; "{name}: {taken} {what}")?;
-    Ok(())
+    println!(rt; "{name}: {taken} {what}")
 }
 
-fn tell_time<R: Clock + Eprint>(rt: &R, name: &str, start: Instant) -> Result<()> {
+fn tell_time(rt: &HostRuntime, name: &str, start: Instant) -> io::Result<()> {
     let seconds = start.elapsed(rt)?.as_secs_f64();
-    eprintln!(rt; "{name}: {seconds} s")?;
-    Ok(())
+    eprintln!(rt; "{name}: {seconds} s")
 }
 
 /// Puts as many whole lines as have so many characters into a queue, line by line.

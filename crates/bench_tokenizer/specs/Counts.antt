@@ -5,7 +5,7 @@ use Rattle.std.proofs.Common.{ap, sym, ◌∙◌}
 use Rattle.std.proofs.lemmas.List.{length-append}
 use native.Mathlib.Omega.{arith}
 use Rattle.html_tokens.specs.Sink.{Step, Reply, SinkLaws, one_more, IsIdle, IsTagReply, IsReplyTo}
-use Rattle.html_tokens.specs.declared.replies.TokenSinkResult.TheVariants.{Continue, RawData}
+use Rattle.html_tokens.specs.declared.replies.TokenSinkResult.TheVariants.{Continue, Script, RawData}
 use Rattle.html_tokens.specs.declared.states.RawKind.TheVariants.{ScriptData}
 use Rattle.html_tokens.specs.declared.sink.TokenSink.{Ghosts}
 use Rattle.html_tokens.specs.declared.tags.TagKind.{TagKind}
@@ -14,8 +14,9 @@ use Rattle.html_tokens.specs.declared.token.Token.{Token}
 use Rattle.html_tokens.specs.declared.token.Token.TheVariants.{TagToken, CommentToken, CharacterTokens, ParseError}
 use Rattle.bench_tokenizer.specs.declared.counts.Counts.{Counts}
 
--- how many characters of text, tags, attributes of these and comments were told, and whether the end was
+-- how many characters of text, tags, attributes of these and comments were told, whether the end was, and whether the text is hostile
 pub record Counted : Type 0 where
+  pub is_hostile : Bool
   pub characters : ℕ
   pub tags : ℕ
   pub attributes : ℕ
@@ -23,7 +24,11 @@ pub record Counted : Type 0 where
   pub has_ended : Bool
 
 abbrev pub counted_by : Counts → Counted
-counted_by c = record { characters = c.characters; tags = c.tags; attributes = c.attributes; comments = c.comments; has_ended = c.has_ended }
+counted_by c = record { is_hostile = c.is_hostile; characters = c.characters; tags = c.tags; attributes = c.attributes; comments = c.comments; has_ended = c.has_ended }
+
+-- nothing was told yet
+abbrev pub nothing : Bool → Counted
+nothing is_hostile = record { is_hostile = is_hostile; characters = 0; tags = 0; attributes = 0; comments = 0; has_ended = false }
 
 -- no number is above u64::MAX
 abbrev pub IsWithin : Counted → Type 0
@@ -44,9 +49,9 @@ counted s _ = s
 abbrev pub ended : Counted → Counted
 ended s = record s { has_ended = true }
 
--- no sections of CDATA are asked for
+-- sections of CDATA are asked for in hostile texts
 abbrev pub asks_cdata : Counted → Bool
-asks_cdata s = false
+asks_cdata s = s.is_hostile
 
 -- every handle stands for the same, since no reply has one
 abbrev pub number : Unit {0} → ℕ
@@ -73,18 +78,19 @@ abbrev pub error_counted : Token → ℕ → ℕ
 error_counted (ParseError _) errors = one_more errors
 error_counted _ errors = errors
 
--- behind a start tag of a script stands its text
-abbrev pub reply_to_kind : TagKind → List ℕ → Reply
-reply_to_kind StartTag name = if bytes_eq name (codes "script") then RawData ScriptData else Continue
-reply_to_kind EndTag name = Continue
+-- behind a start tag of a script stands its text, and its end tag pauses in a hostile text
+abbrev pub reply_to_script : Bool → TagKind → Reply
+reply_to_script is_hostile StartTag = RawData ScriptData
+reply_to_script true EndTag = Script 0
+reply_to_script false EndTag = Continue
 
-abbrev pub reply_to : Token → Reply
-reply_to (TagToken tag) = reply_to_kind tag.kind tag.name
-reply_to _ = Continue
+abbrev pub reply_to : Bool → Token → Reply
+reply_to is_hostile (TagToken tag) = if bytes_eq tag.name (codes "script") then reply_to_script is_hostile tag.kind else Continue
+reply_to is_hostile _ = Continue
 
 -- no token is refused
 abbrev pub step : Step Counted
-step s t line = Ok (counted s t, reply_to t)
+step s t line = Ok (counted s t, reply_to s.is_hostile t)
 
 -- all that a sink stands for that counts
 abbrev pub counting : Ghosts Counts (Unit {0})
@@ -131,13 +137,14 @@ IsTagReply-if : (b : Bool) (x y : Reply) → IsTagReply x → IsTagReply y → I
 IsTagReply-if true x y h k = h
 IsTagReply-if false x y h k = k
 
-IsTagReply-kind : (kind : TagKind) (name : List ℕ) → IsTagReply (reply_to_kind kind name)
-IsTagReply-kind StartTag name = IsTagReply-if (bytes_eq name (codes "script")) (RawData ScriptData) Continue refl tt
-IsTagReply-kind EndTag name = tt
+IsTagReply-script : (is_hostile : Bool) (kind : TagKind) → IsTagReply (reply_to_script is_hostile kind)
+IsTagReply-script is_hostile StartTag = refl
+IsTagReply-script true EndTag = tt
+IsTagReply-script false EndTag = tt
 
-replies : (t : Token) → IsReplyTo t (reply_to t)
-replies (TagToken tag) = IsTagReply-kind tag.kind tag.name
-replies _ = refl
+replies : (is_hostile : Bool) (t : Token) → IsReplyTo t (reply_to is_hostile t)
+replies is_hostile (TagToken tag) = IsTagReply-if (bytes_eq tag.name (codes "script")) (reply_to_script is_hostile tag.kind) Continue (IsTagReply-script is_hostile tag.kind) tt
+replies is_hostile _ = refl
 
 pub counts_laws : SinkLaws IsWithin step ended is_quiet
 counts_laws = record {
@@ -147,6 +154,6 @@ counts_laws = record {
   lines = λ s h a line other. refl;
   idle = λ s h t i line. idle s h t i;
   idle_refused = λ s h t i line r any other. r;
-  replies = λ s h t line. replies t;
+  replies = λ s h t line. replies s.is_hostile t;
   quiet = λ s h a b line. refl;
 }

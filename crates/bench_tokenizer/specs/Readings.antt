@@ -10,16 +10,12 @@ use Rattle.html_tokenizer.specs.Calls as calls
 use Rattle.html_tokenizer.specs.Steps.{Owed, Rises, together, and_more}
 use Rattle.html_tokenizer.specs.Steps as steps
 use Rattle.html_tokenizer.specs.declared.tokenizer.Tokenizer.{Tokenizer}
-use Rattle.bench_tokenizer.specs.Counts.{Counted, counted_by, counting, step, ended, asks_cdata, errors, is_quiet}
+use Rattle.bench_tokenizer.specs.Counts.{Counted, counted_by, counting, nothing, step, ended, asks_cdata, errors, is_quiet}
 use Rattle.bench_tokenizer.specs.declared.counts.Counts.{Counts}
-
--- nothing was told yet
-abbrev pub nothing : Counted
-nothing = record { characters = 0; tags = 0; attributes = 0; comments = 0; has_ended = false }
 
 -- what the definitions make of a whole page, with this table of references
 abbrev pub page_reading : List Row → List ℕ → Result (Counted × Notes ℕ) (Refusal × ℕ)
-page_reading table page = noted_reading step is_quiet asks_cdata ended table (first_stand None None) 0 (nothing, no_notes) (normal_text true page)
+page_reading table page = noted_reading step is_quiet asks_cdata ended table (first_stand None None) 0 (nothing false, no_notes) (normal_text true page)
 
 -- how many errors a page owes
 abbrev pub page_owes : List Row → List ℕ → ℕ

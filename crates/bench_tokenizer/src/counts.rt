@@ -4,7 +4,7 @@ ghost use Rattle.std.specs.Str.{chars};
 ghost use Rattle.html_tokens.specs.Notes.{one_if};
 ghost use Rattle.html_tokens.specs.Sink.{numbered};
 ghost use Rattle.bench_tokenizer.specs.FirstBytes.{is_first};
-ghost use Rattle.bench_tokenizer.specs.Counts.{Counted, IsWithin, counted_by, counted, error_counted, step, ended, asks_cdata, number, has_failed, errors_ended, is_quiet, counts_laws, reply_to};
+ghost use Rattle.bench_tokenizer.specs.Counts.{Counted, IsWithin, counted_by, counted, error_counted, step, ended, nothing, asks_cdata, number, has_failed, errors_ended, is_quiet, counts_laws, reply_to};
 
 use html_tokenizer::states::RawKind;
 use html_tokenizer::{TagKind, Token, TokenSink, TokenSinkResult};
@@ -13,6 +13,8 @@ use markup::ParseFault;
 /// What a sink was told, in numbers. At u64::MAX a number stays.
 #[derive(Drop)]
 pub(crate) struct Counts {
+    /// Whether the text is hostile: then the end tag of a script pauses, and sections of CDATA are asked for.
+    is_hostile: bool,
     /// How many characters of text were told, in however many tokens.
     pub(crate) characters: u64,
     /// How many tags.
@@ -52,10 +54,11 @@ fn characters(text: &str) -> usize
 
 impl Counts {
     /// Nothing was told yet.
-    pub(crate) fn new() -> Counts
-        ensures { counted_by result ≡ record { characters = 0; tags = 0; attributes = 0; comments = 0; has_ended = false } }
+    pub(crate) fn new(is_hostile: bool) -> Counts
+        ensures { counted_by result ≡ nothing is_hostile }
     {
         Counts {
+            is_hostile,
             characters: 0,
             tags: 0,
             attributes: 0,
@@ -88,17 +91,21 @@ impl Counts {
     }
 }
 
-// Behind a start tag of a script stands its text.
-fn reply_to(token: &Token) -> TokenSinkResult<()>
-    ensures { numbered number result ≡ reply_to token.now }
+// Behind the start tag of a script stands its text; its end tag pauses in a hostile text.
+fn reply_to(is_hostile: bool, token: &Token) -> TokenSinkResult<()>
+    ensures { numbered number result ≡ reply_to is_hostile token.now }
 {
     match token {
-        Token::TagToken(tag) => match tag.kind {
-            TagKind::StartTag if tag.name.is("script") => {
-                TokenSinkResult::RawData(RawKind::ScriptData)
+        Token::TagToken(tag) => {
+            if !tag.name.is("script") {
+                return TokenSinkResult::Continue;
             }
-            _ => TokenSinkResult::Continue,
-        },
+            match tag.kind {
+                TagKind::StartTag => TokenSinkResult::RawData(RawKind::ScriptData),
+                TagKind::EndTag if is_hostile => TokenSinkResult::Script(()),
+                TagKind::EndTag => TokenSinkResult::Continue,
+            }
+        }
         _ => TokenSinkResult::Continue,
     }
 }
@@ -137,7 +144,7 @@ impl TokenSink for Counts {
         _line_number: u64,
     ) -> Result<TokenSinkResult<()>, ParseFault> {
         self.count(&token);
-        Ok(reply_to(&token))
+        Ok(reply_to(self.is_hostile, &token))
     }
 
     fn end(&mut self) {
@@ -145,6 +152,6 @@ impl TokenSink for Counts {
     }
 
     fn adjusted_current_node_present_but_not_in_html_namespace(&self) -> bool {
-        false
+        self.is_hostile
     }
 }

@@ -5,10 +5,10 @@ ghost use Rattle.std.specs.String.{string_bytes};
 ghost use Rattle.bench_tokenizer.specs.Readings.{Begins, CountsPage, IsCounted, Reads, Takes};
 
 use crate::counts::Counts;
-use bench_pages::split_piece;
 use html_tokenizer::{BufferQueue, References, Tokenizer, TokenizerOpts};
 use markup::{ParseFault, TokenizerResult};
 use std::alloc::Global;
+use text_pieces::split_piece;
 
 /// A tokenizer at the front of its input.
 fn tokenizer_of(alloc: Global, table: References, exact_errors: bool) -> Tokenizer<Counts>
@@ -18,7 +18,7 @@ fn tokenizer_of(alloc: Global, table: References, exact_errors: bool) -> Tokeniz
         exact_errors,
         ..TokenizerOpts::default()
     };
-    Tokenizer::new(alloc, Counts::new(), opts, table)
+    Tokenizer::new(alloc, Counts::new(false), opts, table)
 }
 
 /// Has a tokenizer read a text. Its sink asks for no pause.
@@ -56,7 +56,7 @@ fn feed_page(alloc: Global, tokenizer: &mut Tokenizer<Counts>, page: &str) -> Re
 }
 
 /// What was counted. The tokenizer is let go of here alone, since each place that lets one go takes long to prove.
-fn counts_of(tokenizer: Tokenizer<Counts>) -> Counts
+pub(crate) fn counts_of(tokenizer: Tokenizer<Counts>) -> Counts
     ensures { result ≡ tokenizer.sink }
 {
     tokenizer.sink

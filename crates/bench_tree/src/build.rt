@@ -2,12 +2,12 @@
 ghost use Rattle.std.specs.Prelude.{IfOk};
 ghost use Rattle.html_tokenizer.specs.Calls.{IsReadyIf, refusal};
 
-use bench_pages::{PIECE, split_piece};
 use html_forest::Forest;
 use html_tokenizer::{BufferQueue, References, TokenSink, Tokenizer, TokenizerOpts};
 use html_tree_builder::{TreeBuilder, TreeBuilderOpts};
 use markup::{ParseFault, TokenizerResult};
 use std::alloc::Global;
+use text_pieces::{PIECE, split_piece};
 
 /// A tokenizer at the front of its input, with the five names of references that a written text needs.
 fn tokenizer_over<S: TokenSink + Drop>(alloc: Global, sink: S) -> Result<Tokenizer<S>, ParseFault>

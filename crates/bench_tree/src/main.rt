@@ -6,11 +6,11 @@
 mod build;
 
 use anyhow::{Context, Result, bail};
-use bench_pages::page_of;
 use std::alloc::Global;
 use std::env;
 use std::rt::{Clock, Env};
 use std::time::Instant;
+use text_pieces::page_of;
 
 const DEFAULT_BYTES: usize = 50_000_000;
 

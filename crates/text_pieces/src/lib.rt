@@ -1,54 +1,8 @@
-//! Texts in pieces, for tests of what takes them so.
+//! The page that benchmarks read, and the pieces in which tests and benchmarks have a text read.
 #![tactic(auto)]
 
-use std::alloc::{AllocError, Global};
+pub mod page;
+pub mod pieces;
 
-/// The pieces, as they are given.
-pub fn as_given(alloc: Global, pieces: &[&str]) -> Result<Vec<String>, AllocError> {
-    let mut given = Vec::new(alloc);
-    push_given(alloc, &mut given, pieces)?;
-    Ok(given)
-}
-
-fn push_given(alloc: Global, given: &mut Vec<String>, pieces: &[&str]) -> Result<(), AllocError> {
-    for piece in pieces {
-        given.push(String::from_str(alloc, piece)?)?;
-    }
-    Ok(())
-}
-
-/// The byte at which a character stands, or at which the text ends where it has no more.
-fn byte_of(text: &str, place: usize) -> usize {
-    match text.char_indices().nth(place) {
-        Some((byte, _)) => byte,
-        None => text.len(),
-    }
-}
-
-/// A text cut in two, so many characters behind its beginning.
-pub fn in_two(alloc: Global, text: &str, place: usize) -> Result<Vec<String>, AllocError> {
-    match text.split_at_checked(byte_of(text, place)) {
-        Some((front, behind)) => as_given(alloc, &[front, behind]),
-        None => as_given(alloc, &[text, ""]),
-    }
-}
-
-/// A text with each character in a piece of its own.
-pub fn in_characters(alloc: Global, text: &str) -> Result<Vec<String>, AllocError> {
-    let mut pieces = Vec::new(alloc);
-    push_characters(alloc, &mut pieces, text)?;
-    Ok(pieces)
-}
-
-fn push_characters(alloc: Global, pieces: &mut Vec<String>, text: &str) -> Result<(), AllocError> {
-    for c in text.chars() {
-        pieces.push(character(alloc, c)?)?;
-    }
-    Ok(())
-}
-
-fn character(alloc: Global, c: char) -> Result<String, AllocError> {
-    let mut piece = String::new(alloc);
-    piece.push(c)?;
-    Ok(piece)
-}
+pub use page::page_of;
+pub use pieces::{PIECE, as_given, in_characters, in_two, piece_of, split_piece};

@@ -2,8 +2,8 @@ use Rattle.std.proofs.Common.{sym}
 use Rattle.std.specs.Str.{chars}
 use Rattle.std.proofs.lemmas.List.{append-nil}
 use Rattle.std.proofs.lemmas.Str.{IsUtf8-take, chars-nil}
-use Rattle.bench_pages.proofs.Cuts.{chars-cut}
-use Rattle.bench_pages.proofs.pieces.split_piece.Goals as goal
+use Rattle.text_pieces.proofs.Cuts.{chars-cut}
+use Rattle.text_pieces.proofs.pieces.split_piece.Goals as goal
 
 pub returns-then-end-eq0-clause-whole : goal.returns-then-end-eq0-clause-whole
 returns-then-end-eq0-clause-whole c = rw chars-nil (sym (append-nil (chars c.args.text.now)))

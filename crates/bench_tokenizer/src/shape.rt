@@ -1,7 +1,7 @@
 //! Texts that try to make a tokenizer slow.
 
-use markup::ParseFault;
-use std::alloc::Global;
+use std::alloc::{AllocError, Global};
+use std::fmt::Write;
 
 /// What stands behind the front of a text.
 #[derive(Clone, Copy)]
@@ -130,28 +130,23 @@ pub(crate) const SHAPES: &[Shape] = &[
 ];
 
 /// A text of this kind, of so many bytes or a few more.
-pub(crate) fn text_of(alloc: Global, shape: Shape, bytes: usize) -> Result<String, ParseFault> {
+pub(crate) fn text_of(alloc: Global, shape: Shape, bytes: usize) -> Result<String, AllocError> {
     let mut text = String::from_str(alloc, shape.front)?;
-    push_rest(alloc, &mut text, shape, bytes)?;
+    push_rest(&mut text, shape, bytes)?;
     Ok(text)
 }
 
 // Puts behind a front what follows it.
-fn push_rest(
-    alloc: Global,
-    text: &mut String,
-    shape: Shape,
-    bytes: usize,
-) -> Result<(), ParseFault> {
+fn push_rest(text: &mut String, shape: Shape, bytes: usize) -> Result<(), AllocError> {
     match shape.rest {
         Rest::Repeated => push_repeated(text, shape.piece, bytes),
-        Rest::Attributes => push_attributes(alloc, text, shape.piece, bytes),
+        Rest::Attributes => push_attributes(text, shape.piece, bytes),
         Rest::Tags => push_tags(text, shape.piece, bytes),
     }
 }
 
 // Puts a piece behind a text until that has so many bytes.
-fn push_repeated(text: &mut String, piece: &str, bytes: usize) -> Result<(), ParseFault> {
+fn push_repeated(text: &mut String, piece: &str, bytes: usize) -> Result<(), AllocError> {
     for _piece in 0..bytes {
         if text.len() >= bytes {
             break;
@@ -161,34 +156,19 @@ fn push_repeated(text: &mut String, piece: &str, bytes: usize) -> Result<(), Par
     Ok(())
 }
 
-fn push_attribute(
-    alloc: Global,
-    text: &mut String,
-    piece: &str,
-    number: usize,
-) -> Result<(), ParseFault> {
-    let attribute = format!(in alloc; "{piece}{number}")?;
-    Ok(text.push_str(attribute.as_str())?)
-}
-
 // Makes of a front a tag with as many attributes, of different names, as have so many bytes.
-fn push_attributes(
-    alloc: Global,
-    text: &mut String,
-    piece: &str,
-    bytes: usize,
-) -> Result<(), ParseFault> {
+fn push_attributes(text: &mut String, piece: &str, bytes: usize) -> Result<(), AllocError> {
     for number in 0..bytes {
         if text.len() >= bytes {
             break;
         }
-        push_attribute(alloc, text, piece, number)?;
+        write!(text, "{piece}{number}")?;
     }
-    Ok(text.push_str(">")?)
+    text.push_str(">")
 }
 
 // Makes of a front a start tag of half so many bytes, and puts end tags behind it.
-fn push_tags(text: &mut String, piece: &str, bytes: usize) -> Result<(), ParseFault> {
+fn push_tags(text: &mut String, piece: &str, bytes: usize) -> Result<(), AllocError> {
     push_repeated(text, piece, bytes / 2)?;
     text.push_str(">")?;
     let whole = text.len().saturating_add(bytes / 2);

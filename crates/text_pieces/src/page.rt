@@ -1,7 +1,6 @@
 //! The page that benchmarks read.
 
-use markup::ParseFault;
-use std::alloc::Global;
+use std::alloc::{AllocError, Global};
 
 /// What the page repeats: text with references and a letter of two bytes, tags with attributes, a comment, a script and
 /// a table.
@@ -17,10 +16,6 @@ and then ends without much ado, as most paragraphs do.</p>\n\
 <img src=\"a.png\" alt=\"a picture\"/><br>\n</div>\n";
 
 /// A page of as many blocks as have so many bytes, one at least.
-pub fn page_of(alloc: Global, bytes: usize) -> Result<String, ParseFault> {
-    let mut page = String::from_str(alloc, BLOCK)?;
-    for _block in 1..bytes / BLOCK.len() {
-        page.push_str(BLOCK)?;
-    }
-    Ok(page)
+pub fn page_of(alloc: Global, bytes: usize) -> Result<String, AllocError> {
+    BLOCK.repeat(alloc, (bytes / BLOCK.len()).max(1))
 }
