@@ -2,7 +2,8 @@ use Rattle.std.proofs.Common.{◌∙◌, ap, subst, sym}
 use Rattle.std.specs.Prelude.{IsSome}
 use Rattle.markup.specs.Forest.{above_of, data_of, element_name}
 use Rattle.html_rules.specs.Documents.{before_fragment}
-use Rattle.html_tree_builder.specs.States.{answers_of, built, context_in, number_if, setting_of}
+use Rattle.html_tree_builder.specs.States.{built, context_in, number_if, setting_of}
+use Rattle.html_tree_builder.proofs.Acted.{its_answers}
 use Rattle.html_tree_builder.proofs.BuildersBegun.{form-node, fragment-usable}
 use Rattle.html_tree_builder.proofs.builder.TreeBuilder.new_for_fragment.Goals as goal
 
@@ -12,7 +13,7 @@ for_fragment-requires-clause-form g c =
 
 pub returns-clause-begun : goal.returns-clause-begun
 returns-clause-begun g c =
-    let a = answers_of g.Sink.TreeSink.integration_point g.Sink.TreeSink.allows_shadow_roots g.Sink.TreeSink.attaches_shadow in
+    let a = its_answers g.Sink.TreeSink in
     let setting = setting_of a c.args.opts in
     let n = g.Sink.TreeSink.node c.args.context in
     let form = number_if g.Sink.TreeSink.node c.args.form in
@@ -23,7 +24,7 @@ returns-clause-begun g c =
 
 pub returns-clause-usable : goal.returns-clause-usable
 returns-clause-usable g c =
-    let a = answers_of g.Sink.TreeSink.integration_point g.Sink.TreeSink.allows_shadow_roots g.Sink.TreeSink.attaches_shadow in
+    let a = its_answers g.Sink.TreeSink in
     let setting = setting_of a c.args.opts in
     let n = g.Sink.TreeSink.node c.args.context in
     let form = number_if g.Sink.TreeSink.node c.args.form in

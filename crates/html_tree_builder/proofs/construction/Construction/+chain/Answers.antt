@@ -3,9 +3,10 @@ use Rattle.html_rules.specs.Actions.{act}
 use Rattle.html_rules.specs.Rules.{turn_of, using_rules_for}
 use Rattle.html_modes.specs.Tables.{action_of, conclusion_of, row_of}
 use Rattle.html_tree_builder.specs.Rows.{ending_of}
-use Rattle.html_tree_builder.specs.States.{answers_of, built}
+use Rattle.html_tree_builder.specs.States.{built}
 use Rattle.html_tree_builder.specs.Told.{token_of}
 use Rattle.html_tree_builder.specs.Turning.{MayConclude, MayUse}
+use Rattle.html_tree_builder.proofs.Acted.{its_answers}
 use Rattle.html_tree_builder.proofs.Turned.{comes-to, may-use-row, turned-row, used-none, used-row}
 use Rattle.html_tree_builder.proofs.construction.Construction.+chain.Goals as goal
 
@@ -27,7 +28,7 @@ take_by_row-go_on-requires g t c κs within =
     let f = sink.forest c.take_action.new.sink in
     let acted : built sink c.take_action.new.self f ≡ act (action_of c.args.row.now.does) token (built sink c.args.self.now (sink.forest c.args.sink.now)) = c.in_ok-take_action.ensures.ok ∙ ap (λ x. act (action_of c.args.row.now.does) token (built sink c.args.self.now x)) c.current_handle-script.ensures.same in
     let ends = subst (MayConclude (MayUse c.args.left) (using_rules_for c.args.left) (conclusion_of c.args.row.now.ends) token) (sym acted) c.requires.may.1 in
-    let may = c.in_ok-next.ensures.may c.args.left (answers_of sink.integration_point sink.allows_shadow_roots sink.attaches_shadow) f ends in
+    let may = c.in_ok-next.ensures.may c.args.left (its_answers sink) f ends in
     let stands = c.in_ok-next.ensures.stands f c.in_ok-take_action.ensures.stands in
     search rules
 
@@ -38,7 +39,7 @@ pub use_rules_for-take_by_row-requires : goal.use_rules_for-take_by_row-requires
 use_rules_for-take_by_row-requires g t c κs within =
     let sink = g.Sink.TreeSink in
     let f = sink.forest c.args.sink.now in
-    let is = c.first_row-row.ensures (answers_of sink.integration_point sink.allows_shadow_roots sink.attaches_shadow) f in
+    let is = c.first_row-row.ensures (its_answers sink) f in
     let may = may-use-row c.args.left c.args.mode (token_of c.args.told.now.content) (built sink c.args.self.now f) (row_of c.first_row-row.result.now) c.if-left-eq0.false is c.requires.may in
     search rules
 
@@ -46,7 +47,7 @@ pub use_rules_for-returns-clause-ok : goal.use_rules_for-returns-clause-ok
 use_rules_for-returns-clause-ok g t c =
     let sink = g.Sink.TreeSink in
     let f = sink.forest c.args.sink.now in
-    let is = c.first_row-row.ensures (answers_of sink.integration_point sink.allows_shadow_roots sink.attaches_shadow) f in
+    let is = c.first_row-row.ensures (its_answers sink) f in
     comes-to (λ ending. turn_of (built sink c.take_by_row.new.self (sink.forest c.take_by_row.new.sink)) (ending_of sink.node ending)) c.take_by_row.result _ _
     (used-row c.args.left c.args.mode (token_of c.args.told.now.content) (built sink c.args.self.now f) (row_of c.first_row-row.result.now) c.if-left-eq0.false is)
     c.take_by_row.ensures.ok
@@ -64,5 +65,5 @@ take_by_row-returns-clause-ok g t c =
     (turned-row c.args.left (row_of c.args.row.now) token s (built sink c.take_action.new.self f) (sink.node c.current_handle-script.result) _
     c.current_handle-script.ensures.number
     (c.in_ok-take_action.ensures.ok ∙ ap (λ x. act (action_of c.args.row.now.does) token (built sink c.args.self.now x)) c.current_handle-script.ensures.same)
-    (c.in_ok-next.ensures.ok (answers_of sink.integration_point sink.allows_shadow_roots sink.attaches_shadow) f (using_rules_for c.args.left)))
+    (c.in_ok-next.ensures.ok (its_answers sink) f (using_rules_for c.args.left)))
     c.go_on.ensures.ok

@@ -2,8 +2,9 @@ use Rattle.std.proofs.Common.{◌≡◌, subst}
 use Rattle.html_tokens.specs.Sink.{numbered}
 use Rattle.html_rules.specs.Rules.{Again, Finished, Replied, settle, turn, turn_of}
 use Rattle.html_tree_builder.specs.Rows.{ending_of}
-use Rattle.html_tree_builder.specs.States.{answers_of, built}
+use Rattle.html_tree_builder.specs.States.{built}
 use Rattle.html_tree_builder.specs.Told.{token_of}
+use Rattle.html_tree_builder.proofs.Acted.{its_answers}
 use Rattle.html_tree_builder.proofs.MayTurns.{may-turn}
 use Rattle.html_tree_builder.proofs.Settles.{all_turns, begins, comes-again, counted-again, counted-begins, counted-finishes, counted-most, counted-replies, fewer, finishes, goes-on, replies}
 use Rattle.html_tree_builder.proofs.construction.Construction.settle.Goals as goal
@@ -54,7 +55,7 @@ returns-in-Finished-clause-state g c =
     let s = built sink c.loop-acknowledged.self (sink.forest c.loop-acknowledged.sink) in
     let r = built sink c.turn.new.self (sink.forest c.turn.new.sink) in
     let made : turn_of r (Finished c.in-Finished.acknowledged) ≡ turn t s = subst (λ e. turn_of r (ending_of sink.node e) ≡ turn t s) c.in-Finished.is c.in_ok-turn.ensures.ok in
-    let checked = c.check_acknowledged.ensures.state (answers_of sink.integration_point sink.allows_shadow_roots sink.attaches_shadow) in
+    let checked = c.check_acknowledged.ensures.state (its_answers sink) in
     (finishes (all_turns c.args.self.now.stack.open_elems) t (settle t (built sink c.args.self.now (sink.forest c.args.sink.now))) s r (built sink c.turn.new.self (sink.forest c.check_acknowledged.new.sink)) c.in-Finished.acknowledged c.loop-acknowledged.invariant.on made checked).0
 
 pub returns-in-Finished-clause-reply : goal.returns-in-Finished-clause-reply
@@ -64,7 +65,7 @@ returns-in-Finished-clause-reply g c =
     let s = built sink c.loop-acknowledged.self (sink.forest c.loop-acknowledged.sink) in
     let r = built sink c.turn.new.self (sink.forest c.turn.new.sink) in
     let made : turn_of r (Finished c.in-Finished.acknowledged) ≡ turn t s = subst (λ e. turn_of r (ending_of sink.node e) ≡ turn t s) c.in-Finished.is c.in_ok-turn.ensures.ok in
-    let checked = c.check_acknowledged.ensures.state (answers_of sink.integration_point sink.allows_shadow_roots sink.attaches_shadow) in
+    let checked = c.check_acknowledged.ensures.state (its_answers sink) in
     (finishes (all_turns c.args.self.now.stack.open_elems) t (settle t (built sink c.args.self.now (sink.forest c.args.sink.now))) s r (built sink c.turn.new.self (sink.forest c.check_acknowledged.new.sink)) c.in-Finished.acknowledged c.loop-acknowledged.invariant.on made checked).1
 
 pub returns-in-Replied-clause-state : goal.returns-in-Replied-clause-state

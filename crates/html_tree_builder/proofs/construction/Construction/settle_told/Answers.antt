@@ -1,6 +1,7 @@
-use Rattle.html_tree_builder.specs.States.{answers_of, built}
+use Rattle.html_tree_builder.specs.States.{built}
 use Rattle.html_tree_builder.specs.Told.{token_of}
 use Rattle.html_builder_laws.proofs.TokensTaken.{is-settled, may-come}
+use Rattle.html_tree_builder.proofs.Acted.{its_answers}
 use Rattle.html_tree_builder.proofs.Settles.{at-most}
 use Rattle.html_tree_builder.proofs.TextsTaken.{usable-stands}
 use Rattle.html_tree_builder.proofs.construction.Construction.settle_told.Goals as goal
@@ -17,5 +18,5 @@ returns-clause-most g c =
 
 pub settle-requires-clause-stands : goal.settle-requires-clause-stands
 settle-requires-clause-stands g c =
-    let a = answers_of g.Sink.TreeSink.integration_point g.Sink.TreeSink.allows_shadow_roots g.Sink.TreeSink.attaches_shadow in
+    let a = its_answers g.Sink.TreeSink in
     usable-stands a c.args.self.now (g.Sink.TreeSink.forest c.args.sink.now) c.requires.usable c.requires.going

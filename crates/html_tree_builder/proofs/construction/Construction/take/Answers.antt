@@ -1,13 +1,14 @@
 use Rattle.std.proofs.Common.{rules}
 use Rattle.html_rules.specs.Stack.{parse_error}
 use Rattle.html_rules.specs.Step.{taken}
-use Rattle.html_tree_builder.specs.States.{answers_of, built}
+use Rattle.html_tree_builder.specs.States.{built}
+use Rattle.html_tree_builder.proofs.Acted.{its_answers}
 use Rattle.html_tree_builder.proofs.TextsTaken.{characters-continue, unlined-ended, unlined-state, usable-stands}
 use Rattle.html_tree_builder.proofs.construction.Construction.take.Goals as goal
 
 pub take_doctype-requires : goal.take_doctype-requires
 take_doctype-requires g c =
-    let a = answers_of g.Sink.TreeSink.integration_point g.Sink.TreeSink.allows_shadow_roots g.Sink.TreeSink.attaches_shadow in
+    let a = its_answers g.Sink.TreeSink in
     let f = g.Sink.TreeSink.forest c.args.sink.now in
     let s = built g.Sink.TreeSink c.args.self.now f in
     let u = built g.Sink.TreeSink c.set_ignore_lf.new.self f in

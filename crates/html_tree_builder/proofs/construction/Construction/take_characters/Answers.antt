@@ -1,6 +1,7 @@
 use Rattle.std.proofs.Common.{ap}
 use Rattle.html_names.proofs.FirstBytes.{is-empty, is-nonempty}
-use Rattle.html_tree_builder.specs.States.{answers_of, built}
+use Rattle.html_tree_builder.specs.States.{built}
+use Rattle.html_tree_builder.proofs.Acted.{its_answers}
 use Rattle.html_tree_builder.proofs.TextsTaken.{characters-taken, no-characters, unlined-ended, unlined-state}
 use Rattle.html_tree_builder.proofs.construction.Construction.take_characters.Goals as goal
 
@@ -9,19 +10,19 @@ returns-then-is_empty-clause-ok g c = no-characters c.args.text.now (built g.Sin
 
 pub take_text-requires-clause-usable : goal.take_text-requires-clause-usable
 take_text-requires-clause-usable g c =
-    let a = answers_of g.Sink.TreeSink.integration_point g.Sink.TreeSink.allows_shadow_roots g.Sink.TreeSink.attaches_shadow in
+    let a = its_answers g.Sink.TreeSink in
     let f = g.Sink.TreeSink.forest c.args.sink.now in
     unlined-state (built g.Sink.TreeSink c.args.self.now f) (built g.Sink.TreeSink c.set_ignore_lf.new.self f) (c.set_ignore_lf.ensures a f) c.requires.usable
 
 pub take_text-requires-clause-going : goal.take_text-requires-clause-going
 take_text-requires-clause-going g c =
-    let a = answers_of g.Sink.TreeSink.integration_point g.Sink.TreeSink.allows_shadow_roots g.Sink.TreeSink.attaches_shadow in
+    let a = its_answers g.Sink.TreeSink in
     let f = g.Sink.TreeSink.forest c.args.sink.now in
     unlined-ended (built g.Sink.TreeSink c.args.self.now f) (built g.Sink.TreeSink c.set_ignore_lf.new.self f) (c.set_ignore_lf.ensures a f) c.requires.going
 
 pub returns-clause-ok : goal.returns-clause-ok
 returns-clause-ok g c =
-    let a = answers_of g.Sink.TreeSink.integration_point g.Sink.TreeSink.allows_shadow_roots g.Sink.TreeSink.attaches_shadow in
+    let a = its_answers g.Sink.TreeSink in
     let f = g.Sink.TreeSink.forest c.args.sink.now in
     let s = built g.Sink.TreeSink c.args.self.now f in
     let u = built g.Sink.TreeSink c.set_ignore_lf.new.self f in

@@ -3,13 +3,14 @@ use Rattle.std.specs.Str.{chars}
 use Rattle.html_tokens.specs.declared.token.Token.TheVariants.{CharacterTokens}
 use Rattle.html_builder_laws.proofs.TokensTaken.{settled-going, settled-usable}
 use Rattle.html_builder_laws.specs.Usable.{Usable}
-use Rattle.html_tree_builder.specs.States.{answers_of, built}
+use Rattle.html_tree_builder.specs.States.{built}
+use Rattle.html_tree_builder.proofs.Acted.{its_answers}
 use Rattle.html_tree_builder.proofs.TextsTaken.{next-character, run-taken, usable-stands}
 use Rattle.html_tree_builder.proofs.construction.Construction.take_text.Goals as goal
 
 pub returns-in-Some-run-clause-ok : goal.returns-in-Some-run-clause-ok
 returns-in-Some-run-clause-ok g c =
-    let a = answers_of g.Sink.TreeSink.integration_point g.Sink.TreeSink.allows_shadow_roots g.Sink.TreeSink.attaches_shadow in
+    let a = its_answers g.Sink.TreeSink in
     let f = g.Sink.TreeSink.forest c.loop-character.sink in
     let s = built g.Sink.TreeSink c.loop-character.self f in
     let r = built g.Sink.TreeSink c.take_run.new.self (g.Sink.TreeSink.forest c.take_run.new.sink) in
@@ -37,7 +38,7 @@ loop-character-smaller g c = c.in-Some.ensures.shorter
 
 pub take_run-requires : goal.take_run-requires
 take_run-requires g c =
-    let a = answers_of g.Sink.TreeSink.integration_point g.Sink.TreeSink.allows_shadow_roots g.Sink.TreeSink.attaches_shadow in
+    let a = its_answers g.Sink.TreeSink in
     record { stands = usable-stands a c.loop-character.self (g.Sink.TreeSink.forest c.loop-character.sink) c.loop-character.invariant.usable c.loop-character.invariant.going }
 
 pub take_character-requires-clause-usable : goal.take_character-requires-clause-usable

@@ -2,8 +2,9 @@ use Rattle.std.proofs.Common.{ap, ◌∙◌}
 use Rattle.html_modes.specs.Tables.{row_of}
 use Rattle.html_rules.specs.Rules.{most_modes, turn_of, using_rules_for}
 use Rattle.html_tree_builder.specs.Rows.{ending_of}
-use Rattle.html_tree_builder.specs.States.{answers_of, built}
+use Rattle.html_tree_builder.specs.States.{built}
 use Rattle.html_tree_builder.specs.Told.{token_of}
+use Rattle.html_tree_builder.proofs.Acted.{its_answers}
 use Rattle.html_tree_builder.proofs.Turned.{comes-to, turned-foreign, turned-mode}
 use Rattle.html_tree_builder.proofs.construction.Construction.turn.Goals as goal
 
@@ -11,7 +12,7 @@ pub returns-then-is_foreign-clause-ok : goal.returns-then-is_foreign-clause-ok
 returns-then-is_foreign-clause-ok g c =
     let sink = g.Sink.TreeSink in
     let f = sink.forest c.args.sink.now in
-    let is = c.first_foreign_row-row.ensures (answers_of sink.integration_point sink.allows_shadow_roots sink.attaches_shadow) f in
+    let is = c.first_foreign_row-row.ensures (its_answers sink) f in
     comes-to (λ ending. turn_of (built sink c.take_by_row.new.self (sink.forest c.take_by_row.new.sink)) (ending_of sink.node ending)) c.take_by_row.result _ _
     (turned-foreign (token_of c.args.told.now.content) (built sink c.args.self.now f) (row_of c.first_foreign_row-row.result.now) c.if-is_foreign.ensures is)
     c.take_by_row.ensures.ok
