@@ -1,6 +1,7 @@
 pub mod Calls
 pub mod EndStates
 pub mod EndText
+pub mod Families
 pub mod Fronts
 pub mod Going
 pub mod Laws
