@@ -202,7 +202,7 @@ def growth(programs, folder):
 
 def main():
     program, megabytes, *other = sys.argv[1:]
-    table = os.path.join(os.path.dirname(os.path.abspath(__file__)), "../crates/table_check/data/named_references.table")
+    table = os.path.join(os.path.dirname(os.path.abspath(__file__)), "../crates/bench_tokenizer/data/named_references.table")
     programs = [[program, table], *([name] for name in other)]
     with tempfile.TemporaryDirectory() as folder:
         whole(programs, folder, int(megabytes))

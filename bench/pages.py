@@ -7,7 +7,7 @@ import subprocess
 import sys
 
 ROUNDS = 9
-TABLE = os.path.join(os.path.dirname(os.path.abspath(__file__)), "../crates/table_check/data/named_references.table")
+TABLE = os.path.join(os.path.dirname(os.path.abspath(__file__)), "../crates/bench_tokenizer/data/named_references.table")
 
 
 def ours(program, page):

@@ -10,7 +10,7 @@ from html.entities import html5
 from pathlib import Path
 
 ROOT = Path(__file__).resolve().parent.parent
-FILE = "crates/table_check/data/named_references.table"
+FILE = "crates/bench_tokenizer/data/named_references.table"
 
 
 def row(name: str) -> str:

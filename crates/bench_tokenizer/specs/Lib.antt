@@ -1,3 +1,4 @@
 pub mod Counts
 pub mod FirstBytes
 pub mod Readings
+pub mod Runs

@@ -11,7 +11,7 @@ use html_tokenizer::{TagKind, Token, TokenSink, TokenSinkResult};
 use markup::ParseFault;
 
 /// What a sink was told, in numbers. At u64::MAX a number stays.
-#[derive(Drop)]
+#[derive(Clone, Copy)]
 pub(crate) struct Counts {
     /// Whether the text is hostile: then the end tag of a script pauses, and sections of CDATA are asked for.
     is_hostile: bool,
@@ -89,6 +89,16 @@ impl Counts {
             _ => {}
         }
     }
+
+    /// Counts a token, and replies to it.
+    fn take(&mut self, token: &Token) -> TokenSinkResult<()>
+        ensures counted { counted_by self.new ≡ counted (counted_by self.old) token.now }
+        ensures errors { self.new.errors ≡ error_counted token.now self.old.errors }
+        ensures reply { numbered number result ≡ reply_to self.old.is_hostile token.now }
+    {
+        self.count(token);
+        reply_to(self.is_hostile, token)
+    }
 }
 
 // Behind the start tag of a script stands its text; its end tag pauses in a hostile text.
@@ -143,8 +153,9 @@ impl TokenSink for Counts {
         token: Token,
         _line_number: u64,
     ) -> Result<TokenSinkResult<()>, ParseFault> {
-        self.count(&token);
-        Ok(reply_to(self.is_hostile, &token))
+        let reply = self.take(&token);
+        drop(token);
+        Ok(reply)
     }
 
     fn end(&mut self) {

@@ -12,7 +12,28 @@ use text_pieces::piece_of;
 /// What is written at each pause.
 const WRITTEN: &str = "<i>written</i>";
 
-/// Has a tokenizer read a piece; at each pause a text is put before what waits.
+/// Puts a text before what waits, and says that reading is not done.
+fn write(alloc: Global, input: &mut BufferQueue) -> Result<bool, ParseFault> {
+    input.push_front(String::from_str(alloc, WRITTEN)?)?;
+    Ok(false)
+}
+
+/// Has a tokenizer read what waits, and says whether it is done; at a pause a text is put before what waits.
+fn feed_once(
+    alloc: Global,
+    tokenizer: &mut Tokenizer<Counts>,
+    input: &mut BufferQueue,
+) -> Result<bool, ParseFault>
+    requires { IsReadyIf counting (refusal_of tokenizer.old) tokenizer.old }
+    ensures { IsReadyIf counting (refusal_of tokenizer.new) tokenizer.new }
+{
+    match tokenizer.feed(input)? {
+        TokenizerResult::Done => Ok(true),
+        _ => write(alloc, input),
+    }
+}
+
+/// Has a tokenizer read a piece, past every pause.
 fn feed_piece(
     alloc: Global,
     tokenizer: &mut Tokenizer<Counts>,
@@ -24,9 +45,8 @@ fn feed_piece(
 {
     input.push_back(piece)?;
     for _pause in 0..u64::MAX {
-        match tokenizer.feed(input)? {
-            TokenizerResult::Done => break,
-            _ => input.push_front(String::from_str(alloc, WRITTEN)?)?,
+        if feed_once(alloc, tokenizer, input)? {
+            break;
         }
     }
     Ok(())
@@ -48,7 +68,7 @@ fn feed_characters(
     Ok(())
 }
 
-/// Has a tokenizer read a text, at once or character by character, and its end.
+/// Has a tokenizer read a text, at once or character by character.
 fn feed_text(
     alloc: Global,
     tokenizer: &mut Tokenizer<Counts>,
@@ -57,12 +77,26 @@ fn feed_text(
     is_cut: bool,
 ) -> Result<(), ParseFault>
     requires { IsReadyIf counting (refusal_of tokenizer.old) tokenizer.old }
+    ensures { IsReadyIf counting (refusal_of tokenizer.new) tokenizer.new }
 {
     if is_cut {
-        feed_characters(alloc, tokenizer, input, text.as_str())?;
+        feed_characters(alloc, tokenizer, input, text.as_str())
     } else {
-        feed_piece(alloc, tokenizer, input, text)?;
+        feed_piece(alloc, tokenizer, input, text)
     }
+}
+
+/// Has a tokenizer read a text, at once or character by character, and its end.
+fn feed_to_end(
+    alloc: Global,
+    tokenizer: &mut Tokenizer<Counts>,
+    input: &mut BufferQueue,
+    text: String,
+    is_cut: bool,
+) -> Result<(), ParseFault>
+    requires { IsReadyIf counting (refusal_of tokenizer.old) tokenizer.old }
+{
+    feed_text(alloc, tokenizer, input, text, is_cut)?;
     tokenizer.end()
 }
 
@@ -78,7 +112,7 @@ pub(crate) fn read_past_pauses(
     let opts = TokenizerOpts::default();
     let mut tokenizer = Tokenizer::new(alloc, Counts::new(true), opts, table);
     let mut input = BufferQueue::new();
-    let answer = feed_text(alloc, &mut tokenizer, &mut input, text, is_cut);
+    let answer = feed_to_end(alloc, &mut tokenizer, &mut input, text, is_cut);
     let counts = counts_of(tokenizer);
     answer?;
     Ok(counts)

@@ -55,11 +55,14 @@ fn feed_page(alloc: Global, tokenizer: &mut Tokenizer<Counts>, page: &str) -> Re
     Ok(())
 }
 
-/// What was counted. The tokenizer is let go of here alone, since each place that lets one go takes long to prove.
+/// What was counted. The tokenizer is let go of here alone, and as a whole: what is left of one without its sink takes long
+/// to prove.
 pub(crate) fn counts_of(tokenizer: Tokenizer<Counts>) -> Counts
     ensures { result ≡ tokenizer.sink }
 {
-    tokenizer.sink
+    let counts = tokenizer.sink;
+    drop(tokenizer);
+    counts
 }
 
 /// Reads a page in pieces to its end, and counts what it says.

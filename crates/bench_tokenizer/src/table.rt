@@ -1,14 +1,9 @@
-//! Reads the table of the HTML Standard's named character references, checks it, and looks names up.
-#![tactic(auto)]
+//! Checks a table of named character references, and looks names up in it.
 
-use anyhow::Result;
-use devices::StdSource;
-use html_input::read_table;
-use html_references::{ReferenceRow, References};
-use std::fs::File;
+use html_tokenizer::{ReferenceRow, References};
 use std::io;
 
-// Whether a row is the longest match of its own name.
+/// Whether a row is the longest match of its own name.
 fn is_found(table: &References, row: &ReferenceRow) -> bool {
     match table.longest(row.name.as_str()) {
         None => false,
@@ -16,7 +11,7 @@ fn is_found(table: &References, row: &ReferenceRow) -> bool {
     }
 }
 
-// How many rows are the longest match of their own names.
+/// How many rows are the longest match of their own names.
 fn found(table: &References) -> usize {
     let mut count: usize = 0;
     for row in table.rows() {
@@ -35,7 +30,7 @@ fn show_row(rt: &HostRuntime, row: &ReferenceRow) -> io::Result<()> {
     }
 }
 
-// Tells the longest match of a text.
+/// Tells the longest match of a text.
 fn show_longest(rt: &HostRuntime, table: &References, text: &str) -> io::Result<()> {
     match table.longest(text) {
         None => print!(rt; "none"),
@@ -58,17 +53,11 @@ const SHOWN: &[&str] = &[
     "notit;", "notin;", "noti", "amp", "ampere", "acE;", "Zoo", "fjlig;",
 ];
 
-// Tells how many rows a table has and how many are found, and what some texts match.
-fn show_all(rt: &HostRuntime, table: &References) -> io::Result<()> {
+/// Tells how many rows a table has and how many are found, and what some texts match.
+pub(crate) fn show_all(rt: &HostRuntime, table: &References) -> io::Result<()> {
     println!(rt; "{} names, {} found", table.rows().len(), found(table))?;
     for &text in SHOWN {
         show(rt, table, text)?;
     }
     Ok(())
-}
-
-fn main(rt: HostRuntime) -> Result<()> {
-    let mut source = StdSource::new(File::open(&rt, "named_references.table")?);
-    let table = read_table(rt.alloc(), &mut source)?;
-    Ok(show_all(&rt, &table)?)
 }

@@ -1,6 +1,6 @@
 ghost use Rattle.std.specs.Prelude.{◌≡◌, ◌+◌, ◌<◌, [], length, min, OnOk, IfOk, IsOkUnless};
 ghost use Rattle.markup.specs.declared.fault.ParseFault.TheVariants.{Memory};
-ghost use Rattle.bench_queue.specs.Runs.{runs_and_members};
+ghost use Rattle.bench_tokenizer.specs.Runs.{runs_and_members};
 
 use html_queue::{BufferQueue, SmallCharSet};
 use markup::ParseFault;

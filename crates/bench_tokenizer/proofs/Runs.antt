@@ -8,7 +8,7 @@ use Rattle.html_queue.specs.Set.{has}
 use Rattle.html_queue.specs.Queue.{Queue, Takes, IsRun, Pops}
 use Rattle.html_queue.specs.declared.set.SetResult.{SetResult}
 use Rattle.html_queue.specs.declared.set.SetResult.TheVariants.{FromSet, NotFromSet}
-use Rattle.bench_queue.specs.Runs.{is_last, runs_and_members}
+use Rattle.bench_tokenizer.specs.Runs.{is_last, runs_and_members}
 
 -- a count that stops at the greatest number of 64 bits, and what is left, are together as many as all
 abbrev pub IsCounted : ℕ → ℕ → ℕ → Type 0

@@ -1,37 +1,19 @@
-//! Measures how fast a queue gives its characters: `bench_queue [CHARACTERS]`.
-//!
-//! Standard output gets what was taken, standard error how long it took.
-#![tactic(auto)]
+//! Measures how fast a queue gives its characters.
 
-mod drain;
-
-use anyhow::{Context, Result, bail};
-use drain::{characters_by_next, runs_by_pop_except_from};
+use crate::drain::{characters_by_next, runs_by_pop_except_from};
+use anyhow::{Result, bail};
 use html_queue::BufferQueue;
 use markup::ParseFault;
 use std::alloc::Global;
+use std::io;
 use std::time::Instant;
-use std::{env, io};
-
-const DEFAULT_CHARACTERS: usize = 100_000_000;
 
 /// A line of 50 characters, one of them of two bytes, with four runs between tags and references.
 const LINE: &str = "<p class=one>Caf\u{e9} &amp; bar, a plain line</p>....\n";
 
-fn main(rt: HostRuntime) -> Result<()> {
-    let characters = wanted_characters(&rt)?;
-    take_both(&rt, characters, &mut BufferQueue::new())
-}
-
-fn wanted_characters(rt: &HostRuntime) -> Result<usize> {
-    match env::args(rt)?.nth(1) {
-        Some(argument) => number_of(argument.as_str()),
-        None => Ok(DEFAULT_CHARACTERS),
-    }
-}
-
-fn number_of(argument: &str) -> Result<usize> {
-    argument.parse().context("the number of characters")
+/// Measures a queue of so many characters.
+pub(crate) fn measure(rt: &HostRuntime, characters: usize) -> Result<()> {
+    take_both(rt, characters, &mut BufferQueue::new())
 }
 
 /// Takes the characters of a queue one by one, and then once more in runs.

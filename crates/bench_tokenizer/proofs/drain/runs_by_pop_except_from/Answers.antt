@@ -1,6 +1,6 @@
 use Rattle.std.proofs.Common.{◌∙◌, sym}
-use Rattle.bench_queue.proofs.Runs.{count-one, count-ends, pop-counts, none-left, pop-whole}
-use Rattle.bench_queue.proofs.drain.runs_by_pop_except_from.Goals as goal
+use Rattle.bench_tokenizer.proofs.Runs.{count-one, count-ends, pop-counts, none-left, pop-whole}
+use Rattle.bench_tokenizer.proofs.drain.runs_by_pop_except_from.Goals as goal
 
 pub loop-count-preserved : goal.loop-count-preserved
 loop-count-preserved c =
