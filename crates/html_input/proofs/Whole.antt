@@ -3,12 +3,12 @@ use Rattle.std.proofs.Common.{◌≡◌, ℕ, List, [], ◌++◌, ap, sym, ◌�
 use Rattle.std.specs.Prelude.{Ok}
 use Rattle.std.specs.Io.KnownBytes.{IsAtEnd, prepend_known}
 use Rattle.std.proofs.lemmas.List.{append-nil}
-use Rattle.html_references.specs.References.{IsFirstFault}
+use Rattle.html_references.specs.References.{IsCheckedTable, IsFirstFault}
 use Rattle.html_tokens.specs.declared.table.ReferenceRow.{ReferenceRow}
 use Rattle.html_tokens.specs.declared.table.TableFault.{TableFault}
 use Rattle.html_tokens.specs.declared.table.TableFault.TheVariants as table
 use Rattle.html_input.specs.TableFile.{rows_of}
-use Rattle.html_input.specs.TableFault.{HasBadRow, IsTableFault, row_fault_of}
+use Rattle.html_input.specs.TableFault.{HasBadRow, IsTableFault, IsTableFile, row_fault_of}
 
 -- bytes that were read to the end of a source are all that it had
 pub record IsAll (bytes whole : List ℕ) (left : Option (List ℕ)) : Type 0 where
@@ -26,6 +26,17 @@ bad-row : (fault : TableFault) (old new : Option (List ℕ)) (bytes : List ℕ) 
 bad-row fault old new bytes rows moved end text lines first whole told =
     let all = all-read old new bytes whole moved end told in
     record { text = subst IsUtf8 all.same text; rows = rows; lines = ap rows_of (sym all.same) ∙ lines; first = first }
+
+-- a file whose rows are a checked table
+pub good-file : (old new : Option (List ℕ)) (bytes : List ℕ) (rows table : List ReferenceRow) → old ≡ prepend_known bytes new → IsAtEnd new → IsUtf8 bytes → rows_of bytes ≡ Ok rows → table ≡ rows → IsCheckedTable rows → (whole : List ℕ) → old ≡ Some whole → IsTableFile whole new table
+good-file old new bytes rows table moved end text lines same checked whole told =
+    let all = all-read old new bytes whole moved end told in
+    record {
+      text = subst IsUtf8 all.same text;
+      taken = all.taken;
+      lines = ap rows_of (sym all.same) ∙ lines ∙ ap Ok (sym same);
+      checked = subst IsCheckedTable (sym same) checked;
+    }
 
 -- a fault of the rows of a file
 pub row-fault : (fault : TableFault) (old new : Option (List ℕ)) (bytes : List ℕ) (rows : List ReferenceRow) → old ≡ prepend_known bytes new → IsAtEnd new → IsUtf8 bytes → rows_of bytes ≡ Ok rows → ((fault ≡ table.Memory → ⊥) → IsFirstFault rows fault)

@@ -162,9 +162,11 @@ impl TokenSink for Listed {
         line_number: u64,
     ) -> Result<TokenSinkResult<u64>, ParseFault> {
         if self.has_failed {
+            drop(token);
             return Err(ParseFault::Failed);
         }
         if self.has_ended {
+            drop(token);
             return Err(ParseFault::Ended);
         }
         let answer = self.take(token, line_number);

@@ -25,7 +25,9 @@ where
     ensures sound { S.has_failed sink.new ≡ false → S.is_sound (S.view sink.new) }
 {
     for (text, line) in pieces {
-        drop(sink.process_token(Token::CharacterTokens(text), line)?);
+        if let Err(fault) = sink.process_token(Token::CharacterTokens(text), line) {
+            return Err(fault);
+        }
     }
     Ok(())
 }

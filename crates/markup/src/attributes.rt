@@ -235,7 +235,9 @@ fn put_missing(
     ensures fits { FitsIndex result list.new.items }
 {
     for attribute in others {
-        if !attribute_index::has(&index, list.as_slice(), &attribute.name) {
+        if attribute_index::has(&index, list.as_slice(), &attribute.name) {
+            drop(attribute);
+        } else {
             index = put_last(list, index, attribute);
         }
     }

@@ -14,6 +14,9 @@ returns-in_default-clause-err g c =
     let bytes = c.loop-count.bytes.items in
     begun-shown _ _ _ bytes c.loop-count.invariant.moved c.in_default.ensures.kept (BeginsText-front bytes c.loop-count.valid c.loop-count.invariant.front)
 
+pub returns-in_default-clause-counted : goal.returns-in_default-clause-counted
+returns-in_default-clause-counted g c = search rules
+
 pub returns-in-Err-clause-err : goal.returns-in-Err-clause-err
 returns-in-Err-clause-err g c =
     let earlier = c.loop-count.bytes.items in

@@ -2,5 +2,5 @@ use Rattle.std.proofs.Common.{arith}
 use Rattle.std.proofs.lemmas.Grind.{common_steps}
 use Rattle.markup.proofs.attributes.put_missing.Goals as goal
 
-pub loop-attribute-preserved-then-not-has : goal.loop-attribute-preserved-then-not-has
-loop-attribute-preserved-then-not-has c = grind (arith, common_steps)
+pub loop-attribute-preserved : goal.loop-attribute-preserved
+loop-attribute-preserved c = grind (arith, common_steps)
