@@ -147,6 +147,17 @@ fn put(alloc: Global, input: &mut BufferQueue, text: &str) -> Result<(), ParseFa
     input.push_back(String::from_str(alloc, text)?)
 }
 
+/// Feeds what stands in the input, and says whether all was read.
+fn feed_once<S: TokenSink>(
+    tokenizer: &mut Tokenizer<S>,
+    input: &mut BufferQueue,
+) -> Result<bool, ParseFault>
+    requires { IsReadyIf S.TokenSink (refusal tokenizer.old.stream) tokenizer.old }
+    ensures { IsReadyIf S.TokenSink (refusal tokenizer.new.stream) tokenizer.new }
+{
+    Ok(matches!(tokenizer.feed(input)?, TokenizerResult::Done))
+}
+
 /// Feeds what stands in the input, on over its pauses.
 fn feed_all<S: TokenSink>(
     tokenizer: &mut Tokenizer<S>,
@@ -156,7 +167,7 @@ fn feed_all<S: TokenSink>(
     ensures { IsReadyIf S.TokenSink (refusal tokenizer.new.stream) tokenizer.new }
 {
     'pauses: for _pause in 0..PAUSES {
-        if matches!(tokenizer.feed(input)?, TokenizerResult::Done) {
+        if feed_once(tokenizer, input)? {
             return Ok(());
         }
     }
