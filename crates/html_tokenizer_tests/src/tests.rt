@@ -229,33 +229,19 @@ fn refuses<S: TokenSink>(
     refuses_input && refuses_end
 }
 
-/// What takes the tokens. Tokenizers are let go of here alone, since each place that lets one go takes long to prove.
-fn sink_of<S: TokenSink + Drop>(tokenizer: Tokenizer<S>) -> S {
-    tokenizer.sink
-}
-
-/// The same, where a call was not refused.
-fn sink_if<S: TokenSink + Drop>(
-    tokenizer: Tokenizer<S>,
-    answer: Result<(), ParseFault>,
-) -> Result<S, ParseFault> {
-    let sink = sink_of(tokenizer);
-    answer?;
-    Ok(sink)
-}
-
-/// Reads these pieces, and their end where it is told, and hands out the sink.
-fn read_over<S: TokenSink + Drop>(
+/// Reads these pieces, and their end where it is told, over a sink that is lent.
+fn read_over<S: TokenSink>(
     alloc: Global,
-    sink: S,
+    sink: &mut S,
     setting: Setting,
     pieces: Vec<String>,
-) -> Result<S, ParseFault>
-    requires { S.is_sound (S.view sink) }
+) -> Result<(), ParseFault>
+    requires { S.is_sound (S.view sink.old) }
 {
     let mut tokenizer = tokenizer_over(alloc, sink, setting)?;
     let answer = feed_to_end(&mut tokenizer, pieces, setting.tells_end);
-    sink_if(tokenizer, answer)
+    drop(tokenizer);
+    answer
 }
 
 /// A text in pieces, where memory for them was not refused.
@@ -264,7 +250,9 @@ type Pieces = Result<Vec<String>, AllocError>;
 /// What a list is told of these pieces, and of their end where it is told.
 fn read(alloc: Global, setting: Setting, pieces: Pieces) -> Result<Listed, ParseFault> {
     let pieces = pieces?;
-    read_over(alloc, list_of(alloc, setting), setting, pieces)
+    let mut sink = list_of(alloc, setting);
+    read_over(alloc, &mut sink, setting, pieces)?;
+    Ok(sink)
 }
 
 /// The same of a whole text.

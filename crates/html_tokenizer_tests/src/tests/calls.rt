@@ -3,10 +3,7 @@
 ghost use Rattle.html_tokenizer.specs.Calls.{IsReadyIf, refusal};
 
 use super::words::{Spoken, is_in_words};
-use super::{
-    PAGE, Setting, Table, feed_piece, list_of, put, read, refuses, see, sink_if, sink_of,
-    tokenizer_over,
-};
+use super::{PAGE, Setting, Table, feed_piece, list_of, put, read, refuses, see, tokenizer_over};
 use html_tokenizer::{BufferQueue, Listed, State, TokenSink, Tokenizer};
 use html_tokens::states::RawKind;
 use markup::ParseFault;
@@ -98,7 +95,7 @@ fn is_pending<S: TokenSink + Drop>(
         return false;
     };
     let is_right = is_pending_behind(alloc, &mut tokenizer, row);
-    drop(sink_of(tokenizer));
+    drop(tokenizer);
     is_right
 }
 
@@ -280,23 +277,21 @@ fn is_refused_behind<S: TokenSink>(
         && is_ended(tokenizer, input)
 }
 
-/// The same of a tokenizer over this sink, which is handed out.
-fn refused_behind<S: TokenSink + Drop>(
+/// The same of a tokenizer over this sink, which is lent.
+fn refuses_behind<S: TokenSink>(
     alloc: Global,
-    sink: S,
+    sink: &mut S,
     text: &str,
     input: &mut BufferQueue,
-) -> Result<S, ParseFault>
-    requires { S.is_sound (S.view sink) }
+) -> bool
+    requires { S.is_sound (S.view sink.old) }
 {
-    let mut tokenizer = tokenizer_over(alloc, sink, PAGE)?;
-    let is_refused = is_refused_behind(alloc, &mut tokenizer, text, input);
-    let answer = if is_refused {
-        Ok(())
-    } else {
-        Err(ParseFault::Shape)
+    let Ok(mut tokenizer) = tokenizer_over(alloc, sink, PAGE) else {
+        return false;
     };
-    sink_if(tokenizer, answer)
+    let is_right = is_refused_behind(alloc, &mut tokenizer, text, input);
+    drop(tokenizer);
+    is_right
 }
 
 /// Whether a list was told the text `a<` and the end, and this input is left.
@@ -309,10 +304,8 @@ fn are_refused_behind(alloc: Global, input: &mut BufferQueue) -> bool {
     if put(alloc, input, "b").is_err() {
         return false;
     }
-    match refused_behind(alloc, list_of(alloc, PAGE), "a<", input) {
-        Ok(sink) => has_left_all(alloc, &sink, input),
-        Err(_) => false,
-    }
+    let mut sink = list_of(alloc, PAGE);
+    refuses_behind(alloc, &mut sink, "a<", input) && has_left_all(alloc, &sink, input)
 }
 
 #[test]
@@ -371,7 +364,7 @@ fn is_read_plainly<S: TokenSink + Spoken + Drop>(alloc: Global, sink: S, row: &P
         return false;
     };
     let is_right = is_fed_plainly(alloc, &mut tokenizer, row);
-    drop(sink_of(tokenizer));
+    drop(tokenizer);
     is_right
 }
 

@@ -15,8 +15,9 @@ type Row = (&'static str, &'static str);
 /// What a sink is told that keeps the codes of the errors of a text in these pieces.
 fn read_codes(alloc: Global, setting: Setting, pieces: Pieces) -> Result<Naming, ParseFault> {
     let pieces = pieces?;
-    let sink = Naming::new(alloc, setting.asks_cdata);
-    read_over(alloc, sink, setting, pieces)
+    let mut sink = Naming::new(alloc, setting.asks_cdata);
+    read_over(alloc, &mut sink, setting, pieces)?;
+    Ok(sink)
 }
 
 /// Whether a text that is cut at this place tells just these errors.

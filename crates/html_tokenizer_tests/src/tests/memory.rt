@@ -5,10 +5,7 @@ ghost use Rattle.html_tokenizer.specs.Calls.{IsReadyIf, refusal};
 use super::calls::feed_text;
 use super::refusing::Refusing;
 use super::words::in_words;
-use super::{
-    PAGE, Row, Setting, exact, feed_all, list_of, put, refuses, see, sink_if, sink_of,
-    tokenizer_over,
-};
+use super::{PAGE, Row, Setting, exact, feed_all, list_of, put, refuses, see, tokenizer_over};
 use html_tokenizer::{BufferQueue, Listed, TokenSink, Tokenizer};
 use markup::ParseFault;
 use std::alloc::Global;
@@ -49,25 +46,28 @@ fn feed_or_fail<S: TokenSink>(
     answer
 }
 
-/// Reads what stands in the input and its end, and hands out the sink.
-fn read_or_fail<S: TokenSink + Drop>(
+/// Reads what stands in the input and its end over a sink that is lent.
+fn read_or_fail<S: TokenSink>(
     alloc: Global,
-    sink: S,
+    sink: &mut S,
     setting: Setting,
     input: &mut BufferQueue,
-) -> Result<S, ParseFault>
-    requires { S.is_sound (S.view sink) }
+) -> Result<(), ParseFault>
+    requires { S.is_sound (S.view sink.old) }
 {
     let mut tokenizer = tokenizer_over(alloc, sink, setting)?;
     let answer = feed_or_fail(&mut tokenizer, input);
-    sink_if(tokenizer, answer)
+    drop(tokenizer);
+    answer
 }
 
 /// What a list is told of a text and its end.
 fn read_text(alloc: Global, setting: Setting, text: &str) -> Result<Listed, ParseFault> {
     let mut input = BufferQueue::new();
     put(alloc, &mut input, text)?;
-    read_or_fail(alloc, list_of(alloc, setting), setting, &mut input)
+    let mut sink = list_of(alloc, setting);
+    read_or_fail(alloc, &mut sink, setting, &mut input)?;
+    Ok(sink)
 }
 
 /// Whether a list was told these tokens, or memory is refused for their words.
@@ -171,7 +171,7 @@ fn is_refused<S: TokenSink + Drop>(
         return false;
     };
     let is_right = passes_on(alloc, &mut tokenizer, text, at_end, fault);
-    drop(sink_of(tokenizer));
+    drop(tokenizer);
     is_right
 }
 

@@ -3,7 +3,7 @@ ghost use Rattle.html_tokenizer.specs.Calls.{IsReadyIf, refusal};
 
 use super::sinks::Naming;
 use super::words::{Spoken, is_in_words};
-use super::{PAGE, list_of, put, see, sink_of, tokenizer_over};
+use super::{PAGE, list_of, put, see, tokenizer_over};
 use html_tokenizer::{BufferQueue, TokenSink, Tokenizer};
 use markup::{ParseFault, TokenizerResult};
 use std::alloc::Global;
@@ -206,7 +206,7 @@ fn is_row<S: TokenSink<Handle = u64> + Spoken + Drop>(alloc: Global, sink: S, ro
         return false;
     };
     let is_right = is_read_on(alloc, &mut tokenizer, &mut BufferQueue::new(), row);
-    drop(sink_of(tokenizer));
+    drop(tokenizer);
     is_right
 }
 
