@@ -8,6 +8,8 @@ mod names;
 #[cfg(test)]
 mod queue;
 #[cfg(test)]
+mod queue_lists;
+#[cfg(test)]
 mod references;
 #[cfg(test)]
 mod streams;

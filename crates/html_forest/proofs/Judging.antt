@@ -7,14 +7,14 @@ use Rattle.markup.specs.Forest.{Forest, children_of, data_of, template_of}
 use Rattle.markup.specs.Named.{IsTree}
 use Rattle.markup.specs.NodeCounts.{nodes_in}
 use Rattle.markup.proofs.WholeTrees.{trees-first, trees-none, nodes-first, nodes-none}
-use Rattle.markup.specs.Trees.{Trees, Nothing, Comment, ProcessingInstruction, Element, inner_of, node_before, trees_before}
+use Rattle.markup.specs.Trees.{Trees, Nothing, ProcessingInstruction, Element, inner_of, node_before, trees_before}
 use Rattle.markup.specs.declared.attributes.Attribute.{Attribute}
 use Rattle.markup.specs.declared.names.QualName.{QualName}
 use Rattle.html_plain.specs.Elements.{behind_element, behind_text, element_of, inside, may_end}
 use Rattle.html_plain.specs.Grammar.{is_plain, is_plain_start, is_some_and}
 use Rattle.html_plain.specs.declared.elements.PlainElement.{PlainElement}
 use Rattle.html_plain.specs.declared.place.Place.TheVariants.{BeforeRoot}
-use Rattle.html_forest.specs.Judging.{AreChildrenTaken, Descends, GoesOn, IsAround, IsAscent, IsBehindDoctype, IsBehindText, IsElementTaken, IsTaken, Walk, are_levels_plain, is_left_plain, is_walk_plain, nodes_left, plain_by, trees_behind, trees_by, waiting_nodes, around_of, goes_on_at, is_plain_at, opens_here, takes_here}
+use Rattle.html_forest.specs.Judging.{AreChildrenTaken, Descends, GoesOn, IsAround, IsAscent, IsBehindComment, IsBehindDoctype, IsBehindText, IsElementTaken, IsTaken, Walk, are_levels_plain, is_left_plain, is_walk_plain, nodes_left, plain_by, trees_behind, trees_by, waiting_nodes, around_of, goes_on_at, is_plain_at, opens_here, takes_comment_here, takes_here}
 use Rattle.html_forest.specs.declared.plain.Level.{Level}
 use Rattle.html_forest.specs.declared.plain.Stand.{Stand}
 
@@ -25,6 +25,14 @@ text-goes_on stand text h rest = rw h refl
 pub text-ends : (stand : Stand) (text : List ℕ) → takes_here stand text ≡ false → IsBehindText stand text None
 unfolding is_plain
 text-ends stand text h rest = rw h refl
+
+pub comment-goes_on : (stand : Stand) (text : List ℕ) → takes_comment_here stand text ≡ true → IsBehindComment stand text (Some (record { place = stand.place; after_text = false }))
+unfolding is_plain
+comment-goes_on stand text h rest = rw h refl
+
+pub comment-ends : (stand : Stand) (text : List ℕ) → takes_comment_here stand text ≡ false → IsBehindComment stand text None
+unfolding is_plain
+comment-ends stand text h rest = rw h refl
 
 pub doctype-goes_on : (stand : Stand) (name public_id system_id : List ℕ) → opens_here stand name public_id system_id ≡ true → IsBehindDoctype stand name public_id system_id (Some (record { place = BeforeRoot; after_text = false }))
 unfolding is_plain
@@ -78,10 +86,6 @@ template-odd : (stand : Stand) (name : QualName) (attributes : List Attribute) (
 unfolding is_plain
 template-odd stand name attributes kids rest = template-by stand attributes (λ k. is_plain (inside stand.place k) false kids) (λ k. is_plain (behind_element stand.place) false rest) (element_of name)
 
-comment-odd : (stand : Stand) (text : List ℕ) (rest : Trees) → is_plain_at stand (Comment text rest) ≡ false
-unfolding is_plain
-comment-odd stand text rest = refl
-
 instruction-odd : (stand : Stand) (target text : List ℕ) (rest : Trees) → is_plain_at stand (ProcessingInstruction target text rest) ≡ false
 unfolding is_plain
 instruction-odd stand target text rest = refl
@@ -126,24 +130,26 @@ module _ (f : Forest) (tree : IsTree f) where
   went-on old new None goes_on g e k = rw g refl
   went-on old new (Some b) goes_on g e k = rw (g.1, g.0, e, k) refl
 
-  pub text-taken : (old new : Walk) (n : ℕ) (text : List ℕ) (behind : Option Stand) (goes_on : Bool) → data_of f n ≡ forest.NodeData.Text text → IsBehindText old.0 text behind → GoesOn behind new.0 goes_on → new.1 ≡ old.1 → new.2 ≡ old.2 → IsTaken f n old new goes_on
-  text-taken old new n text behind goes_on d h g e k = record {
-    plain = node-plain old n _ d ∙ (ap (λ b. b && levels_plain old) (h (behind_all old)) ∙ went-on old new behind goes_on g e k);
+  -- a node in which nothing stands, behind which it goes on or not
+  leaf-taken : (old new : Walk) (n : ℕ) (about : forest.NodeData) (behind : Option Stand) (goes_on : Bool) → data_of f n ≡ about → ((inner : Trees → Trees) (rest : Trees) → is_plain_at old.0 (node_before about inner rest) ≡ goes_on_at behind rest) → GoesOn behind new.0 goes_on → new.1 ≡ old.1 → new.2 ≡ old.2
+      → IsTaken f n old new goes_on
+  leaf-taken old new n about behind goes_on d h g e k = record {
+    plain = node-plain old n about d ∙ (ap (λ b. b && levels_plain old) (h (trees_before f (inner_of f n)) (behind_all old)) ∙ went-on old new behind goes_on g e k);
     less = λ on. fewer old new n e k;
   }
 
+  pub text-taken : (old new : Walk) (n : ℕ) (text : List ℕ) (behind : Option Stand) (goes_on : Bool) → data_of f n ≡ forest.NodeData.Text text → IsBehindText old.0 text behind → GoesOn behind new.0 goes_on → new.1 ≡ old.1 → new.2 ≡ old.2 → IsTaken f n old new goes_on
+  text-taken old new n text behind goes_on d h g e k = leaf-taken old new n (forest.NodeData.Text text) behind goes_on d (λ inner rest. h rest) g e k
+
+  pub comment-taken : (old new : Walk) (n : ℕ) (text : List ℕ) (behind : Option Stand) (goes_on : Bool) → data_of f n ≡ forest.NodeData.Comment text → IsBehindComment old.0 text behind → GoesOn behind new.0 goes_on → new.1 ≡ old.1 → new.2 ≡ old.2 → IsTaken f n old new goes_on
+  comment-taken old new n text behind goes_on d h g e k = leaf-taken old new n (forest.NodeData.Comment text) behind goes_on d (λ inner rest. h rest) g e k
+
   pub doctype-taken : (old new : Walk) (n : ℕ) (name public_id system_id : List ℕ) (behind : Option Stand) (goes_on : Bool) → data_of f n ≡ forest.NodeData.Doctype name public_id system_id → IsBehindDoctype old.0 name public_id system_id behind → GoesOn behind new.0 goes_on → new.1 ≡ old.1 → new.2 ≡ old.2 → IsTaken f n old new goes_on
-  doctype-taken old new n name public_id system_id behind goes_on d h g e k = record {
-    plain = node-plain old n _ d ∙ (ap (λ b. b && levels_plain old) (h (behind_all old)) ∙ went-on old new behind goes_on g e k);
-    less = λ on. fewer old new n e k;
-  }
+  doctype-taken old new n name public_id system_id behind goes_on d h g e k = leaf-taken old new n (forest.NodeData.Doctype name public_id system_id) behind goes_on d (λ inner rest. h rest) g e k
 
   -- a node that may stand nowhere
   odd : (old new : Walk) (n : ℕ) (about : forest.NodeData) → data_of f n ≡ about → is_plain_at old.0 (node_before about (trees_before f (inner_of f n)) (behind_all old)) ≡ false → IsTaken f n old new false
   odd old new n about d h = record { plain = node-plain old n about d ∙ ap (λ b. b && levels_plain old) h; less = λ on. absurd cc }
-
-  pub comment-taken : (old new : Walk) (n : ℕ) (text : List ℕ) → data_of f n ≡ forest.NodeData.Comment text → IsTaken f n old new false
-  comment-taken old new n text d = odd old new n _ d (comment-odd old.0 text _)
 
   pub instruction-taken : (old new : Walk) (n : ℕ) (target text : List ℕ) → data_of f n ≡ forest.NodeData.ProcessingInstruction target text → IsTaken f n old new false
   instruction-taken old new n target text d = odd old new n _ d (instruction-odd old.0 target text _)

@@ -2,11 +2,11 @@
 use Rattle.std.specs.Prelude.{◌≡◌, ℕ, suc, ◌+◌, ◌<◌, ◌++◌, Bool, true, false, not, ◌&&◌, List, [], ◌∷◌, reverse, Option, Some, None}
 use Rattle.markup.specs.Forest.{Forest, children_of}
 use Rattle.markup.specs.NodeCounts.{nodes_in}
-use Rattle.markup.specs.Trees.{Trees, Nothing, Text, Doctype, Element, trees_before}
+use Rattle.markup.specs.Trees.{Trees, Nothing, Text, Comment, Doctype, Element, trees_before}
 use Rattle.markup.specs.declared.attributes.Attribute.{Attribute}
 use Rattle.markup.specs.declared.names.QualName.{QualName}
-use Rattle.html_plain.specs.Elements.{behind_element, inside, may_end, text_kind}
-use Rattle.html_plain.specs.Grammar.{is_first, is_plain, is_plain_doctype, is_plain_text, takes_text}
+use Rattle.html_plain.specs.Elements.{behind_element, inside, may_end, takes_comments, text_kind}
+use Rattle.html_plain.specs.Grammar.{is_first, is_plain, is_plain_comment, is_plain_doctype, is_plain_text, takes_text}
 use Rattle.html_plain.specs.declared.elements.PlainElement.{PlainElement}
 use Rattle.html_forest.specs.declared.plain.Around.{Around}
 use Rattle.html_forest.specs.declared.plain.Level.{Level}
@@ -29,6 +29,10 @@ both_at (Some around) kids rest = is_plain_at around.inside kids && is_plain_at 
 abbrev pub takes_here : Stand → List ℕ → Bool
 takes_here stand text = not stand.after_text && (is_plain_text text && takes_text (text_kind stand.place) text)
 
+-- whether a comment may
+abbrev pub takes_comment_here : Stand → List ℕ → Bool
+takes_comment_here stand text = takes_comments stand.place && is_plain_comment text
+
 -- whether a doctype may
 abbrev pub opens_here : Stand → List ℕ → List ℕ → List ℕ → Bool
 opens_here stand name public_id system_id = is_first stand.place && is_plain_doctype name public_id system_id
@@ -36,6 +40,10 @@ opens_here stand name public_id system_id = is_first stand.place && is_plain_doc
 -- where it goes on behind a text
 abbrev pub IsBehindText : Stand → List ℕ → Option Stand → Type 0
 IsBehindText stand text behind = (rest : Trees) → is_plain_at stand (Text text rest) ≡ goes_on_at behind rest
+
+-- and behind a comment
+abbrev pub IsBehindComment : Stand → List ℕ → Option Stand → Type 0
+IsBehindComment stand text behind = (rest : Trees) → is_plain_at stand (Comment text rest) ≡ goes_on_at behind rest
 
 -- and behind a doctype
 abbrev pub IsBehindDoctype : Stand → List ℕ → List ℕ → List ℕ → Option Stand → Type 0

@@ -45,7 +45,8 @@ impl Forest {
     ghost use Rattle.html_plain.specs.Grammar.{is_plain_forest};
     ghost use Rattle.markup.specs.Named.{HasContents, IsOrdinary};
     ghost use Rattle.markup.specs.Forest.NodeData.{Contents, Element, Text as TextNode};
-    ghost use Rattle.markup.specs.Forest.{IsForest, IsLoose, IsPlace, MayPut, children_of, contents_of, data_if, data_of, empty_forest, node_count, parent_at, parent_of, place_before, place_near, previous_at, put, put_child, put_new, put_text, text_of, with_node};
+    ghost use Rattle.html_forest.specs.Links.{first_of, next_under, previous_under};
+    ghost use Rattle.markup.specs.Forest.{IsForest, IsLoose, IsPlace, MayPut, children_of, contents_of, data_if, data_of, empty_forest, last_of, node_count, parent_at, parent_of, place_before, place_near, previous_at, put, put_child, put_new, put_text, text_of, with_node};
 
     /// A document with nothing in it, in no quirks mode and with no error. It grows in the memory of `alloc`.
     pub fn new(alloc: Global) -> Result<Forest, ParseFault>
@@ -61,6 +62,13 @@ impl Forest {
             quirks: QuirksMode::NoQuirks,
             errors: 0,
         })
+    }
+
+    /// The node of the whole document.
+    pub fn document(&self) -> NodeId
+        ensures { result ≡ 0 }
+    {
+        NodeId::new(0)
     }
 
     /// What a node is; nothing where the number names no node.
@@ -81,6 +89,46 @@ impl Forest {
     {
         match self.nodes.get(id.number()) {
             Some(node) => node.links.parent.node(),
+            None => None,
+        }
+    }
+
+    /// The first of the children of a node.
+    pub fn first_child(&self, id: NodeId) -> Option<NodeId>
+        ensures { result ≡ first_of (children_of self.now id) }
+    {
+        match self.nodes.get(id.number()) {
+            Some(node) => node.links.first.node(),
+            None => None,
+        }
+    }
+
+    /// The last of the children of a node.
+    pub fn last_child(&self, id: NodeId) -> Option<NodeId>
+        ensures { result ≡ last_of (children_of self.now id) }
+    {
+        match self.nodes.get(id.number()) {
+            Some(node) => node.links.last.node(),
+            None => None,
+        }
+    }
+
+    /// The node just behind a node, among the children of its parent.
+    pub fn next_sibling(&self, id: NodeId) -> Option<NodeId>
+        ensures { result ≡ next_under self.now id (parent_of self.now id) }
+    {
+        match self.nodes.get(id.number()) {
+            Some(node) => node.links.next.node(),
+            None => None,
+        }
+    }
+
+    /// The node just before a node, among the children of its parent.
+    pub fn previous_sibling(&self, id: NodeId) -> Option<NodeId>
+        ensures { result ≡ previous_under self.now id (parent_of self.now id) }
+    {
+        match self.nodes.get(id.number()) {
+            Some(node) => node.links.previous.node(),
             None => None,
         }
     }
@@ -125,8 +173,8 @@ impl Forest {
         self.errors
     }
 
-    /// What every forest keeps, for whoever walks it.
-    pub(crate) fn keeps(&self)
+    /// What every forest keeps: it is a tree, and the contents of a template follow it. Does nothing: it is a law, for whoever walks one.
+    pub fn keeps(&self)
         ensures is_forest { IsForest self.now }
         ensures contents { HasContents self.now }
     {

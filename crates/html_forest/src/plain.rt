@@ -4,13 +4,13 @@ ghost use Rattle.markup.specs.Forest.{children_of};
 ghost use Rattle.markup.specs.Named.{IsTree};
 ghost use Rattle.markup.specs.declared.fault.ParseFault.TheVariants.{Memory};
 ghost use Rattle.html_plain.specs.Grammar.{is_plain_forest, is_plain_start};
-ghost use Rattle.html_forest.specs.Judging.{AreChildrenTaken, GoesOn, IsAround, IsAscent, IsBehindDoctype, IsBehindText, IsElementTaken, IsTaken, around_of, opens_here, takes_here};
+ghost use Rattle.html_forest.specs.Judging.{AreChildrenTaken, GoesOn, IsAround, IsAscent, IsBehindComment, IsBehindDoctype, IsBehindText, IsElementTaken, IsTaken, around_of, opens_here, takes_comment_here, takes_here};
 
 use crate::children::Children;
 use crate::forest::Forest;
 use crate::node::{NodeData, NodeId};
 use html_plain::attributes::are_plain_attributes;
-use html_plain::texts::{is_plain_doctype, is_plain_text, takes_text};
+use html_plain::texts::{is_plain_comment, is_plain_doctype, is_plain_text, takes_text};
 use html_plain::{Place, PlainElement};
 use markup::{Attributes, ParseFault, QualName, Text};
 use std::alloc::Global;
@@ -54,6 +54,27 @@ impl Stand {
             Some(Stand {
                 place: self.place.behind_text(),
                 after_text: true,
+            })
+        } else {
+            None
+        }
+    }
+
+    /// Whether a comment may stand here.
+    fn takes_comment(self, text: &Text) -> bool
+        ensures { result ≡ takes_comment_here self text.now }
+    {
+        self.place.takes_comments() && is_plain_comment(text)
+    }
+
+    /// Where the next node stands behind a comment, if that may stand here.
+    fn behind_comment(self, text: &Text) -> Option<Stand>
+        ensures { IsBehindComment self text.now result }
+    {
+        if self.takes_comment(text) {
+            Some(Stand {
+                place: self.place,
+                after_text: false,
             })
         } else {
             None
@@ -241,6 +262,10 @@ impl<'a> Judge<'a> {
                 let behind = self.stand.behind_text(text);
                 Ok(self.go_on(behind))
             }
+            Some(NodeData::Comment(text)) => {
+                let behind = self.stand.behind_comment(text);
+                Ok(self.go_on(behind))
+            }
             Some(
                 NodeData::Doctype {
                     name,
@@ -265,7 +290,6 @@ impl<'a> Judge<'a> {
                     ..
                 },
             ) => Ok(false),
-            Some(NodeData::Comment(_)) => Ok(false),
             Some(NodeData::ProcessingInstruction { .. }) => Ok(false),
             Some(NodeData::Document) => self.take_children(forest, id),
             Some(NodeData::Contents) => self.take_children(forest, id),

@@ -22,5 +22,6 @@ pub fn split_text(bytes: Vec<u8>, before: u64) -> Result<(String, Vec<u8>), Text
         }
     };
     let cut = bytes.split_off(valid)?;
-    Ok((String::from_utf8(bytes).unwrap(), cut))
+    // SAFETY: `valid_front` says that this front is text.
+    Ok((unsafe { String::from_utf8_unchecked(bytes) }, cut))
 }

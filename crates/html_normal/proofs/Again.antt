@@ -1,24 +1,23 @@
 -- Plain documents are read again, and normal bytes are kept.
 use Rattle.std.proofs.Common.{◌≡◌, ◌∙◌, ℕ, true, false, List, refl, sym, ap, Result, Ok, Err}
 use Rattle.markup.specs.Forest.{Forest}
-use Rattle.html_plain.specs.Grammar.{is_plain_forest}
 use Rattle.html_read_back.specs.States.{Around}
 use Rattle.html_read_back.proofs.Document.{bytes-again}
 use Rattle.html_rules.specs.State.{State}
-use Rattle.html_tokens.specs.Laws.{ReadsEscapes}
 use Rattle.html_tokens.specs.Sink.{Refusal}
 use Rattle.html_tokens.specs.Table.{Row}
-use Rattle.html_normal.specs.Again.{IsNormal}
-use Rattle.html_normal.specs.Document.{IsDocument, document_bytes, forest_answers}
+use Rattle.html_normal.specs.Document.{IsDocument, forest_answers}
+use Rattle.html_normal.specs.Laws.{ArePlainForestsNormal}
 
 abbrev around : Around
 around = record { scripting = true; answers = forest_answers }
 
 -- the bytes that a plain document is written as are normal
-pub plain-normal : (table : List Row) → ReadsEscapes table → (f : Forest) → is_plain_forest f ≡ true → IsNormal table (document_bytes f)
+pub plain-normal : ArePlainForestsNormal
 plain-normal table reads f plain = let r = bytes-again table reads true around false f plain in record {
   document = r.read.left.forest;
   input = record { text = r.utf8; state = r.read.left; read = r.read.gives; tree = refl };
+  trees = r.read.shows;
   plain = r.plain;
   no_quirks = r.read.told_no_quirks;
   same = r.written;

@@ -87,12 +87,18 @@ end-known mid (Some left) now end = subst IsAtEnd now end
 
 module _ {K H O : Type 0} (Sink : TreeGhosts K H O) where
   pub ReadsOn-none : (k : Tokenizer (TreeBuilder K H O)) → ReadsOn (builder Sink) k k (chars [])
-  ReadsOn-none k begin before read = subst (λ (cs : List ℕ). HasRead (builder Sink) begin cs k) (sym (append-nil before) ∙ ap (λ cs. before ++ cs) (sym chars-nil)) read
+  ReadsOn-none k = record {
+    reads = λ begin before read. subst (λ (cs : List ℕ). HasRead (builder Sink) begin cs k) (sym (append-nil before) ∙ ap (λ cs. before ++ cs) (sym chars-nil)) read;
+    works = λ e. e;
+  }
 
   pub ReadsOn-more : (k mid k' : Tokenizer (TreeBuilder K H O)) (decoded more : List ℕ) → IsUtf8 decoded → ReadsOn (builder Sink) k mid (chars decoded) → ReadsOn (builder Sink) mid k' (chars more) → ReadsOn (builder Sink) k k' (chars (decoded ++ more))
-  ReadsOn-more k mid k' decoded more text first then begin before read =
-      subst (λ (cs : List ℕ). HasRead (builder Sink) begin cs k') (append_assoc before (chars decoded) (chars more) ∙ ap (λ cs. before ++ cs) (sym (chars-append decoded more text)))
-      (then begin (before ++ chars decoded) (first begin before read))
+  ReadsOn-more k mid k' decoded more text first then = record {
+    reads = λ begin before read.
+        subst (λ (cs : List ℕ). HasRead (builder Sink) begin cs k') (append_assoc before (chars decoded) (chars more) ∙ ap (λ cs. before ++ cs) (sym (chars-append decoded more text)))
+        (then.reads begin (before ++ chars decoded) (first.reads begin before read));
+    works = λ e. first.works (then.works e);
+  }
 
   -- what waited was nothing
   pub ReadsOn-alone : (mid k' : Tokenizer (TreeBuilder K H O)) (waits more : List ℕ) → waits ≡ [] → ReadsOn (builder Sink) mid k' (waits ++ more) → ReadsOn (builder Sink) mid k' more
@@ -101,16 +107,16 @@ module _ {K H O : Type 0} (Sink : TreeGhosts K H O) where
   -- what is refused behind more is refused behind less
   pub refused-before : (k k' : Tokenizer (TreeBuilder K H O)) (more : List ℕ) → ReadsOn (builder Sink) k k' more → MayRefuse Sink k' → MayRefuse Sink k
   refused-before k k' more reads refuses begin before read =
-      let there = refuses begin (before ++ more) (reads begin before read) in
+      let there = refuses begin (before ++ more) (reads.reads begin before read) in
       record { behind = more ++ there.behind; is = subst (λ (cs : List ℕ). IsErr (read_whole (builder Sink) begin cs)) (append_assoc before more there.behind) there.is }
 
   -- a fault of a parser
   pub parse-fault : (fault : ParseFault) (old new : Option (List ℕ)) (k k' : Tokenizer (TreeBuilder K H O)) (more : List ℕ) → ReadsOn (builder Sink) k k' more → FailsBehind (builder Sink) k' fault → IsInputFault (MayRefuse Sink k) old new (fault_of fault)
   parse-fault parse.Memory old new k k' more reads fails = tt
   parse-fault parse.Failed old new k k' more reads fails = tt
-  parse-fault parse.TokenInText old new k k' more reads fails = refused-before k k' more reads (fails tt)
-  parse-fault parse.Ended old new k k' more reads fails = refused-before k k' more reads (fails tt)
-  parse-fault parse.Shape old new k k' more reads fails = refused-before k k' more reads (fails tt)
+  parse-fault parse.TokenInText old new k k' more reads fails = refused-before k k' more reads (fails.refused tt)
+  parse-fault parse.Ended old new k k' more reads fails = refused-before k k' more reads (fails.refused tt)
+  parse-fault parse.Shape old new k k' more reads fails = refused-before k k' more reads (fails.refused tt)
 
   -- all was read
   pub read-all : (old mid new : Option (List ℕ)) (decoded held : List ℕ) (taken : ℕ) (k k' : Tokenizer (TreeBuilder K H O)) → IsDecoded old mid decoded held taken → mid ≡ prepend_known [] new → IsAtEnd mid → held ≡ [] → ReadsOn (builder Sink) k k' (chars decoded) → HasReadAll Sink old new k k'

@@ -1,4 +1,5 @@
 pub mod Again
 pub mod Decoding
 pub mod Meanings
+mod Fragments
 pub mod SameTrees

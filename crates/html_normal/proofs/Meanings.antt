@@ -63,9 +63,9 @@ pub finish-fault : {K H : Type 0} (Sink : Ghosts K H) (fault : ParseFault) (old 
     → IsInputFault ⊥ old new (fault_of fault)
 finish-fault Sink parse.Memory old new begin before k read taken fails = tt
 finish-fault Sink parse.Failed old new begin before k read taken fails = tt
-finish-fault Sink parse.TokenInText old new begin before k read taken fails = let there = fails tt begin before read in ok-or-err (read_whole Sink begin (before ++ there.behind)) (taken (before ++ there.behind)) there.is
-finish-fault Sink parse.Ended old new begin before k read taken fails = let there = fails tt begin before read in ok-or-err (read_whole Sink begin (before ++ there.behind)) (taken (before ++ there.behind)) there.is
-finish-fault Sink parse.Shape old new begin before k read taken fails = let there = fails tt begin before read in ok-or-err (read_whole Sink begin (before ++ there.behind)) (taken (before ++ there.behind)) there.is
+finish-fault Sink parse.TokenInText old new begin before k read taken fails = let there = fails.refused tt begin before read in ok-or-err (read_whole Sink begin (before ++ there.behind)) (taken (before ++ there.behind)) there.is
+finish-fault Sink parse.Ended old new begin before k read taken fails = let there = fails.refused tt begin before read in ok-or-err (read_whole Sink begin (before ++ there.behind)) (taken (before ++ there.behind)) there.is
+finish-fault Sink parse.Shape old new begin before k read taken fails = let there = fails.refused tt begin before read in ok-or-err (read_whole Sink begin (before ++ there.behind)) (taken (before ++ there.behind)) there.is
 
 -- how often a reader failed does not depend on what is answered else
 pub counts-any : (T U : Type 0) (fault : NormalFault) (left left' : Option (List ℕ)) (failures failures' : Option ℕ) → CountsReads {T = T} (Err fault) left left' failures failures' → CountsReads {T = U} (Err fault) left left' failures failures'
@@ -76,7 +76,7 @@ counts-any T U Memory left left' failures failures' is = is
 counts-any T U Refused left left' failures failures' is = is
 
 -- options that are the default ones but for whether characters are told
-abbrev opts_with : Bool → TokenizerOpts
+abbrev pub opts_with : Bool → TokenizerOpts
 opts_with exact = record default_opts { exact_errors = exact }
 
 from-none : (m errors : ℕ) → min (0 + m) 0xffff_ffff_ffff_ffff ≤ errors → min m 0xffff_ffff_ffff_ffff ≤ errors

@@ -27,7 +27,7 @@ unfolding trees_within
 trees_within-same zero n f ms rest = refl
 trees_within-same (suc levels) n f ms rest = nodes_before-same n f (trees_within levels (with_errors n f)) (trees_within levels f) (trees_within-same levels n f) ms rest
 
-trees_of-same : (n : ℕ) (f : Forest) (ms : List ℕ) → trees_of (with_errors n f) ms ≡ trees_of f ms
+pub trees_of-same : (n : ℕ) (f : Forest) (ms : List ℕ) → trees_of (with_errors n f) ms ≡ trees_of f ms
 trees_of-same n f ms = trees_within-same (node_count f) n f ms Nothing
 
 pub plain-same : (n : ℕ) (f : Forest) → is_plain_forest (with_errors n f) ≡ is_plain_forest f

@@ -13,7 +13,7 @@ use Rattle.html_rules.specs.Documents.{Setting, before_document, document, stand
 use Rattle.html_rules.specs.ForeignContent.{asks_cdata}
 use Rattle.html_rules.specs.State.{Answers, State, hushed}
 use Rattle.html_rules.specs.Step.{ended, is_quiet, step}
-use Rattle.html_tokenizer.specs.Calls.{owed_for_text}
+use Rattle.html_tokens.specs.Owed.{owed_for_text}
 
 -- what is not asked for otherwise: a byte order mark is dropped, and reading begins in data
 abbrev pub default_opts : TokenizerOpts

@@ -1,4 +1,5 @@
 pub mod Document
+pub mod Fragment
 pub mod Faults
 pub mod Lines
 pub mod Again

@@ -9,7 +9,7 @@ use Rattle.html_plain.specs.Grammar.{is_plain_forest}
 use Rattle.html_tokens.specs.Laws.{ReadsEscapes}
 use Rattle.html_tokens.specs.Table.{Row}
 use Rattle.html_normal.specs.Again.{IsNormal}
-use Rattle.html_normal.specs.Document.{CountsErrors, IsDocument, document_bytes}
+use Rattle.html_normal.specs.Document.{CountsErrors, IsDocument, document_bytes, document_trees}
 use Rattle.html_normal.specs.declared.fault.NormalFault.{NormalFault}
 use Rattle.html_normal.specs.declared.fault.NormalFault.TheVariants.{NotUtf8, Read, Write, Memory, Refused}
 use Rattle.html_normal.specs.declared.report.Report.{Report}
@@ -31,7 +31,7 @@ pub record IsNormalised (table : List Row) (exact : Bool) (whole : List ℕ) (le
   pub quirks : report.quirks ≡ document.quirks
   pub errors : CountsErrors table exact (chars whole) report.errors
   -- read again, by whatever table that reads what escaping writes, a plain document's text is that document, and is written the same
-  pub again : report.plain ≡ true → (other : List Row) → ReadsEscapes other → IsNormal other (document_bytes document)
+  pub again : report.plain ≡ true → (other : List Row) → ReadsEscapes other → IsNormal other (document_trees document) (document_bytes document)
 
 -- A beginning of the document was written.
 pub record IsBegun (table : List Row) (whole : List ℕ) (old new : Option (List ℕ)) : Type 0 where

@@ -20,7 +20,7 @@ use std::alloc::Global;
 
 /// Has a parser take all that a reader has, in reads of at most 4,096 bytes. A character that a read cuts is held until the rest
 /// of it comes.
-fn read_into<R: Source, Sink: TreeSink>(
+pub(crate) fn read_into<R: Source, Sink: TreeSink>(
     alloc: Global,
     reader: &mut R,
     parser: &mut Parser<Sink>,
@@ -58,7 +58,7 @@ fn read_into<R: Source, Sink: TreeSink>(
 }
 
 /// How a document is parsed: with default options, but for the errors that are told.
-fn options(exact: Exact) -> ParseOpts
+pub fn options(exact: Exact) -> ParseOpts
     ensures tokenizer { result.tokenizer ≡ record default_opts { exact_errors = exact.tokenizer } }
     ensures tree_builder { setting_of forest_answers result.tree_builder ≡ default_setting }
 {
@@ -74,8 +74,8 @@ fn options(exact: Exact) -> ParseOpts
     }
 }
 
-/// The document of what a reader has, read to its end.
-pub(crate) fn read_document<R: Source>(
+/// The document of what a reader has, read to its end. Faults are as those of [`crate::normalise`].
+pub fn read_document<R: Source>(
     alloc: Global,
     reader: &mut R,
     references: References,

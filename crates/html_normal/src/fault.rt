@@ -6,7 +6,7 @@ ghost use Rattle.html_normal.specs.declared.fault.NormalFault.TheVariants.{Memor
 
 use html_input::TextFault;
 use markup::{ParseFault, SerializeFault};
-use std::alloc::AllocError;
+use std::alloc::{AllocError, AllocFailed};
 use std::error::Error;
 use std::fmt;
 
@@ -29,6 +29,14 @@ impl From<AllocError> for NormalFault {
     ghost from_gives = { λ _ fault. fault ≡ Memory };
 
     fn from(_error: AllocError) -> NormalFault {
+        NormalFault::Memory
+    }
+}
+
+impl<T: Drop> From<AllocFailed<T>> for NormalFault {
+    ghost from_gives = { λ _ fault. fault ≡ Memory };
+
+    fn from(_error: AllocFailed<T>) -> NormalFault {
         NormalFault::Memory
     }
 }

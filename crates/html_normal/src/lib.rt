@@ -3,12 +3,15 @@
 
 mod document;
 mod fault;
+mod fragment;
 pub mod laws;
 mod program;
 mod report;
 mod whole;
 
+pub use document::{options, read_document};
 pub use fault::NormalFault;
+pub use fragment::read_fragment;
 pub use html_input::{TableFileFault, read_table};
 pub use html_references::{References, TableFault};
 pub use program::ProgramFault;

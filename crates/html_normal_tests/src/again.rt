@@ -94,6 +94,11 @@ impl Room {
     fn takes_text(self) -> bool {
         matches!(self, Room::Flow | Room::Line | Room::Link)
     }
+
+    /// Whether comments may stand here.
+    fn takes_comments(self) -> bool {
+        matches!(self, Room::Flow)
+    }
 }
 
 /// Parts of texts, as they are written.
@@ -124,6 +129,31 @@ const TEXT: &[&str] = &[
     "\u{feff}",
     "\u{fffd}",
     "\u{fffe}",
+    "\u{10ffff}",
+    "=/`",
+];
+
+/// Parts of comments, as they are written.
+const COMMENT: &[&str] = &[
+    "a",
+    " ",
+    "\n",
+    "\t",
+    "\u{c}",
+    "&amp;",
+    "&",
+    "\"",
+    "'",
+    "!",
+    "?x",
+    "[if]",
+    "é",
+    "😀",
+    "\u{a0}",
+    "\u{1}",
+    "\u{85}",
+    "\u{feff}",
+    "\u{fffd}",
     "\u{10ffff}",
     "=/`",
 ];
@@ -214,6 +244,15 @@ impl Place {
         }
     }
 
+    fn add_comment(&mut self, dice: &mut Dice, page: &mut String) -> Result<(), AllocError> {
+        self.after_text = false;
+        page.push_str("<!--")?;
+        if dice.once_in(2) {
+            add_text(dice, page, COMMENT)?;
+        }
+        page.push_str("-->")
+    }
+
     fn add_break(&mut self, dice: &mut Dice, page: &mut String) -> Result<(), AllocError> {
         self.after_text = false;
         add_start(dice, page, "br")
@@ -234,6 +273,8 @@ impl Place {
     fn step(&mut self, dice: &mut Dice, page: &mut String, opens: usize) -> Result<(), AllocError> {
         if dice.roll(10) < opens && self.open.len() < 38 {
             self.open(dice, page)
+        } else if self.room.takes_comments() && dice.once_in(4) {
+            self.add_comment(dice, page)
         } else if !self.after_text && dice.once_in(2) {
             self.add_text(dice, page)
         } else if self.room.takes_text() && dice.once_in(4) {

@@ -58,7 +58,11 @@ struct Outcome {
     written: Vec<u8>,
 }
 
-fn reader_of(alloc: Global, bytes: &[u8], on: &Devices) -> Result<MemReader, AllocError> {
+pub(crate) fn reader_of(
+    alloc: Global,
+    bytes: &[u8],
+    on: &Devices,
+) -> Result<MemReader, AllocError> {
     let bytes = Vec::from_slice(alloc, bytes)?;
     Ok(MemReader::new(bytes, on.read.max(1), on.read_fails))
 }
@@ -104,15 +108,15 @@ pub(crate) fn is_normal(
 const SWITCHES: &[(bool, bool)] = &[(false, false), (true, false), (false, true), (true, true)];
 
 /// What is told of a document: whether it is plain, its quirks mode, and whether errors are.
-type Told = (bool, QuirksMode, bool);
+pub(crate) type Told = (bool, QuirksMode, bool);
 
-const GOOD: Told = (true, QuirksMode::NoQuirks, false);
+pub(crate) const GOOD: Told = (true, QuirksMode::NoQuirks, false);
 
-const BAD: Told = (true, QuirksMode::NoQuirks, true);
+pub(crate) const BAD: Told = (true, QuirksMode::NoQuirks, true);
 
-const PLAIN_NOT: Told = (false, QuirksMode::NoQuirks, false);
+pub(crate) const PLAIN_NOT: Told = (false, QuirksMode::NoQuirks, false);
 
-const PLAIN_NOT_BAD: Told = (false, QuirksMode::NoQuirks, true);
+pub(crate) const PLAIN_NOT_BAD: Told = (false, QuirksMode::NoQuirks, true);
 
 const QUIRKS: Told = (false, QuirksMode::Quirks, true);
 
@@ -157,7 +161,12 @@ fn is_written(
 }
 
 /// Whether a document is written so, in whatever pieces it comes, and with whatever errors are told; and again, if it is plain.
-fn is_row(alloc: Global, input: &str, written: &str, told: Told) -> Result<bool, AllocError> {
+pub(crate) fn is_row(
+    alloc: Global,
+    input: &str,
+    written: &str,
+    told: Told,
+) -> Result<bool, AllocError> {
     for on in [&WHOLE, &BY_BYTE, &BY_SEVENS] {
         for &(tokenizer, tree_builder) in SWITCHES {
             let exact = Exact {
@@ -241,7 +250,12 @@ fn documents(rt: HostRuntime) {
 }
 
 /// The same behind the doctype, and in the body.
-fn is_body(alloc: Global, text: &str, body: &str, told: Told) -> Result<bool, AllocError> {
+pub(crate) fn is_body(
+    alloc: Global,
+    text: &str,
+    body: &str,
+    told: Told,
+) -> Result<bool, AllocError> {
     let input = format!(in alloc; "<!DOCTYPE html>{text}")?;
     let written = format!(in alloc; "{FRONT}{body}{BACK}")?;
     is_row(alloc, input.as_str(), written.as_str(), told)
@@ -276,7 +290,7 @@ fn bodies(rt: HostRuntime) {
         ("<p>&#13;", "<p>\r</p>", PLAIN_NOT_BAD),
         ("<p>a\0b", "<p>ab</p>", BAD),
         ("<p>a</p>", "<p>a</p>", GOOD),
-        ("<p>a</p><!--c-->", "<p>a</p><!--c-->", PLAIN_NOT),
+        ("<p>a</p><!--c-->", "<p>a</p><!--c-->", GOOD),
         ("", "", GOOD),
         (" </p> a<p>b<p>c</p>d", "a<p>b</p><p>c</p>d", BAD),
         ("a>b</p>", "a&gt;b<p></p>", BAD),
@@ -631,7 +645,7 @@ fn is_read_by_file(
     }
 }
 
-/// Whether this is written in the body of a document with this text, by the table of a file.
+/// Whether this is written in the body of a document with this text, by the table of a file, and kept when it is read again.
 fn is_body_by_file(
     alloc: Global,
     file: &[u8],
@@ -642,7 +656,10 @@ fn is_body_by_file(
     let input = format!(in alloc; "<!DOCTYPE html>{text}")?;
     let written = format!(in alloc; "{FRONT}{body}{BACK}")?;
     let mut reader = reader_of(alloc, input.as_bytes(), on)?;
-    is_read_by_file(alloc, file, on, &mut reader, written.as_str())
+    Ok(
+        is_read_by_file(alloc, file, on, &mut reader, written.as_str())?
+            && is_kept(alloc, written.as_str())?,
+    )
 }
 
 #[test]

@@ -22,7 +22,7 @@ module _ {K H O : Type 0} (Sink : TreeGhosts K H O) where
       let mid = h.0 in
       let waits = h.1.0 in
       let taken = h.1.1.0 in
-      let later = pieces-built begin (before ++ (from.characters ++ piece)) mid last waits to pieces output (taken.0 begin before r) h.1.1.1 finished in
+      let later = pieces-built begin (before ++ (from.characters ++ piece)) mid last waits to pieces output (taken.0.reads begin before r) h.1.1.1 finished in
       let text : (before ++ (from.characters ++ piece)) ++ (waits.characters ++ joined pieces) ≡ before ++ (from.characters ++ (piece ++ joined pieces)) =
       ap (λ t. (before ++ (from.characters ++ piece)) ++ (t ++ joined pieces)) taken.1
       ∙ (append_assoc before (from.characters ++ piece) (joined pieces)

@@ -20,7 +20,7 @@ module _ {K H : Type 0} (Sink : Ghosts K H) where
       let mid = h.0 in
       let waits = h.1.0 in
       let taken = h.1.1.0 in
-      let later = pieces-whole begin (before ++ (from.characters ++ piece)) mid last waits to pieces left (taken.0 begin before r) h.1.1.1 e in
+      let later = pieces-whole begin (before ++ (from.characters ++ piece)) mid last waits to pieces left (taken.0.reads begin before r) h.1.1.1 e in
       ap (λ t. read_whole Sink begin (before ++ t)) (sym (append_assoc from.characters piece (joined pieces)))
       ∙ (ap (read_whole Sink begin) (sym (append_assoc before (from.characters ++ piece) (joined pieces)))
       ∙ (ap (λ t. read_whole Sink begin ((before ++ (from.characters ++ piece)) ++ (t ++ joined pieces))) (sym taken.1) ∙ later))

@@ -74,8 +74,9 @@ module _ {K H : Type 0} (Sink : Ghosts K H) where
   }
 
   -- what a call took was read
-  read-moved : {pauses : List Reply → List Reply} {leaves : List ℕ → Type 0} (old new : Tokenizer K) (from to : Queue) → (moved : HasMoved Sink pauses leaves old new from to) → ReadsOn Sink old new moved.taken
-  read-moved {pauses} old new from to moved begin before r = record {
+  moved-behind : {pauses : List Reply → List Reply} {leaves : List ℕ → Type 0} (old new : Tokenizer K) (from to : Queue) → (moved : HasMoved Sink pauses leaves old new from to)
+      → (begin : Beginning Sink.State) (before : List ℕ) → HasRead Sink begin before old → HasRead Sink begin (before ++ moved.taken) new
+  moved-behind {pauses} old new from to moved begin before r = record {
     notes = record (more moved.owed r.notes) { pauses = pauses r.notes.pauses };
     same = λ t. ap without_notes (sym (moved.same r.notes t)) ∙ (r.same (moved.taken ++ t) ∙ ap (read_whole Sink begin) (sym (append_assoc before moved.taken t)));
     noted = λ t. sym (moved.same r.notes t) ∙ (r.noted (moved.taken ++ t) ∙ ap (note_whole Sink begin) (sym (append_assoc before moved.taken t)));
@@ -87,10 +88,17 @@ module _ {K H : Type 0} (Sink : Ghosts K H) where
     rises = rises-moved begin.exact_errors moved.owed r.notes (pauses r.notes.pauses) r.came moved.came begin.errors (Sink.errors old.sink) (Sink.errors new.sink) r.rises (subst (λ b. RisesTo (together moved.owed (owed_for_text b moved.came)) (Sink.errors old.sink) (Sink.errors new.sink)) r.exact (by-number Sink.errors old.sink new.sink moved.rises));
   }
 
+  read-moved : {pauses : List Reply → List Reply} {leaves : List ℕ → Type 0} (old new : Tokenizer K) (from to : Queue) → (moved : HasMoved Sink pauses leaves old new from to) → ReadsOn Sink old new moved.taken
+  read-moved old new from to moved = record { reads = moved-behind old new from to moved; works = moved.stays.failed }
+
+  -- what tells that the sink failed tells it of the sink before
+  had-failed : {A F : Type 0} (among : Token → Type 0) (old left : K) (given : Result A F) (fault : ParseFault) → FailsAmong Sink among old left given fault → fault ≡ Failed → Sink.has_failed old ≡ true
+  had-failed among old left given fault fails e = subst (λ x. FailsAmong Sink among old left given x) e fails
+
   -- where a call fails by a refusal, what it was to take is refused
-  failed-behind : (old : Tokenizer K) (left : K) (from to : Queue) (fault : ParseFault) → HasFailed Sink old left from to fault → FailsBehind Sink old fault
-  failed-behind old left from to fault failed refusal begin before r =
-      let r' = read-moved old failed.at from failed.via failed.moved begin before r in
+  refused-behind : (old : Tokenizer K) (left : K) (from to : Queue) (fault : ParseFault) → HasFailed Sink old left from to fault → IsRefusal fault → (begin : Beginning Sink.State) (before : List ℕ) → HasRead Sink begin before old → IsRefusedBehind Sink begin before
+  refused-behind old left from to fault failed refusal begin before r =
+      let r' = moved-behind old failed.at from failed.via failed.moved begin before r in
       let text = failed.moved.taken ++ (failed.stuck.lost ++ []) in
       let err = still-refused _ (is-refused _ failed.at.sink left _ fault refusal (failed.stuck.fails r'.notes [])) in
       record {
@@ -98,11 +106,20 @@ module _ {K H : Type 0} (Sink : Ghosts K H) where
         is = subst (λ x. IsErr x) (r'.same (failed.stuck.lost ++ []) ∙ ap (read_whole Sink begin) (append_assoc before failed.moved.taken (failed.stuck.lost ++ []))) err;
       }
 
+  failed-behind : (old : Tokenizer K) (left : K) (from to : Queue) (fault : ParseFault) → HasFailed Sink old left from to fault → FailsBehind Sink old fault
+  failed-behind old left from to fault failed = record {
+    refused = refused-behind old left from to fault failed;
+    failed = λ e. failed.moved.stays.failed (had-failed _ failed.at.sink left _ fault (failed.stuck.fails no_notes []) e);
+  }
+
   -- so where the end can't be told
   end-behind : (old new : Tokenizer K) (fault : ParseFault) → FailsToEnd Sink old new fault → FailsBehind Sink old fault
-  end-behind old new fault failed refusal begin before r = record {
-    behind = [];
-    is = subst (λ x. IsErr x) (r.same []) (still-refused _ (is-refused _ old.sink new.sink _ fault refusal (failed.fails r.notes)));
+  end-behind old new fault failed = record {
+    refused = λ refusal begin before r. record {
+      behind = [];
+      is = subst (λ x. IsErr x) (r.same []) (still-refused _ (is-refused _ old.sink new.sink _ fault refusal (failed.fails r.notes)));
+    };
+    failed = λ e. had-failed _ old.sink new.sink _ fault (failed.fails no_notes) e;
   }
 
   -- what is refused behind a text that was read is refused behind what was read before it
@@ -113,13 +130,19 @@ module _ {K H : Type 0} (Sink : Ghosts K H) where
   }
 
   pub fails-on : (old new : Tokenizer K) (text : List ℕ) (fault : ParseFault) → ReadsOn Sink old new text → FailsBehind Sink new fault → FailsBehind Sink old fault
-  fails-on old new text fault reads fails refusal begin before r = behind-both begin before text (fails refusal begin (before ++ text) (reads begin before r))
+  fails-on old new text fault reads fails = record {
+    refused = λ refusal begin before r. behind-both begin before text (fails.refused refusal begin (before ++ text) (reads.reads begin before r));
+    failed = λ e. reads.works (fails.failed e);
+  }
 
   pub reads-no_more : (k : Tokenizer K) → ReadsOn Sink k k []
-  reads-no_more k begin before r = subst (λ t. HasRead Sink begin t k) (sym (append-nil before)) r
+  reads-no_more k = record { reads = λ begin before r. subst (λ t. HasRead Sink begin t k) (sym (append-nil before)) r; works = λ e. e }
 
   pub reads-both : (old mid new : Tokenizer K) (a b : List ℕ) → ReadsOn Sink old mid a → ReadsOn Sink mid new b → ReadsOn Sink old new (a ++ b)
-  reads-both old mid new a b r r' begin before read = subst (λ t. HasRead Sink begin t new) (append_assoc before a b) (r' begin (before ++ a) (r begin before read))
+  reads-both old mid new a b r r' = record {
+    reads = λ begin before read. subst (λ t. HasRead Sink begin t new) (append_assoc before a b) (r'.reads begin (before ++ a) (r.reads begin before read));
+    works = λ e. r.works (r'.works e);
+  }
 
   pub reads-same : (old new : Tokenizer K) (a b : List ℕ) → a ≡ b → ReadsOn Sink old new a → ReadsOn Sink old new b
   reads-same old new a b e r = subst (λ t. ReadsOn Sink old new t) e r
@@ -210,7 +233,7 @@ module _ {K H : Type 0} (Sink : Ghosts K H) where
   end-given : (refused : Option ParseFault) (k mid new : Tokenizer K) (from to : Queue) → FeedsAll Sink refused k mid from to (Ok tt) → EndGives Sink (refusal_of mid) mid new (Ok tt) → EndsAll Sink refused k from.characters (Ok new.sink)
   end-given None k mid new from to fed gives = λ begin before r.
       let ended = rw fed.2 at gives in
-      ended-whole mid new begin (before ++ from.characters) (fed.0 begin before r) ended
+      ended-whole mid new begin (before ++ from.characters) (fed.0.reads begin before r) ended
   end-given (Some fault) k mid new from to fed gives = absurd (let e = fed.0 in cc)
 
   end-refused : (refused : Option ParseFault) (k mid new : Tokenizer K) (from to : Queue) (fault : ParseFault) → FeedsAll Sink refused k mid from to (Ok tt) → EndGives Sink (refusal_of mid) mid new (Err fault) → EndsAll Sink refused k from.characters (Err fault)

@@ -67,11 +67,12 @@ Finishes Sink None k text (Ok output) = (begin : Beginning State) (before : List
 Finishes Sink None k text (Err fault) = FailsBehind (builder Sink) k fault
 Finishes Sink (Some fault) k text result = result ≡ Err fault
 
--- A parser stands before all text: nothing was read, nothing waits, and nothing stands against it.
+-- A parser stands before all text: nothing was read, nothing waits, and nothing stands against it or its builder.
 pub record Starts {K H O : Type 0} (Sink : TreeGhosts K H O) (begin : Beginning State) (has_failed : Bool) (k : Tokenizer (TreeBuilder K H O)) (input : Queue) : Type 0 where
   pub read : HasRead (builder Sink) begin [] k
   pub empty : input.characters ≡ []
   pub begun : stopped_by has_failed (refusal_of k) ≡ None
+  pub works : k.sink.has_failed ≡ false
   pub ready : IsReadyIf (builder Sink) (stopped_by has_failed (refusal_of k)) k
 
 -- the same, and no text is refused

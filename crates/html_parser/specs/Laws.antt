@@ -1,10 +1,10 @@
 -- What parsers come to, by what their calls promise alone.
-use Rattle.std.specs.Prelude.{◌≡◌, ℕ, Bool, List, Option, Some, None, Result, Ok, IfErr, IfSome}
+use Rattle.std.specs.Prelude.{◌≡◌, ℕ, Bool, false, List, Option, Some, None, Result, Ok, IfErr, IfSome}
 use Rattle.html_queue.specs.Queue.{Queue}
 use Rattle.markup.specs.Forest.{Forest}
 use Rattle.markup.specs.TreeLaws.{with_errors}
 use Rattle.markup.specs.declared.fault.ParseFault.{ParseFault}
-use Rattle.markup.specs.declared.fault.ParseFault.TheVariants.{Memory, TokenInText, Ended, Shape, Failed}
+use Rattle.markup.specs.declared.fault.ParseFault.TheVariants.{Memory}
 use Rattle.markup.specs.declared.tree_sink.TreeSink.{Ghosts as TreeGhosts}
 use Rattle.html_rules.specs.State.{Open, State}
 use Rattle.html_tokens.specs.Table.{Row}
@@ -24,13 +24,10 @@ with_exact_errors tokenizer tree_builder opts = record {
   tree_builder = record opts.tree_builder { exact_errors = tree_builder };
 }
 
--- the faults of a parser that are no refusals of a text
-abbrev pub IsNoRefusal : ParseFault → Type 0
-IsNoRefusal Memory = Unit {0}
-IsNoRefusal TokenInText = ⊥
-IsNoRefusal Ended = Unit {0}
-IsNoRefusal Shape = ⊥
-IsNoRefusal Failed = Unit {0}
+-- the only fault of a call: what stands against it, and else want of memory
+abbrev pub only_fault : Option ParseFault → ParseFault
+only_fault None = Memory
+only_fault (Some fault) = fault
 
 module _ {K H O : Type 0} (Sink : TreeGhosts K H O) where
   -- where a document is begun so
@@ -74,26 +71,28 @@ module _ {K H O : Type 0} (Sink : TreeGhosts K H O) where
     pub document : (table : List Row) (opts : ParseOpts) (tokenizer tree_builder : Bool) (f : Forest) → BuildAlike (document_by table opts f) (document_by table (with_exact_errors tokenizer tree_builder opts) f)
     pub fragment : (table : List Row) (opts : ParseOpts) (tokenizer tree_builder : Bool) (context : Open) (form : Option ℕ) (scripting : Bool) (f : Forest) → BuildAlike (fragment_by table opts context form scripting f) (fragment_by table (with_exact_errors tokenizer tree_builder opts) context form scripting f)
 
-  -- What was read begins texts of which none is refused.
+  -- What was read begins texts of which none is refused, and the builder has not failed.
   pub record HasReadTaken (k : Tokenizer (TreeBuilder K H O)) : Type 0 where
     pub begin : Beginning State
     pub before : List ℕ
     pub read : HasRead (builder Sink) begin before k
     pub taken : IsTaken (builder Sink) begin
+    pub works : k.sink.has_failed ≡ false
 
   -- so it is, where nothing stands against a call
   abbrev pub TakesEach : Option ParseFault → Tokenizer (TreeBuilder K H O) → Type 0
   TakesEach None k = HasReadTaken k
   TakesEach (Some fault) k = Unit {0}
 
-  -- In such a state parsers begin, their calls keep it, and from it no text is refused.
+  -- In such a state parsers begin, their calls keep it, and from it no text is refused: where nothing stands against a call it fails for
+  -- want of memory alone. So `Failed` comes only behind a fault, and `Ended` only behind the end.
   pub record IsNoTextRefused : Type 0 where
     pub begins : (begin : Beginning State) (has_failed : Bool) (k : Tokenizer (TreeBuilder K H O)) (input : Queue) → Begins Sink begin has_failed k input → TakesEach (stopped_by has_failed (refusal_of k)) k
     pub process : (failed fails : Bool) (old new : Tokenizer (TreeBuilder K H O)) (from to : Queue) (text : List ℕ) (result : Result (Unit {0}) ParseFault)
         → TakesEach (stopped_by failed (refusal_of old)) old
         → TakesText (builder Sink) (stopped_by failed (refusal_of old)) (stopped_by fails (refusal_of new)) old new from to text result
         → IfSome (stopped_by failed (refusal_of old)) (λ _. fails ≡ failed)
-        → TakesEach (stopped_by fails (refusal_of new)) new × IfErr result IsNoRefusal
+        → TakesEach (stopped_by fails (refusal_of new)) new × IfErr result (λ fault. fault ≡ only_fault (stopped_by failed (refusal_of old)))
     pub error : (failed : Bool) (old new : Tokenizer (TreeBuilder K H O)) → TakesEach (stopped_by failed (refusal_of old)) old → TellsError Sink old new → TakesEach (stopped_by failed (refusal_of new)) new
     pub finish : (failed : Bool) (k : Tokenizer (TreeBuilder K H O)) (text : List ℕ) (result : Result O ParseFault)
-        → TakesEach (stopped_by failed (refusal_of k)) k → Finishes Sink (stopped_by failed (refusal_of k)) k text result → IfErr result IsNoRefusal
+        → TakesEach (stopped_by failed (refusal_of k)) k → Finishes Sink (stopped_by failed (refusal_of k)) k text result → IfErr result (λ fault. fault ≡ only_fault (stopped_by failed (refusal_of k)))

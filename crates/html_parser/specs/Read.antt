@@ -82,9 +82,10 @@ module _ {K H : Type 0} (Sink : Ghosts K H) where
     pub exact : k.stream.exact_errors ≡ begin.exact_errors
     pub rises : RisesTo (together (owed_in notes) (owed_for_text begin.exact_errors came)) begin.errors (Sink.errors k.sink)
 
-  -- behind whatever was read, this text was read too
-  abbrev pub ReadsOn : Tokenizer K → Tokenizer K → List ℕ → Type 0
-  ReadsOn old new text = (begin : Beginning Sink.State) (before : List ℕ) → HasRead begin before old → HasRead begin (before ++ text) new
+  -- Behind whatever was read, this text was read too; and the sink has failed only where it had.
+  pub record ReadsOn (old new : Tokenizer K) (text : List ℕ) : Type 0 where
+    pub reads : (begin : Beginning Sink.State) (before : List ℕ) → HasRead begin before old → HasRead begin (before ++ text) new
+    pub works : Sink.has_failed new.sink ≡ true → Sink.has_failed old.sink ≡ true
 
   -- whatever was read still was, behind one error more
   abbrev pub KeepsRead : Tokenizer K → Tokenizer K → Type 0
@@ -99,9 +100,11 @@ module _ {K H : Type 0} (Sink : Ghosts K H) where
     pub behind : List ℕ
     pub is : IsErr (read_whole begin (before ++ behind))
 
-  -- where a fault is a refusal, a text that begins as what was read is refused
-  abbrev pub FailsBehind : Tokenizer K → ParseFault → Type 0
-  FailsBehind k fault = IsRefusal fault → (begin : Beginning Sink.State) (before : List ℕ) → HasRead begin before k → IsRefusedBehind begin before
+  -- What a fault tells, where nothing stood against the call: by a refusal a text that begins as what was read is refused, and by
+  -- `Failed` the sink had failed. Of want of memory nothing is said.
+  pub record FailsBehind (k : Tokenizer K) (fault : ParseFault) : Type 0 where
+    pub refused : IsRefusal fault → (begin : Beginning Sink.State) (before : List ℕ) → HasRead begin before k → IsRefusedBehind begin before
+    pub failed : fault ≡ Failed → Sink.has_failed k.sink ≡ true
 
   -- All of an input was read, past every pause; or the tokenizer failed. What stands against a call leaves all as it is.
   abbrev pub FeedsAll : Option ParseFault → Tokenizer K → Tokenizer K → Queue → Queue → Result (Unit {0}) ParseFault → Type 0

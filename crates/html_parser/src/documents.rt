@@ -1,5 +1,5 @@
 //! Parsers of documents (HTML Standard, section 13.2).
-ghost use Rattle.std.specs.Prelude.{◌≡◌, IfOk, IfSome, IsOk, None, true};
+ghost use Rattle.std.specs.Prelude.{◌≡◌, IfOk, IfSome, IsOk, None, false, true};
 ghost use Rattle.markup.specs.Forest.{above_of};
 ghost use Rattle.html_builder_laws.specs.Usable.{Usable};
 ghost use Rattle.html_rules.specs.State.{hushed};
@@ -25,6 +25,7 @@ pub(crate) fn over<Sink: TreeSink>(
 ) -> Parser<Sink>
     requires text { IfSome opts.initial_state (λ st. is_text_state st ≡ true) }
     requires usable { Usable (hushed (built Sink.TreeSink builder.construction (Sink.forest builder.sink))) }
+    requires works { builder.has_failed ≡ false }
     ensures { Starts Sink.TreeSink (from_state table opts (built Sink.TreeSink builder.construction (Sink.forest builder.sink))) result.has_failed result.tokenizer result.input_buffer }
 {
     Parser {

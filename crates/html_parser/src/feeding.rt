@@ -21,6 +21,7 @@ pub(crate) fn begin<Sink: TokenSink>(
     requires text { IfSome opts.initial_state (λ st. is_text_state st ≡ true) }
     requires sound { Sink.is_sound (Sink.view sink) }
     ensures reads { HasRead Sink.TokenSink (beginning table opts (Sink.view sink) (Sink.errors sink)) [] result }
+    ensures over { result.sink ≡ sink }
     ensures begun { refusal_of result ≡ None }
     ensures ready { IsReadyIf Sink.TokenSink (refusal_of result) result }
 {

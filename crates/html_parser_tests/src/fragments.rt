@@ -11,7 +11,7 @@ use text_pieces::{in_characters, in_two};
 /// The namespace and the name of a context, whether it was scripted, a text, and what is written of what stands in its root.
 type Row = (&'static str, &'static str, bool, &'static str, &'static str);
 
-const HTML: &str = "http://www.w3.org/1999/xhtml";
+pub(crate) const HTML: &str = "http://www.w3.org/1999/xhtml";
 
 const MATHML: &str = "http://www.w3.org/1998/Math/MathML";
 
@@ -80,7 +80,7 @@ const ROWS: &[Row] = &[
 ];
 
 /// A name in a namespace.
-fn name(alloc: Global, ns: &str, local: &str) -> Result<QualName, ParseFault> {
+pub(crate) fn name(alloc: Global, ns: &str, local: &str) -> Result<QualName, ParseFault> {
     Ok(QualName::new(
         None,
         Namespace::new(String::from_str(alloc, ns)?),

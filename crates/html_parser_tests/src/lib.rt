@@ -7,9 +7,13 @@
 #[cfg(test)]
 mod calls;
 #[cfg(test)]
+mod deep;
+#[cfg(test)]
 mod direct;
 #[cfg(test)]
 mod documents;
+#[cfg(test)]
+mod feeding;
 #[cfg(test)]
 mod fragments;
 #[cfg(test)]

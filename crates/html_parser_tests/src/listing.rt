@@ -26,6 +26,8 @@ pub(crate) enum Hook {
     Shadow(NodeId, NodeId),
     /// An option ended.
     OptionEnded(NodeId),
+    /// An element was made whose tag had an attribute twice.
+    Duplicates(NodeId),
 }
 
 /// A forest, and what was told beside it. `ATTACHES` says whether templates become shadow roots.
@@ -80,6 +82,9 @@ impl<const ATTACHES: bool> Listing<ATTACHES> {
                     format!(in alloc; "{} in {}", name_of(tree, node), name_of(tree, host))?
                 }
                 Hook::OptionEnded(node) => format!(in alloc; "ended {}", name_of(tree, node))?,
+                Hook::Duplicates(node) => {
+                    format!(in alloc; "duplicates of {}", name_of(tree, node))?
+                }
             })?;
         }
         Ok(words)
@@ -135,7 +140,12 @@ impl<const ATTACHES: bool> TreeSink for Listing<ATTACHES> {
         attributes: Attributes,
         flags: ElementFlags,
     ) -> Result<NodeId, ParseFault> {
-        self.tree.create_element(name, attributes, flags)
+        let duplicates = flags.had_duplicate_attributes;
+        let made = self.tree.create_element(name, attributes, flags)?;
+        if duplicates {
+            self.list(Hook::Duplicates(made));
+        }
+        Ok(made)
     }
 
     fn create_comment(&mut self, text: Text) -> Result<NodeId, ParseFault> {

@@ -3,10 +3,11 @@ ghost use Rattle.html_tokenizer.specs.Calls.{IsReadyIf, refusal_of};
 ghost use Rattle.html_parser.specs.Documents.{builder};
 ghost use Rattle.html_parser.specs.Read.{stopped_by};
 
+use crate::fragments::{HTML, name, root_of};
 use crate::parsing::{assert_written, five};
-use html_forest::Forest;
-use html_parser::{ParseOpts, Parser, parse_document};
-use markup::{ParseFault, TreeSink};
+use html_forest::{Forest, NodeId};
+use html_parser::{ParseOpts, Parser, parse_document, parse_fragment};
+use markup::{Attributes, ParseFault, TreeSink};
 use std::alloc::Global;
 use std::process::Abort;
 use std::test::Fail;
@@ -53,24 +54,51 @@ fn built(rt: &impl Abort, alloc: Global, text: &str) -> Result<Forest, ParseFaul
     take_or_fail(rt, alloc, parser, text)
 }
 
-/// A text, and what is written of its document.
+/// The fragment of a text in a title.
+fn built_in_title(rt: &impl Abort, alloc: Global, text: &str) -> Result<Forest, ParseFault> {
+    let text = String::from_str(alloc, text)?;
+    let forest = Forest::new(alloc)?;
+    let context = name(alloc, HTML, "title")?;
+    let attributes = Attributes::new(alloc);
+    let opts = ParseOpts::default();
+    let table = five(alloc)?;
+    let parser = parse_fragment(alloc, forest, opts, context, attributes, true, table)?;
+    take_or_fail(rt, alloc, parser, text)
+}
+
+/// A text, and what is written of its document, or of what stands in the root of its fragment.
 type Row = (&'static str, &'static str);
 
-/// Sees that a text has its document, or that memory was refused.
-fn assert_built_or_memory(rt: &impl Abort, alloc: Global, row: Row) {
+/// Sees that this is written of a node of a forest, or that memory was refused.
+fn assert_written_or_memory(
+    rt: &impl Abort,
+    alloc: Global,
+    built: Result<(Forest, NodeId), ParseFault>,
+    row: Row,
+) {
     let (text, written) = row;
-    let answer = match built(rt, alloc, text) {
-        Ok(forest) => {
-            let mut forest = forest;
-            let document = forest.get_document();
-            assert_written(rt, alloc, &forest, document, text, written)
-        }
+    let answer = match built {
+        Ok((forest, id)) => assert_written(rt, alloc, &forest, id, text, written),
         Err(fault) => Err(fault),
     };
     assert!(rt;
         answer.is_ok() || matches!(answer, Err(ParseFault::Memory)),
         "{text}"
     );
+}
+
+/// A forest with its document.
+fn with_document(forest: Forest) -> (Forest, NodeId) {
+    let mut forest = forest;
+    let document = forest.get_document();
+    (forest, document)
+}
+
+/// A forest with the root of its fragment.
+fn with_root(forest: Forest) -> (Forest, NodeId) {
+    let mut forest = forest;
+    let root = root_of(&mut forest);
+    (forest, root)
 }
 
 const ROWS: &[Row] = &[
@@ -112,10 +140,22 @@ const ROWS: &[Row] = &[
     ),
 ];
 
+const IN_TITLE: Row = ("<b>&lt;</title>", "&lt;b&gt;&lt;&lt;/title&gt;");
+
 #[test]
 fn memory_may_want(rt: HostRuntime) -> Result<(), Fail> {
+    let alloc = rt.alloc();
     for row in ROWS {
-        assert_built_or_memory(&rt, rt.alloc(), *row);
+        let built = built(&rt, alloc, row.0).map(with_document);
+        assert_written_or_memory(&rt, alloc, built, *row);
     }
+    Ok(())
+}
+
+#[test]
+fn memory_may_want_in_a_fragment(rt: HostRuntime) -> Result<(), Fail> {
+    let alloc = rt.alloc();
+    let built = built_in_title(&rt, alloc, IN_TITLE.0).map(with_root);
+    assert_written_or_memory(&rt, alloc, built, IN_TITLE);
     Ok(())
 }

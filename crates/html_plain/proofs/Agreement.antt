@@ -7,8 +7,8 @@ use Rattle.std.proofs.lemmas.Slice.Eq.{bytes_eq-Decides}
 use Rattle.markup.specs.Trees.{Trees, Nothing, Text, Comment, ProcessingInstruction, Doctype, Element}
 use Rattle.markup.specs.declared.attributes.Attribute.{Attribute}
 use Rattle.markup.specs.declared.names.QualName.{QualName}
-use Rattle.html_plain.specs.Elements.{behind_element, behind_text, element_of, holds, html_name, inside, spelled, text_kind}
-use Rattle.html_plain.specs.Grammar.{IsPlain, are_plain_attributes, is_empty, is_first, is_plain, is_plain_doctype, is_plain_start, is_plain_text, is_some_and, takes_text}
+use Rattle.html_plain.specs.Elements.{behind_element, behind_text, element_of, holds, html_name, inside, spelled, takes_comments, text_kind}
+use Rattle.html_plain.specs.Grammar.{IsPlain, are_plain_attributes, is_empty, is_first, is_plain, is_plain_comment, is_plain_doctype, is_plain_start, is_plain_text, is_some_and, takes_text}
 use Rattle.html_plain.specs.declared.elements.PlainElement.{PlainElement}
 use Rattle.html_plain.specs.declared.place.Place.{Place}
 use Rattle.html_plain.specs.declared.place.Place.TheVariants as place
@@ -59,7 +59,10 @@ computed-cases pl after_text (Text text rest) h =
     let q = and_parts (not after_text) (is_plain_text text && takes_text (text_kind pl) text) p.0 in
     let r = and_parts (is_plain_text text) (takes_text (text_kind pl) text) q.1 in
     (not-true after_text q.0, r.0, r.1, computed-cases (behind_text pl) true rest p.1)
-computed-cases pl after_text (Comment text rest) h = absurd cc
+computed-cases pl after_text (Comment text rest) h =
+    let p = and_parts (takes_comments pl && is_plain_comment text) (is_plain pl false rest) h in
+    let q = and_parts (takes_comments pl) (is_plain_comment text) p.0 in
+    (q.0, q.1, computed-cases pl false rest p.1)
 computed-cases pl after_text (ProcessingInstruction target text rest) h = absurd cc
 computed-cases pl after_text (Doctype name public_id system_id rest) h =
     let p = and_parts (is_first pl && is_plain_doctype name public_id system_id) (is_plain place.BeforeRoot false rest) h in
@@ -82,7 +85,7 @@ pub cases-computed : (pl : Place) (after_text : Bool) (trees : Trees) → IsPlai
 unfolding is_plain
 cases-computed pl after_text Nothing h = h
 cases-computed pl after_text (Text text rest) h = rw (h.0, h.1, h.2) (cases-computed (behind_text pl) true rest h.3)
-cases-computed pl after_text (Comment text rest) h = absurd h
+cases-computed pl after_text (Comment text rest) h = rw (h.0, h.1) (cases-computed pl false rest h.2)
 cases-computed pl after_text (ProcessingInstruction target text rest) h = absurd h
 cases-computed pl after_text (Doctype name public_id system_id rest) h = rw (h.0, h.1, h.2, h.3) (cases-computed place.BeforeRoot false rest h.4)
 cases-computed pl after_text (Element name attributes template kids rest) h =

@@ -52,7 +52,7 @@ one pl j only b name attributes template kids rest h =
 nothing-behind_root : (b : Bool) (trees : Trees) → IsPlain BehindRoot b trees → trees ≡ Nothing
 nothing-behind_root b Nothing h = refl
 nothing-behind_root b (Text text rest) h = absurd (let no = h.2 in cc)
-nothing-behind_root b (Comment text rest) h = absurd h
+nothing-behind_root b (Comment text rest) h = absurd (let no = h.0 in cc)
 nothing-behind_root b (ProcessingInstruction target text rest) h = absurd h
 nothing-behind_root b (Doctype name public_id system_id rest) h = absurd (let no = h.0 in cc)
 nothing-behind_root b (Element name attributes template kids rest) h = absurd (let no = h.1.2 in cc)
@@ -60,7 +60,7 @@ nothing-behind_root b (Element name attributes template kids rest) h = absurd (l
 nothing-behind_body : (b : Bool) (trees : Trees) → IsPlain BehindBody b trees → trees ≡ Nothing
 nothing-behind_body b Nothing h = refl
 nothing-behind_body b (Text text rest) h = absurd (let no = h.2 in cc)
-nothing-behind_body b (Comment text rest) h = absurd h
+nothing-behind_body b (Comment text rest) h = absurd (let no = h.0 in cc)
 nothing-behind_body b (ProcessingInstruction target text rest) h = absurd h
 nothing-behind_body b (Doctype name public_id system_id rest) h = absurd (let no = h.0 in cc)
 nothing-behind_body b (Element name attributes template kids rest) h = absurd (let no = h.1.2 in cc)
@@ -80,7 +80,7 @@ body-of name attributes template kids rest e t r a k = record { attributes = att
 body-comes : (b : Bool) (trees : Trees) → IsPlain BeforeBody b trees → IsBody trees
 body-comes b Nothing h = absurd (let no = h in cc)
 body-comes b (Text text rest) h = absurd (let no = h.2 in cc)
-body-comes b (Comment text rest) h = absurd h
+body-comes b (Comment text rest) h = absurd (let no = h.0 in cc)
 body-comes b (ProcessingInstruction target text rest) h = absurd h
 body-comes b (Doctype name public_id system_id rest) h = absurd (let no = h.0 in cc)
 body-comes b (Element name attributes template kids rest) h =
@@ -108,7 +108,7 @@ spaced (c ∷ cs) rest p w b = behind_head-of (c ∷ cs) rest w b
 behind_head : (b : Bool) (trees : Trees) → IsPlain BehindHead b trees → IsBehindHead trees
 behind_head b Nothing h = absurd (let no = h in cc)
 behind_head b (Text text rest) h = spaced text rest h.1 h.2 (body-comes true rest h.3)
-behind_head b (Comment text rest) h = absurd h
+behind_head b (Comment text rest) h = absurd (let no = h.0 in cc)
 behind_head b (ProcessingInstruction target text rest) h = absurd h
 behind_head b (Doctype name public_id system_id rest) h = absurd (let no = h.0 in cc)
 behind_head b (Element name attributes template kids rest) h =
@@ -132,7 +132,7 @@ head-of name attributes template kids rest e t a k r = record { head = attribute
 root-filled : (b : Bool) (trees : Trees) → IsPlain BeforeHead b trees → IsRootFilled trees
 root-filled b Nothing h = absurd (let no = h in cc)
 root-filled b (Text text rest) h = absurd (let no = h.2 in cc)
-root-filled b (Comment text rest) h = absurd h
+root-filled b (Comment text rest) h = absurd (let no = h.0 in cc)
 root-filled b (ProcessingInstruction target text rest) h = absurd h
 root-filled b (Doctype name public_id system_id rest) h = absurd (let no = h.0 in cc)
 root-filled b (Element name attributes template kids rest) h =
@@ -152,7 +152,7 @@ root-of name attributes template kids rest e t r a k = record { root = attribute
 root-comes : (b : Bool) (trees : Trees) → IsPlain BeforeRoot b trees → IsRoot trees
 root-comes b Nothing h = absurd (let no = h in cc)
 root-comes b (Text text rest) h = absurd (let no = h.2 in cc)
-root-comes b (Comment text rest) h = absurd h
+root-comes b (Comment text rest) h = absurd (let no = h.0 in cc)
 root-comes b (ProcessingInstruction target text rest) h = absurd h
 root-comes b (Doctype name public_id system_id rest) h = absurd (let no = h.0 in cc)
 root-comes b (Element name attributes template kids rest) h =
@@ -165,7 +165,7 @@ doctype-same name public_id system_id rest other e p s r = rw (e, p, s, r) refl
 pub documents-framed : AreDocumentsFramed
 documents-framed Nothing h = absurd (let no = h in cc)
 documents-framed (Text text rest) h = absurd (let no = h.2 in cc)
-documents-framed (Comment text rest) h = absurd h
+documents-framed (Comment text rest) h = absurd (let no = h.0 in cc)
 documents-framed (ProcessingInstruction target text rest) h = absurd h
 documents-framed (Element name attributes template kids rest) h = absurd (let no = h.1.2 in cc)
 documents-framed (Doctype name public_id system_id rest) h =

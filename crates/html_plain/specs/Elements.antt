@@ -177,6 +177,11 @@ text_kind InTableBody = WhiteSpace
 text_kind InRow = WhiteSpace
 text_kind _ = NoText
 
+-- whether comments may stand in a place
+abbrev pub takes_comments : Place → Bool
+takes_comments InFlow = true
+takes_comments _ = false
+
 -- whether the children may end here
 abbrev pub may_end : Place → Bool
 may_end BeforeDoctype = false

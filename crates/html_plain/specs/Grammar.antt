@@ -9,7 +9,7 @@ use Rattle.markup.specs.Forest.{Forest, children_of}
 use Rattle.markup.specs.Trees.{Trees, Nothing, Text, Comment, ProcessingInstruction, Doctype, Element, trees_of}
 use Rattle.markup.specs.declared.attributes.Attribute.{Attribute}
 use Rattle.markup.specs.declared.names.QualName.{QualName}
-use Rattle.html_plain.specs.Elements.{behind_element, behind_text, element_of, holds, html_name, inside, may_end, spelled, text_kind}
+use Rattle.html_plain.specs.Elements.{behind_element, behind_text, element_of, holds, html_name, inside, may_end, spelled, takes_comments, text_kind}
 use Rattle.html_plain.specs.declared.place.TextKind.{TextKind}
 use Rattle.html_plain.specs.declared.place.TextKind.TheVariants.{NoText, WhiteSpace, AnyText}
 use Rattle.html_plain.specs.declared.elements.PlainElement.{PlainElement}
@@ -32,6 +32,14 @@ is_empty (c ∷ cs) = false
 
 abbrev pub is_plain_text : List ℕ → Bool
 is_plain_text text = not (is_empty text) && list_all is_plain_character text
+
+-- a plain character, but for a hyphen, "<" and ">"
+abbrev pub is_comment_character : ℕ → Bool
+is_comment_character c = is_plain_character c && not (nat_eq c 45) && not (nat_eq c 60) && not (nat_eq c 62)
+
+-- the text of a comment, which may be empty
+abbrev pub is_plain_comment : List ℕ → Bool
+is_plain_comment text = list_all is_comment_character text
 
 -- a lower-case ASCII letter, a digit or a hyphen
 abbrev pub is_name_character : ℕ → Bool
@@ -70,7 +78,7 @@ is_first _ = false
 abbrev pub IsPlain : Place → Bool → Trees → Type 0
 IsPlain place after_text Nothing = may_end place ≡ true
 IsPlain place after_text (Text text rest) = (after_text ≡ false) × (is_plain_text text ≡ true) × (takes_text (text_kind place) text ≡ true) × IsPlain (behind_text place) true rest
-IsPlain place after_text (Comment text rest) = ⊥
+IsPlain place after_text (Comment text rest) = (takes_comments place ≡ true) × (is_plain_comment text ≡ true) × IsPlain place false rest
 IsPlain place after_text (ProcessingInstruction target text rest) = ⊥
 IsPlain place after_text (Doctype name public_id system_id rest) = (place ≡ BeforeDoctype) × (name ≡ codes "html") × (public_id ≡ []) × (system_id ≡ []) × IsPlain BeforeRoot false rest
 IsPlain place after_text (Element name attributes template kids rest) =
@@ -95,7 +103,7 @@ is_plain_start place attributes template k = holds place k && (not template && a
 unfoldable pub is_plain : Place → Bool → Trees → Bool
 is_plain place after_text Nothing = may_end place
 is_plain place after_text (Text text rest) = (not after_text && (is_plain_text text && takes_text (text_kind place) text)) && is_plain (behind_text place) true rest
-is_plain place after_text (Comment text rest) = false
+is_plain place after_text (Comment text rest) = (takes_comments place && is_plain_comment text) && is_plain place false rest
 is_plain place after_text (ProcessingInstruction target text rest) = false
 is_plain place after_text (Doctype name public_id system_id rest) = (is_first place && is_plain_doctype name public_id system_id) && is_plain BeforeRoot false rest
 is_plain place after_text (Element name attributes template kids rest) =

@@ -1,7 +1,7 @@
 -- Laws of the plain grammar, and of what is written of its forms.
 use Rattle.std.specs.Prelude.{◌≡◌, ℕ, Bool, true, false, List, [], ◌++◌, ◌↔◌, codes}
-use Rattle.markup.specs.Escape.{end_tag, escape, start_tag, written_doctype}
-use Rattle.markup.specs.Trees.{Trees, Nothing, Text, Doctype, Element, default_entry, written}
+use Rattle.markup.specs.Escape.{end_tag, escape, start_tag, written_comment, written_doctype}
+use Rattle.markup.specs.Trees.{Trees, Nothing, Text, Comment, Doctype, Element, default_entry, written}
 use Rattle.markup.specs.declared.attributes.Attribute.{Attribute}
 use Rattle.html_plain.specs.Elements.{html_name, spelled}
 use Rattle.html_plain.specs.Grammar.{IsPlain, is_plain}
@@ -26,6 +26,7 @@ is_void _ = false
 pub record AreFormsWritten : Type 0 where
   pub doctype : (scripting : Bool) (rest : Trees) → text_of scripting (Doctype (codes "html") [] [] rest) ≡ written_doctype (codes "html") ++ text_of scripting rest
   pub text : (scripting : Bool) (text : List ℕ) (rest : Trees) → text_of scripting (Text text rest) ≡ escape text ++ text_of scripting rest
+  pub comment : (scripting : Bool) (text : List ℕ) (rest : Trees) → text_of scripting (Comment text rest) ≡ written_comment text ++ text_of scripting rest
   pub break : (scripting : Bool) (attributes : List Attribute) (rest : Trees) → text_of scripting (Element (html_name (spelled Break)) attributes false Nothing rest) ≡ start_tag (spelled Break) attributes ++ text_of scripting rest
   -- all other elements
   pub element : (k : PlainElement) → is_void k ≡ false → (scripting : Bool) (attributes : List Attribute) (kids rest : Trees)

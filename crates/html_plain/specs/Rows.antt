@@ -24,6 +24,10 @@ bare local = one local Nothing
 abbrev text : String → Trees
 text characters = Text (codes characters) Nothing
 
+-- a comment with nothing behind it
+abbrev noted : String → Trees
+noted characters = Comment (codes characters) Nothing
+
 -- a text before other trees
 abbrev say : String → Trees → Trees
 say characters rest = Text (codes characters) rest
@@ -67,6 +71,10 @@ plain_bodies =
     ∷ one "ul" (of "li" (text "x") (one "li" (of "p" Nothing (one "ol" (bare "li")))))
     ∷ cell (of "h1" Nothing (of "ul" Nothing (cell (text "x"))))
     ∷ one "table" (of "tbody" (one "tr" (one "th" (bare "p"))) (one "tbody" (of "tr" Nothing (one "tr" (of "td" Nothing (bare "th"))))))
+    -- comments in flow, where they part texts
+    ∷ noted "c" ∷ Comment [] (noted " &!\"") ∷ Comment (9 ∷ 10 ∷ 0xA0 ∷ 0x1F600 ∷ []) Nothing
+    ∷ one "div" (say "a" (Comment [] (say "b" (Comment (codes "c") (bare "p"))))) ∷ of "p" Nothing (noted "c")
+    ∷ one "ul" (one "li" (noted "c")) ∷ cell (noted " c ") ∷ one "table" (one "tbody" (one "tr" (one "th" (noted "c"))))
     -- white space where no other text stands
     ∷ one "ul" (say " " (of "li" Nothing (Text (9 ∷ 10 ∷ 12 ∷ 32 ∷ []) Nothing)))
     ∷ one "ol" (say " " (bare "li"))
@@ -85,7 +93,12 @@ odd_bodies =
     ∷ Text (codes "a" ++ 0 ∷ []) Nothing ∷ Text (codes "a" ++ 13 ∷ []) Nothing ∷ Text (0xD800 ∷ []) Nothing
     ∷ one "p" (Text (13 ∷ []) Nothing)
     -- nodes of other kinds
-    ∷ Comment (codes "x") Nothing ∷ ProcessingInstruction (codes "x") (codes "y") Nothing ∷ Doctype (codes "html") [] [] Nothing
+    ∷ ProcessingInstruction (codes "x") (codes "y") Nothing ∷ Doctype (codes "html") [] [] Nothing
+    -- comments: a hyphen, "<", ">", U+0000, U+000D, a surrogate, and where no flow stands
+    ∷ noted "a-b" ∷ noted "<" ∷ noted "a>" ∷ Comment (0 ∷ []) Nothing ∷ Comment (codes "a" ++ 13 ∷ []) Nothing ∷ Comment (0xDFFF ∷ []) Nothing
+    ∷ one "div" (Comment [] (say "a" (Comment [] (say "b" (text "c")))))
+    ∷ one "p" (noted "c") ∷ one "h1" (noted "c") ∷ one "b" (noted "c") ∷ one "a" (noted "c") ∷ one "br" (noted "c")
+    ∷ one "ul" (noted "c") ∷ one "ol" (noted "c") ∷ one "table" (noted "c") ∷ one "table" (one "tbody" (noted "c")) ∷ one "table" (one "tbody" (one "tr" (noted "c")))
     -- other elements, and names of other namespaces and with a prefix
     ∷ bare "span" ∷ bare "P" ∷ bare "h7" ∷ bare ""
     ∷ Element (record { prefix = None; ns = name_of Svg; local = codes "a" }) [] false Nothing Nothing
@@ -138,7 +151,9 @@ odd_pages =
     ∷ Doctype (codes "html") (codes "x") [] html ∷ Doctype (codes "html") [] (codes "about:legacy-compat") html ∷ Doctype (codes "html") [] [] (Doctype (codes "html") [] [] html)
     -- beside the root
     ∷ Doctype (codes "html") [] [] (Text (10 ∷ []) html)
+    ∷ Comment [] (Doctype (codes "html") [] [] html)
     ∷ Doctype (codes "html") [] [] (Comment [] html)
+    ∷ Doctype (codes "html") [] [] (of "html" (of "head" Nothing (bare "body")) (noted "c"))
     ∷ Doctype (codes "html") [] [] (of "html" (of "head" Nothing (bare "body")) (text " "))
     ∷ Doctype (codes "html") [] [] (of "html" (of "head" Nothing (bare "body")) html)
     ∷ Doctype (codes "html") [] [] (bare "body")
@@ -147,16 +162,21 @@ odd_pages =
     ∷ Doctype (codes "html") [] [] (one "html" (bare "head"))
     ∷ Doctype (codes "html") [] [] (one "html" (bare "body"))
     ∷ Doctype (codes "html") [] [] (one "html" (say " " (of "head" Nothing (bare "body"))))
+    ∷ Doctype (codes "html") [] [] (one "html" (Comment [] (of "head" Nothing (bare "body"))))
     ∷ headed Nothing (text " ")
     ∷ headed Nothing (say "x" (bare "body"))
     ∷ headed Nothing (say " " (say " " (bare "body")))
     ∷ headed Nothing (of "head" Nothing (bare "body"))
     ∷ headed Nothing (bare "frameset")
+    ∷ headed Nothing (Comment [] (bare "body"))
+    ∷ headed Nothing (of "body" Nothing (noted "c"))
     ∷ headed Nothing (of "body" Nothing (text " "))
     ∷ headed Nothing (of "body" Nothing (bare "body"))
     -- in the head and its title
     ∷ headed (text "x") (bare "body")
     ∷ headed (bare "meta") (bare "body")
+    ∷ headed (noted "c") (bare "body")
+    ∷ headed (one "title" (noted "c")) (bare "body")
     ∷ headed (of "title" Nothing (bare "title")) (bare "body")
     ∷ headed (one "title" (say "a" (text "b"))) (bare "body")
     ∷ headed (one "title" (bare "b")) (bare "body")

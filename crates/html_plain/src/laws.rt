@@ -7,7 +7,7 @@ pub fn grammar_is_computed()
     ensures { IsGrammarComputed }
 {}
 
-/// What is written of each form of the grammar: a doctype, a text, a `br`, and any other element.
+/// What is written of each form of the grammar: a doctype, a text, a comment, a `br`, and any other element.
 pub fn forms_are_written()
     ensures { AreFormsWritten }
 {}

@@ -26,7 +26,7 @@ pub enum Place {
     BehindTitle,
     /// In `title`: text may come.
     InTitle,
-    /// In `body`, `div`, `li`, `td` and `th`: text, blocks and inline elements may come.
+    /// In `body`, `div`, `li`, `td` and `th`: text, comments, blocks and inline elements may come.
     InFlow,
     /// In `p`, headings and inline elements: text and inline elements may come, but in a link no link.
     InLine(
@@ -57,7 +57,7 @@ pub enum TextKind {
 }
 
 impl Place {
-    ghost use Rattle.html_plain.specs.Elements.{behind_element, behind_text, holds, inside, may_end, text_kind};
+    ghost use Rattle.html_plain.specs.Elements.{behind_element, behind_text, holds, inside, may_end, takes_comments, text_kind};
     ghost use Rattle.html_plain.specs.Grammar.{is_first};
 
     /// Whether an element may stand here.
@@ -142,6 +142,13 @@ impl Place {
             | Place::InRow => TextKind::WhiteSpace,
             _ => TextKind::NoText,
         }
+    }
+
+    /// Whether comments may stand here.
+    pub fn takes_comments(self) -> bool
+        ensures { result ≡ takes_comments self }
+    {
+        matches!(self, Place::InFlow)
     }
 
     /// Whether a doctype may stand here.

@@ -2,7 +2,7 @@
 ghost use Rattle.std.specs.Prelude.{◌≡◌};
 ghost use Rattle.std.specs.Str.{chars};
 ghost use Rattle.std.specs.List.{list_all};
-ghost use Rattle.html_plain.specs.Grammar.{is_plain_character, is_plain_doctype, is_plain_text, is_white, takes_text};
+ghost use Rattle.html_plain.specs.Grammar.{is_comment_character, is_plain_character, is_plain_comment, is_plain_doctype, is_plain_text, is_white, takes_text};
 
 use crate::place::TextKind;
 use markup::Text;
@@ -27,6 +27,21 @@ pub fn is_plain_text(text: &Text) -> bool
     ensures { result ≡ is_plain_text text.now }
 {
     !text.is_empty() && has_plain_characters(text.as_str())
+}
+
+/// Whether no character of a text is U+0000, a carriage return, a hyphen, `<` or `>`.
+fn has_comment_characters(text: &str) -> bool
+    ensures { result ≡ list_all is_comment_character (chars text.now) }
+{
+    text.chars().all(|c| c != '\0' && c != '\r' && c != '-' && c != '<' && c != '>')
+}
+
+/// Whether a comment with this text, which may be empty, may stand in a plain document: it has neither U+0000 nor a carriage
+/// return, and none of the characters of a comment's ends, `-`, `<` and `>`.
+pub fn is_plain_comment(text: &Text) -> bool
+    ensures { result ≡ is_plain_comment text.now }
+{
+    has_comment_characters(text.as_str())
 }
 
 /// Whether a text is of a kind.

@@ -34,7 +34,7 @@ and-false false c h = refl
 pub plain-plantable : (place : Place) (after_text : Bool) (trees : Trees) → IsPlain place after_text trees → ArePlantable after_text trees
 plain-plantable place after_text Nothing h = tt
 plain-plantable place after_text (Text text rest) h = (h.0, (λ e. (let no : is_plain_text [] ≡ true = rw e at h.1 in absurd (cc))), plain-plantable (behind_text place) true rest h.3)
-plain-plantable place after_text (Comment text rest) h = absurd h
+plain-plantable place after_text (Comment text rest) h = plain-plantable place false rest h.2
 plain-plantable place after_text (ProcessingInstruction target text rest) h = absurd h
 plain-plantable place after_text (Doctype name public_id system_id rest) h = plain-plantable _ false rest h.4
 plain-plantable place after_text (Element name attributes template kids rest) h =

@@ -23,7 +23,6 @@ use Rattle.html_plain.proofs.Frames.{documents-framed}
 use Rattle.html_plain.proofs.WrittenForms.{element-written}
 use Rattle.html_planted.specs.Planted.{planted}
 use Rattle.html_planted.proofs.PlainTrees.{document-walked, plain-plantable}
-use Rattle.html_planted.proofs.Planting.{new-keeps}
 use Rattle.html_rules.specs.Documents.{document}
 use Rattle.html_rules.specs.ForeignContent.{asks_cdata}
 use Rattle.html_rules.specs.Sets.{names_of}
@@ -53,7 +52,7 @@ use Rattle.html_read_back.specs.Runs as runs
 use Rattle.html_read_back.specs.Runs.{Reads, TakesQuietly}
 use Rattle.html_read_back.specs.States.{Around, at, element_node, opened, tag_of}
 use Rattle.html_read_back.proofs.Frame.{body-reads, end-reads, head-ends, head-reads, start-reads}
-use Rattle.html_read_back.proofs.Goods.{good-around, good-element, good-planted, good-text}
+use Rattle.html_read_back.proofs.Goods.{good-around, good-element, good-new, good-planted, good-text}
 use Rattle.html_read_back.proofs.Returns.{own-normal, trees-none}
 use Rattle.html_read_back.proofs.Scalars.{trees-utf8}
 use Rattle.html_read_back.proofs.Runs.{reader-reads, reads-both, reads-one}
@@ -64,9 +63,7 @@ good-empty : IsGood empty_forest 0
 good-empty = record { tree = record { forest = IsForest-empty; contents = HasContents-empty }; parent = IsParent-document empty_forest IsForest-empty; silent = refl }
 
 good-doctype : (f : Forest) → IsGood f 0 → IsGood (put_new f (Last 0) doctype_node) 0
-good-doctype f good =
-    let kept = new-keeps f 0 doctype_node good.tree good.parent (record { contents = refl; template = refl; name = refl }) in
-    record { tree = kept.tree; parent = kept.parents 0 good.parent; silent = good.silent }
+good-doctype f good = good-new f 0 doctype_node (record { contents = refl; template = refl; name = refl }) good
 
 -- planting leaves the quirks mode
 text-quirks : (f : Forest) (p : ℕ) (t : List ℕ) → (put_text f (Last p) t).quirks ≡ f.quirks

@@ -1,13 +1,13 @@
 -- The forms of flow and lines are read as their subtrees.
 use Rattle.std.proofs.Common.{◌≡◌, ◌∙◌, ℕ, ◌≤◌, ◌<◌, Bool, true, false, List, [], ◌∷◌, ◌++◌, Option, Some, inl, inr, refl, ap, arith}
 use Rattle.std.specs.Prelude.{◌&&◌}
-use Rattle.markup.specs.Escape.{end_tag, escape, start_tag}
+use Rattle.markup.specs.Escape.{end_tag, escape, start_tag, written_comment}
 use Rattle.markup.specs.Forest.{Forest, node_count, put_new, put_text}
 use Rattle.markup.specs.Forest.Place.{Last}
 use Rattle.markup.specs.Trees.{Trees, Nothing as NoTrees}
 use Rattle.markup.specs.declared.attributes.Attribute.{Attribute}
 use Rattle.html_plain.specs.Elements.{spelled}
-use Rattle.html_plain.specs.Grammar.{are_plain_attributes}
+use Rattle.html_plain.specs.Grammar.{are_plain_attributes, is_plain_comment}
 use Rattle.html_plain.specs.Laws.{text_of}
 use Rattle.html_plain.specs.declared.elements.Format.TheVariants.{Bold, Italic, Emphasis, Code}
 use Rattle.html_plain.specs.declared.elements.Level.{Level}
@@ -27,25 +27,26 @@ use Rattle.html_rules.specs.Stack.{close_p_element_in_button_scope}
 use Rattle.html_rules.specs.State.{Entry, Element, Marker, Open, State}
 use Rattle.html_rules.specs.Tokens.{is_white}
 use Rattle.html_slices.specs.Forms.{Data as InData, end_token, start_token}
-use Rattle.html_slices.proofs.PlainForms.{attributes-read, names-of_tags}
+use Rattle.html_slices.proofs.Comments.{comment-spelled}
+use Rattle.html_slices.proofs.PlainForms.{attributes-read, comments-read, names-of_tags}
 use Rattle.html_slices.proofs.SpelledForms.{end-spelled, start-spelled}
 use Rattle.html_tokens.specs.Laws.{ReadsEscapes, has_no_null, in_data}
 use Rattle.html_tokens.specs.Table.{Row as TableRow}
 use Rattle.html_tokens.specs.declared.replies.TokenSinkResult.TheVariants.{Continue}
-use Rattle.html_tokens.specs.declared.token.Token.TheVariants.{CharacterTokens}
+use Rattle.html_tokens.specs.declared.token.Token.TheVariants.{CharacterTokens, CommentToken}
 use Rattle.html_read_back.specs.Forms.{AreReadInFlow, IsReadInFlow}
 use Rattle.html_read_back.specs.Laws.{ReadsInFlow}
 use Rattle.html_read_back.specs.Places.{AreBelow, AreOpen, Drops, Fits, HasNoLink, IsBare, IsGood, IsHome, ListsThere, TakesBlocks, TakesThere}
 use Rattle.html_read_back.specs.Runs.{Reads, TakesQuietly}
-use Rattle.html_read_back.specs.States.{Around, Home, at, element_node, mode_in, opened, tag_of}
+use Rattle.html_read_back.specs.States.{Around, Home, at, comment_node, element_node, mode_in, opened, tag_of}
 use Rattle.html_read_back.proofs.Entries.{all-open_more, bare-stays, below-left, below-more, drops-none, drops-room, drops-then, link-left, none-listed, open-left}
 use Rattle.html_read_back.proofs.Goods.{element-more, good-around, good-element, good-planted, good-text}
 use Rattle.html_read_back.proofs.Runs.{reads-both, reads-one}
 use Rattle.html_read_back.proofs.Stacks.{home-more, home-ready, is_in_flow, same}
-use Rattle.html_read_back.proofs.Taking.{character-once, tag-once}
+use Rattle.html_read_back.proofs.Taking.{character-once, comment-once, tag-once}
 use Rattle.html_read_back.proofs.Texts.{every, flag_after, text-reads}
-use Rattle.html_read_back.proofs.Turns.Flow.{behind_heading, character-there, end-formatting, end-simple, is_format, is_formatting, is_simple_block, is_simply_ended, start-block, start-break, start-format, start-heading, start-item, start-link}
-use Rattle.html_read_back.proofs.Words.{adopted, appended, formatted, inserted, no-heading, no-item_closed, no-link, none-closed, popped, put-alone, reconstructed}
+use Rattle.html_read_back.proofs.Turns.Flow.{behind_heading, character-there, comment-there, end-formatting, end-simple, is_format, is_formatting, is_simple_block, is_simply_ended, start-block, start-break, start-format, start-heading, start-item, start-link}
+use Rattle.html_read_back.proofs.Words.{adopted, appended, commented, formatted, inserted, no-heading, no-item_closed, no-link, none-closed, popped, put-alone, reconstructed}
 
 -- PLACES
 
@@ -152,6 +153,29 @@ module _ (rows : List TableRow) (reads : ReadsEscapes rows) (sc : Bool) (o : Aro
     reads =
         text-reads rows reads InData last n (λ f ok. at o head (mode_in b) f (opened n top ∷ os) es ok) (λ c ok. ok && is_white (c ∷ [])) (λ c. true)
         (λ f ok c good tested. character-takes b n top os es fits.home fits.all_open f ok c good) cs shown (every cs) f ok good;
+  }
+
+  -- A COMMENT
+
+  comment-takes : (b : Home) (n : ℕ) (top : PlainElement) (os : List Open) (f : Forest) (es : List Entry) (ok : Bool) (text : List ℕ) → IsGood f n → IsHome b (opened n top ∷ os)
+      → TakesQuietly rows (at o head (mode_in b) f (opened n top ∷ os) es ok) (CommentToken text) (at o head (mode_in b) (put_new f (Last n) (comment_node text)) (opened n top ∷ os) es ok) Continue
+  comment-takes b n top os f es ok text good home =
+      comment-once rows _ _ text false (home-ready o head b f (opened n top ∷ os) es ok (CommentToken text) home good.silent)
+      (comment-there o head n top f os es ok [] text b ∙ ap (λ s. turn_of s (Finished false)) (commented o head (mode_in b) text n top f os es ok)) good.silent
+
+  pub comment-reads : (b : Home) (n : ℕ) (top : PlainElement) (os : List Open) (last : Option (List ℕ)) (f : Forest) (es : List Entry) (ok : Bool) (text : List ℕ) → is_plain_comment text ≡ true → IsGood f n → IsHome b (opened n top ∷ os)
+      → Reads rows (in_data last) (at o head (mode_in b) f (opened n top ∷ os) es ok) (written_comment text) (in_data last) (at o head (mode_in b) (put_new f (Last n) (comment_node text)) (opened n top ∷ os) es ok)
+  comment-reads b n top os last f es ok text plain good home =
+      reads-one rows (in_data last) (in_data last) _ _ (written_comment text) (CommentToken text) Continue (comment-spelled rows last text (comments-read text plain).0) (comment-takes b n top os f es ok text good home)
+
+  pub comment-flows : (place : Place) (b : Home) (n : ℕ) (top : PlainElement) (os : List Open) (last : Option (List ℕ)) (f : Forest) (es : List Entry) (ok : Bool) (text : List ℕ) → is_plain_comment text ≡ true → IsGood f n → Fits place b f (opened n top ∷ os) es
+      → ReadsInFlow rows o head b n top os last f es ok (written_comment text) (put_new f (Last n) (comment_node text))
+  comment-flows place b n top os last f es ok text plain good fits = record {
+    last_tag = last;
+    entries = es;
+    frameset_ok = ok;
+    drops = drops-none es;
+    reads = comment-reads b n top os last f es ok text plain good fits.home;
   }
 
   -- ELEMENTS

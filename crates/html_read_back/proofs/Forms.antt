@@ -23,7 +23,7 @@ use Rattle.html_read_back.proofs.Texts.{white-not_null}
 pub nothing-in_break : (b : Bool) (trees : Trees) → IsPlain InBreak b trees → trees ≡ Nothing
 nothing-in_break b Nothing h = refl
 nothing-in_break b (Text text rest) h = absurd (let no = h.2 in cc)
-nothing-in_break b (Comment text rest) h = absurd h
+nothing-in_break b (Comment text rest) h = absurd (let no = h.0 in cc)
 nothing-in_break b (ProcessingInstruction target text rest) h = absurd h
 nothing-in_break b (Doctype name public_id system_id rest) h = absurd (let no = h.0 in cc)
 nothing-in_break b (Element name attributes template kids rest) h = absurd (let no = h.1.2 in cc)

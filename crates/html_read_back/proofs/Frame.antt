@@ -53,7 +53,7 @@ pub record TitleText (sc : Bool) (kids : Trees) : Type 0 where
 no-more : (trees : Trees) → IsPlain InTitle true trees → trees ≡ Nothing
 no-more Nothing h = refl
 no-more (Text text rest) h = absurd (let no = h.0 in cc)
-no-more (Comment text rest) h = absurd h
+no-more (Comment text rest) h = absurd (let no = h.0 in cc)
 no-more (ProcessingInstruction target text rest) h = absurd h
 no-more (Doctype name public_id system_id rest) h = absurd (let no = h.0 in cc)
 no-more (Element name attributes template kids rest) h = absurd (let no = h.1.2 in cc)
@@ -62,7 +62,7 @@ pub title-text : (sc : Bool) (kids : Trees) → IsPlain InTitle false kids → T
 unfolding written
 title-text sc Nothing h = record { text = []; shown = refl; is = refl; grows = λ n f. refl }
 title-text sc (Text text rest) h = rw (no-more rest h.3) record { text = text; shown = (texts-read text h.1).0; is = append-nil (escape text); grows = λ n f. refl }
-title-text sc (Comment text rest) h = absurd h
+title-text sc (Comment text rest) h = absurd (let no = h.0 in cc)
 title-text sc (ProcessingInstruction target text rest) h = absurd h
 title-text sc (Doctype name public_id system_id rest) h = absurd (let no = h.0 in cc)
 title-text sc (Element name attributes template kids rest) h = absurd (let no = h.1.2 in cc)
@@ -101,7 +101,7 @@ module _ (rows : List Row) (reads : ReadsEscapes rows) (sc : Bool) (o : Around) 
     behind-title (Text text rest) after_text h last f good =
         let g = put_text f (Last m) text in
         reads-both rows (in_data last) (in_data last) (in_data last) (in_head f) (in_head g) (in_head (planted rest m g)) (escape text) (text_of sc rest) (head-text last text h.2 f good) (behind-title rest true h.3 last g (good-text f m text good))
-    behind-title (Comment text rest) after_text h last f good = absurd h
+    behind-title (Comment text rest) after_text h last f good = absurd (let no = h.0 in cc)
     behind-title (ProcessingInstruction target text rest) after_text h last f good = absurd h
     behind-title (Doctype name public_id system_id rest) after_text h last f good = absurd (let no = h.0 in cc)
     behind-title (Element name attributes template kids rest) after_text h last f good = absurd (let no = h.1.2 in cc)
@@ -178,7 +178,7 @@ module _ (rows : List Row) (reads : ReadsEscapes rows) (sc : Bool) (o : Around) 
         let g = put_text f (Last m) text in
         let more = head-reads rest true h.3 last g (good-text f m text good) in
         record { left = more.left; runs = reads-both rows (in_data last) (in_data last) (in_data more.left) (in_head f) (in_head g) (in_head (planted rest m g)) (escape text) (text_of sc rest) (head-text last text h.2 f good) more.runs }
-    head-reads (Comment text rest) after_text h last f good = absurd h
+    head-reads (Comment text rest) after_text h last f good = absurd (let no = h.0 in cc)
     head-reads (ProcessingInstruction target text rest) after_text h last f good = absurd h
     head-reads (Doctype name public_id system_id rest) after_text h last f good = absurd (let no = h.0 in cc)
     head-reads (Element name attributes template kids rest) after_text h last f good =

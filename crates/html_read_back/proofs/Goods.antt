@@ -1,7 +1,7 @@
 -- Forests that stay good while plain trees are put into them.
 use Rattle.std.proofs.Common.{◌∙◌, ℕ, ◌≤◌, ◌<◌, Bool, List, codes, refl}
 use Rattle.std.specs.Str.{bytes_eq}
-use Rattle.markup.specs.Forest.{Forest, IsParent, node_count, put_new, put_text}
+use Rattle.markup.specs.Forest.{Forest, IsParent, NodeData, node_count, put_new, put_text}
 use Rattle.markup.specs.Forest.Place.{Last}
 use Rattle.markup.specs.Names.{html_namespace}
 use Rattle.markup.specs.Named.{IsOrdinary}
@@ -14,7 +14,7 @@ use Rattle.html_planted.specs.Planted.{ArePlantable, planted}
 use Rattle.html_planted.proofs.PlainTrees.{and-false, no-template}
 use Rattle.html_planted.proofs.Planting.{new-keeps, new-parent, planted-errors, planted-keeps, text-keeps}
 use Rattle.html_read_back.specs.Places.{IsGood}
-use Rattle.html_read_back.specs.States.{element_node}
+use Rattle.html_read_back.specs.States.{comment_node, element_node}
 
 pub ordinary-element : (k : PlainElement) (attrs : List Attribute) → IsOrdinary (element_node k attrs)
 ordinary-element k attrs = record { contents = refl; template = refl; name = and-false (bytes_eq (html_name (spelled k)).ns html_namespace) (bytes_eq (spelled k) (codes "template")) (no-template k) }
@@ -27,6 +27,21 @@ good-text f n t good =
 pub text-more : (f : Forest) (n : ℕ) (t : List ℕ) → IsGood f n → node_count f ≤ node_count (put_text f (Last n) t)
 text-more f n t good = (text-keeps f n t good.tree good.parent).more
 
+-- a node that is put into a good one leaves that good
+pub good-new : (f : Forest) (n : ℕ) (about : NodeData) → IsOrdinary about → IsGood f n → IsGood (put_new f (Last n) about) n
+good-new f n about ordinary good =
+    let kept = new-keeps f n about good.tree good.parent ordinary in
+    record { tree = kept.tree; parent = kept.parents n good.parent; silent = good.silent }
+
+ordinary-comment : (text : List ℕ) → IsOrdinary (comment_node text)
+ordinary-comment text = record { contents = refl; template = refl; name = refl }
+
+pub good-comment : (f : Forest) (n : ℕ) (text : List ℕ) → IsGood f n → IsGood (put_new f (Last n) (comment_node text)) n
+good-comment f n text good = good-new f n (comment_node text) (ordinary-comment text) good
+
+pub comment-more : (f : Forest) (n : ℕ) (text : List ℕ) → IsGood f n → node_count f ≤ node_count (put_new f (Last n) (comment_node text))
+comment-more f n text good = (new-keeps f n (comment_node text) good.tree good.parent (ordinary-comment text)).more
+
 -- a new element, and the node that it is put into
 pub good-element : (f : Forest) (n : ℕ) (k : PlainElement) (attrs : List Attribute) → IsGood f n → IsGood (put_new f (Last n) (element_node k attrs)) (node_count f)
 good-element f n k attrs good = record {
@@ -36,9 +51,7 @@ good-element f n k attrs good = record {
 }
 
 pub good-around : (f : Forest) (n : ℕ) (k : PlainElement) (attrs : List Attribute) → IsGood f n → IsGood (put_new f (Last n) (element_node k attrs)) n
-good-around f n k attrs good =
-    let kept = new-keeps f n (element_node k attrs) good.tree good.parent (ordinary-element k attrs) in
-    record { tree = kept.tree; parent = kept.parents n good.parent; silent = good.silent }
+good-around f n k attrs good = good-new f n (element_node k attrs) (ordinary-element k attrs) good
 
 pub element-more : (f : Forest) (n : ℕ) (k : PlainElement) (attrs : List Attribute) → IsGood f n → node_count f < node_count (put_new f (Last n) (element_node k attrs))
 element-more f n k attrs good = (new-parent f n (element_node k attrs) good.parent refl).there

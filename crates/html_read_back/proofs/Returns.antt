@@ -2,7 +2,7 @@
 use Rattle.std.proofs.Common.{◌≡◌, ◌∙◌, ℕ, Bool, true, false, List, [], ◌∷◌, ◌++◌, refl, ap, sym, subst}
 use Rattle.std.specs.Prelude.{nat_eq, not}
 use Rattle.std.proofs.lemmas.Bool.{and_parts}
-use Rattle.markup.specs.Escape.{end_tag, escape, start_tag}
+use Rattle.markup.specs.Escape.{end_tag, escape, start_tag, written_comment}
 use Rattle.markup.specs.Trees.{Trees, Nothing, Text, Comment, ProcessingInstruction, Doctype, Element, written}
 use Rattle.markup.specs.declared.attributes.Attribute.{Attribute}
 use Rattle.html_plain.specs.Elements.{behind_element, behind_text, html_name, inside, spelled}
@@ -13,8 +13,8 @@ use Rattle.html_plain.specs.declared.elements.PlainElement.TheVariants.{Break}
 use Rattle.html_plain.specs.declared.place.Place.{Place}
 use Rattle.html_plain.proofs.WrittenForms.{break-written, element-written}
 use Rattle.html_slices.specs.Forms.{has_no_return}
-use Rattle.html_slices.proofs.PlainForms.{attributes-read, names-of_tags, texts-read, values-read}
-use Rattle.html_slices.proofs.Returns.{end-no_return, start-no_return, text-no_return}
+use Rattle.html_slices.proofs.PlainForms.{attributes-read, comments-read, names-of_tags, texts-read, values-read}
+use Rattle.html_slices.proofs.Returns.{comment-no_return, end-no_return, start-no_return, text-no_return}
 use Rattle.html_tokens.specs.NormalText.{normal_text}
 use Rattle.html_tokens.proofs.NewlineLaws.{newlines-own}
 use Rattle.html_read_back.proofs.Forms.{nothing-in_break}
@@ -48,7 +48,7 @@ module _ (sc : Bool) where
   unfolding written
   trees-none Nothing place after_text h = refl
   trees-none (Text text rest) place after_text h = joined (escape text) (text_of sc rest) (text-no_return text (texts-read text h.1).1) (trees-none rest (behind_text place) true h.3)
-  trees-none (Comment text rest) place after_text h = absurd h
+  trees-none (Comment text rest) place after_text h = joined (written_comment text) (text_of sc rest) (comment-no_return text (comments-read text h.1).1) (trees-none rest place false h.2)
   trees-none (ProcessingInstruction target text rest) place after_text h = absurd h
   trees-none (Doctype name public_id system_id rest) place after_text h = rw h.1 (trees-none rest _ false h.4)
   trees-none (Element name attributes template kids rest) place after_text h =

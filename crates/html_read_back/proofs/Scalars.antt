@@ -8,7 +8,7 @@ use Rattle.std.specs.Str.{IsUtf8, chars}
 use Rattle.std.proofs.lemmas.Bool.{and_from, and_parts}
 use Rattle.std.proofs.lemmas.Bool.Decides.{nat_tests}
 use Rattle.std.proofs.lemmas.Str.{chars-encodes}
-use Rattle.markup.specs.Escape.{InValue, end_tag, escape, escape_value, escaped, escaped_by, escaped_in, start_tag, written_attribute, written_attributes}
+use Rattle.markup.specs.Escape.{InValue, end_tag, escape, escape_value, escaped, escaped_by, escaped_in, start_tag, written_attribute, written_attributes, written_comment}
 use Rattle.markup.specs.Trees.{Trees, Nothing, Text, Comment, ProcessingInstruction, Doctype, Element, written}
 use Rattle.markup.specs.declared.attributes.Attribute.{Attribute}
 use Rattle.html_plain.specs.Elements.{behind_element, behind_text, html_name, inside, spelled}
@@ -20,7 +20,7 @@ use Rattle.html_plain.specs.declared.place.Place.{Place}
 use Rattle.html_plain.proofs.WrittenForms.{break-written, element-written}
 use Rattle.html_slices.specs.Forms.{is_no_text, is_tag_name}
 use Rattle.html_slices.proofs.Attributes.{as-written}
-use Rattle.html_slices.proofs.PlainForms.{names-of_tags}
+use Rattle.html_slices.proofs.PlainForms.{comment-characters, names-of_tags}
 use Rattle.html_read_back.proofs.Forms.{nothing-in_break}
 
 both : (a b : List ℕ) → scalars a ≡ true → scalars b ≡ true → scalars (a ++ b) ≡ true
@@ -42,6 +42,12 @@ value-by false c h = escaped-scalars _ _ _ _ c h
 
 plain-scalar : (c : ℕ) → is_plain_character c ≡ true → scalar c ≡ true
 plain-scalar c h = (and_parts (not (nat_eq c 0) && not (nat_eq c 13)) (scalar c) h).1
+
+plain-scalars : (text : List ℕ) → list_all is_plain_character text ≡ true → scalars text ≡ true
+plain-scalars [] h = refl
+plain-scalars (c ∷ text) h =
+    let p = and_parts (is_plain_character c) (list_all is_plain_character text) h in
+    and_from (scalar c) (scalars text) (plain-scalar c p.0) (plain-scalars text p.1)
 
 text-scalars : (text : List ℕ) → list_all is_plain_character text ≡ true → scalars (escape text) ≡ true
 text-scalars [] h = refl
@@ -126,7 +132,8 @@ module _ (sc : Bool) where
   trees-scalars (Text text rest) place after_text h =
       let p = and_parts (not (is_empty text)) (list_all is_plain_character text) h.1 in
       both (escape text) (text_of sc rest) (text-scalars text p.1) (trees-scalars rest (behind_text place) true h.3)
-  trees-scalars (Comment text rest) place after_text h = absurd h
+  trees-scalars (Comment text rest) place after_text h =
+      both (written_comment text) (text_of sc rest) (both text (codes "-->") (plain-scalars text (comment-characters text h.1).1) refl) (trees-scalars rest place false h.2)
   trees-scalars (ProcessingInstruction target text rest) place after_text h = absurd h
   trees-scalars (Doctype name public_id system_id rest) place after_text h = rw h.1 (trees-scalars rest _ false h.4)
   trees-scalars (Element name attributes template kids rest) place after_text h =

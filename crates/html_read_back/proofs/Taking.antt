@@ -11,7 +11,7 @@ use Rattle.html_tokens.specs.Table.{Row}
 use Rattle.html_tokens.specs.declared.replies.TokenSinkResult.TheVariants.{Continue}
 use Rattle.html_tokens.specs.declared.tags.Tag.{Tag}
 use Rattle.html_tokens.specs.declared.token.Token.{Token}
-use Rattle.html_tokens.specs.declared.token.Token.TheVariants.{TagToken, CharacterTokens, EOFToken}
+use Rattle.html_tokens.specs.declared.token.Token.TheVariants.{TagToken, CharacterTokens, CommentToken, EOFToken}
 use Rattle.html_read_back.specs.Runs.{TakesQuietly}
 
 -- a state in which nothing stands against a token, and no error was told
@@ -106,6 +106,15 @@ pub tag-replied : (rows : List Row) (s new : State) (tag : Tag) (reply : Reply) 
 tag-replied rows s new tag reply ready e silent goes_on =
     let made = settled-replied (TagToken tag) s new reply e in
     tag-takes rows s new tag reply ready (ap (λ (m : Settled). m.state) made) (ap (λ (m : Settled). m.reply) made) silent goes_on
+
+-- a comment
+pub comment-once : (rows : List Row) (s new : State) (text : List ℕ) (b : Bool) → IsReady s (CommentToken text) → turn (CommentToken text) s ≡ turn_of new (Finished b) → new.forest.errors ≡ 0 → TakesQuietly rows s (CommentToken text) new Continue
+unfolding taken
+comment-once rows s new text b ready e silent =
+    let t = CommentToken text in
+    let made = settled-once t s new b refl e in
+    let same = ignore-same s ready.keeps_lf in
+    takes-from rows s new t Continue ready refl (ap (λ s. (settle t s).state) same ∙ ap (λ (m : Settled). m.state) made) (ap (λ s. (settle t s).reply) same ∙ ap (λ (m : Settled). m.reply) made) silent (λ pauses. refl)
 
 -- the end of a text
 pub end-takes : (rows : List Row) (s new : State) (b : Bool) → IsReady s EOFToken → turn EOFToken s ≡ turn_of new (Finished b) → new.forest.errors ≡ 0 → TakesQuietly rows s EOFToken new Continue

@@ -1,13 +1,13 @@
 -- Plain trees are read as they are, by induction over them.
 use Rattle.std.proofs.Common.{◌≡◌, ◌∙◌, ℕ, ◌≤◌, Bool, true, false, List, [], ◌∷◌, ◌++◌, Option, refl, sym, ap, arith, append_assoc, subst}
 use Rattle.std.specs.List.{list_all}
-use Rattle.markup.specs.Escape.{end_tag, escape, start_tag}
+use Rattle.markup.specs.Escape.{end_tag, escape, start_tag, written_comment}
 use Rattle.markup.specs.Forest.{Forest, node_count, put_new, put_text}
 use Rattle.markup.specs.Forest.Place.{Last}
 use Rattle.markup.specs.Trees.{Trees, Nothing, Text, Comment, ProcessingInstruction, Doctype, Element, written}
 use Rattle.markup.specs.declared.attributes.Attribute.{Attribute}
-use Rattle.html_plain.specs.Elements.{behind_element, behind_text, html_name, inside, spelled, text_kind}
-use Rattle.html_plain.specs.Grammar.{IsPlain, is_plain_text, is_white, takes_text}
+use Rattle.html_plain.specs.Elements.{behind_element, behind_text, html_name, inside, spelled, takes_comments, text_kind}
+use Rattle.html_plain.specs.Grammar.{IsPlain, is_plain_comment, is_plain_text, is_white, takes_text}
 use Rattle.html_plain.specs.Laws.{text_of}
 use Rattle.html_plain.specs.declared.elements.PlainElement.{PlainElement}
 use Rattle.html_plain.specs.declared.elements.PlainElement.TheVariants.{Break}
@@ -25,10 +25,10 @@ use Rattle.html_read_back.proofs.Forms.{form, nothing-in_break}
 use Rattle.html_read_back.specs.Laws.{ReadsElementInPart, ReadsInFlow, ReadsInPart, element_text}
 use Rattle.html_read_back.specs.Places.{AreBelow, Fits, IsGood, IsRooted}
 use Rattle.html_read_back.specs.Runs as runs
-use Rattle.html_read_back.specs.States.{Around, Home, Part, OfTable, OfBodies, OfRow, element_node, opened, part_element}
+use Rattle.html_read_back.specs.States.{Around, Home, Part, OfTable, OfBodies, OfRow, comment_node, element_node, opened, part_element}
 use Rattle.html_read_back.proofs.Entries.{below-more, drops-none, drops-then}
-use Rattle.html_read_back.proofs.Flow.{fits-after, text-flows}
-use Rattle.html_read_back.proofs.Goods.{element-more, good-around, good-element, good-planted, good-text, planted-more, text-more}
+use Rattle.html_read_back.proofs.Flow.{comment-flows, fits-after, text-flows}
+use Rattle.html_read_back.proofs.Goods.{comment-more, element-more, good-comment, good-around, good-element, good-planted, good-text, planted-more, text-more}
 use Rattle.html_read_back.proofs.Runs.{reads-both}
 use Rattle.html_read_back.proofs.Tables.{text-part}
 
@@ -142,6 +142,18 @@ module _ (rows : List TableRow) (reads : ReadsEscapes rows) (sc : Bool) (o : Aro
   text-law InRow text rest plain takes law = part-text OfRow text rest plain takes law
   text-law place text rest plain takes law = tt
 
+  -- A COMMENT
+
+  flow-comment : (text : List ℕ) (rest : Trees) → is_plain_comment text ≡ true → flow InFlow rest → flow InFlow (Comment text rest)
+  unfolding written
+  flow-comment text rest plain law b n top os last f es ok good fits =
+      flow-both InFlow b n top os last f (put_new f (Last n) (comment_node text)) es ok (written_comment text) rest fits (good-comment f n text good) (comment-more f n text good)
+      (comment-flows rows reads sc o head InFlow b n top os last f es ok text plain good fits) law
+
+  comment-law : (place : Place) (text : List ℕ) (rest : Trees) → takes_comments place ≡ true → is_plain_comment text ≡ true → Law place rest → Law place (Comment text rest)
+  comment-law InFlow text rest takes plain law = flow-comment text rest plain law
+  comment-law place text rest takes plain law = absurd (cc)
+
   -- ELEMENTS
 
   around-shape : (a b c d : List ℕ) → a ++ (b ++ (c ++ d)) ≡ (a ++ (b ++ c)) ++ d
@@ -199,7 +211,7 @@ module _ (rows : List TableRow) (reads : ReadsEscapes rows) (sc : Bool) (o : Aro
   pub law : (trees : Trees) (place : Place) (after_text : Bool) → IsPlain place after_text trees → Law place trees
   law Nothing place after_text h = nothing-law place
   law (Text text rest) place after_text h = text-law place text rest h.1 h.2 (law rest (behind_text place) true h.3)
-  law (Comment text rest) place after_text h = absurd h
+  law (Comment text rest) place after_text h = comment-law place text rest h.0 h.1 (law rest place false h.2)
   law (ProcessingInstruction target text rest) place after_text h = absurd h
   law (Doctype name public_id system_id rest) place after_text h = subst (λ p. Law p (Doctype name public_id system_id rest)) (sym h.0) tt
   law (Element name attributes template kids rest) place after_text h =

@@ -11,14 +11,14 @@ use Rattle.html_planted.proofs.PlainTrees.{no-template}
 use Rattle.html_rules.specs.Adoption.{adoption_agency, adoption_turn, adoption_turns}
 use Rattle.html_rules.specs.Formatting.{create_formatting_element_for, is_listed, reconstruct_active_formatting_elements, with_room}
 use Rattle.html_rules.specs.Names as names
-use Rattle.html_rules.specs.Places.{append_text, insert_element, put_element}
+use Rattle.html_rules.specs.Places.{append_comment, append_text, insert_element, put_element}
 use Rattle.html_rules.specs.Reset.{mode_of_open, reset_insertion_mode}
 use Rattle.html_rules.specs.Stack.{close_item, close_p_element_in_button_scope, in_scope, item_name, pop}
 use Rattle.html_rules.specs.State.{Entry, Element, Marker, Open, State, current_is, is_in}
 use Rattle.html_rules.specs.declared.insertion_mode.InsertionMode.{InsertionMode}
 use Rattle.html_rules.specs.declared.tag_set.TagSet.TheVariants as set
 use Rattle.html_read_back.specs.Places.{AreOpen, HasNoLink}
-use Rattle.html_read_back.specs.States.{Around, at, element_node, opened, tag_of}
+use Rattle.html_read_back.specs.States.{Around, at, comment_node, element_node, opened, tag_of}
 use Rattle.html_read_back.proofs.Stacks.{no-template_open, same}
 use Rattle.html_read_back.proofs.Turns.Flow.{behind_heading, behind_link, is_formatting}
 
@@ -41,6 +41,11 @@ module _ (o : Around) (head : Option ℕ) (m : InsertionMode) where
       → append_text text (at o head m f (opened n top ∷ os) es ok) ≡ at o head m (put_text f (Last n) text) (opened n top ∷ os) es ok
   unfolding append_text
   appended text n top f os es ok = rw (no-template_open n top) refl
+
+  pub commented : (text : List ℕ) (n : ℕ) (top : PlainElement) (f : Forest) (os : List Open) (es : List Entry) (ok : Bool)
+      → append_comment text (at o head m f (opened n top ∷ os) es ok) ≡ at o head m (put_new f (Last n) (comment_node text)) (opened n top ∷ os) es ok
+  unfolding append_comment
+  commented text n top f os es ok = rw (no-template_open n top) refl
 
   -- no paragraph is closed
   pub none-closed : (f : Forest) (stack : List Open) (es : List Entry) (ok : Bool) → in_scope set.ButtonScope (is_in set.P) stack ≡ false → close_p_element_in_button_scope (at o head m f stack es ok) ≡ at o head m f stack es ok

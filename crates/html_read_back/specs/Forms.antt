@@ -1,7 +1,7 @@
 -- The laws of the forms of the plain grammar: reading what is written of a form adds its subtree and gives the state back.
 use Rattle.std.specs.Prelude.{◌≡◌, ℕ, Bool, true, false, List, [], ◌∷◌, Option, Some, None, codes}
 use Rattle.std.specs.List.{list_all}
-use Rattle.markup.specs.Escape.{end_tag, escape, start_tag, written_doctype}
+use Rattle.markup.specs.Escape.{end_tag, escape, start_tag, written_comment, written_doctype}
 use Rattle.markup.specs.Forest as forest
 use Rattle.markup.specs.Forest.{Forest, NodeData, node_count, put_new, put_text}
 use Rattle.markup.specs.Forest.Place.{Last}
@@ -9,7 +9,7 @@ use Rattle.markup.specs.Trees.{Trees}
 use Rattle.markup.specs.declared.attributes.Attribute.{Attribute}
 use Rattle.markup.specs.declared.quirks.QuirksMode.TheVariants.{NoQuirks}
 use Rattle.html_plain.specs.Elements.{inside}
-use Rattle.html_plain.specs.Grammar.{IsPlain, are_plain_attributes, is_white}
+use Rattle.html_plain.specs.Grammar.{IsPlain, are_plain_attributes, is_plain_comment, is_white}
 use Rattle.html_plain.specs.Laws.{text_of}
 use Rattle.html_plain.specs.declared.elements.CellKind.{CellKind}
 use Rattle.html_plain.specs.declared.elements.Format.{Format}
@@ -25,9 +25,9 @@ use Rattle.html_rules.specs.declared.insertion_mode.InsertionMode.TheVariants as
 use Rattle.html_tokens.specs.Laws.{ReadsEscapes, has_no_null, in_data}
 use Rattle.html_tokens.specs.Table.{Row}
 use Rattle.html_read_back.specs.Laws.{ReadsElementInPart, ReadsInFlow, ReadsInPart, element_text}
-use Rattle.html_read_back.specs.Places.{AreBelow, Fits, IsGood, IsRooted}
+use Rattle.html_read_back.specs.Places.{AreBelow, Fits, IsGood, IsHome, IsRooted}
 use Rattle.html_read_back.specs.Runs.{Reads}
-use Rattle.html_read_back.specs.States.{Around, Home, Part, OfTable, OfBodies, OfRow, at, element_node, opened, part_element}
+use Rattle.html_read_back.specs.States.{Around, Home, Part, OfTable, OfBodies, OfRow, at, comment_node, element_node, mode_in, opened, part_element}
 
 -- TREES AND ELEMENTS, BY THEIR PLACE
 
@@ -113,6 +113,13 @@ pub record AreTextsRead (rows : List Row) : Type 0 where
   pub part : (o : Around) (head : Option ℕ) (part : Part) (n : ℕ) (os : List Open) (last : Option (List ℕ)) (f : Forest) (es : List Entry) (ok : Bool) (waiting text : List ℕ)
       → IsGood f n → IsRooted (opened n (part_element part) ∷ os) → list_all is_white waiting ≡ true → list_all is_white text ≡ true
       → ReadsInPart rows o head part n os last f es ok waiting (escape text) (put_text (put_text f (Last n) waiting) (Last n) text)
+
+-- in flow a comment is put last into the current node, and all else of the state is as before
+abbrev pub AreCommentsRead : List Row → Type 0
+AreCommentsRead rows =
+    (o : Around) (head : Option ℕ) (b : Home) (n : ℕ) (top : PlainElement) (os : List Open) (last : Option (List ℕ)) (f : Forest) (es : List Entry) (ok : Bool) (text : List ℕ)
+    → is_plain_comment text ≡ true → IsGood f n → IsHome b (opened n top ∷ os)
+    → Reads rows (in_data last) (at o head (mode_in b) f (opened n top ∷ os) es ok) (written_comment text) (in_data last) (at o head (mode_in b) (put_new f (Last n) (comment_node text)) (opened n top ∷ os) es ok)
 
 -- THE FRAME
 

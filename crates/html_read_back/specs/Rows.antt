@@ -54,6 +54,9 @@ plain_texts =
     ∷ page "x<table><tbody><tr><td>y</td></tr></tbody></table>"
     ∷ page "<table> <tbody> <tr> <td>1</td> <th>2</th> </tr> </tbody> <tbody></tbody></table>z"
     ∷ page "<table><tbody><tr><td><table> <tbody><tr><th><b>1</b></th></tr></tbody></table></td></tr></tbody></table>"
+    -- comments
+    ∷ page "<!---->" ∷ page "a<!-- b &amp;\"! -->c<p>d</p><!--?x-->" ∷ page "<div>a<!---->b</div><ul><li><!--c--></li></ul>"
+    ∷ page "<table><tbody><tr><td><!--d--><b>e</b><!--f--></td><th><!----></th></tr></tbody></table>"
     ∷ page "<h1>a</h1><h2>b<br></h2><ol><li><p>c</p><ul><li></li></ul></li> </ol><div><div></div></div>"
     ∷ []
 
@@ -64,6 +67,7 @@ odd_texts =
     ∷ page "<table>x</table>" ∷ page "<table><tr></tr></table>" ∷ page "<br></br>" ∷ page "<b><p>1</b>2</p>"
     ∷ page "<li><div><li></li></div></li><li><li></li></li>" ∷ codes "<!DOCTYPE html><html><head>x</head><body></body></html>"
     ∷ (codes "<!DOCTYPE html><html><head></head><body>a" ++ 13 ∷ codes "</body></html>") ∷ (codes "<!DOCTYPE html><html><head></head><body>a" ++ 0 ∷ codes "</body></html>")
+    ∷ page "<!-->a-->" ∷ page "<!--a--!>b-->" ∷ page "<!--<!--a-->b-->" ∷ (codes "<!DOCTYPE html><html><head></head><body><!--" ++ 13 ∷ codes "--></body></html>") ∷ (codes "<!DOCTYPE html><html><head></head><body><!--" ++ 0 ∷ codes "--></body></html>")
     ∷ []
 
 abbrev pub ArePlainTextsReadBack : Type 0

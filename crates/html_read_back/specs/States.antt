@@ -101,3 +101,7 @@ tag_of k attributes = record (named StartTag (spelled k)) { attrs = attributes }
 -- the node of an element
 abbrev pub element_node : PlainElement → List Attribute → NodeData
 element_node k attributes = forest.NodeData.Element (html_name (spelled k)) attributes false false
+
+-- and of a comment
+abbrev pub comment_node : List ℕ → NodeData
+comment_node text = forest.NodeData.Comment text

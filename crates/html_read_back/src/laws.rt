@@ -1,5 +1,5 @@
 //! Laws of reading written documents back. Each function's contract is one law.
-ghost use Rattle.html_read_back.specs.Forms.{AreBlocksRead, AreFramesRead, AreInlinesRead, ArePlainTreesRead, AreTablesRead, AreTextsRead, OfEachTable};
+ghost use Rattle.html_read_back.specs.Forms.{AreBlocksRead, AreCommentsRead, AreFramesRead, AreInlinesRead, ArePlainTreesRead, AreTablesRead, AreTextsRead, OfEachTable};
 ghost use Rattle.html_read_back.specs.ReadBack.{AreDocumentsReadBack, ArePlainBytesReadAgain, ArePlainBytesStable, ArePlainForestsReadAgain};
 
 /// The doctype, `html`, `head` with white space and a title, white space, and `body` lead from one insertion mode to the next.
@@ -10,6 +10,11 @@ pub fn frames_are_read()
 /// A text in flow goes into the current node; white space in a table waits for the next tag.
 pub fn texts_are_read()
     ensures { OfEachTable AreTextsRead }
+{}
+
+/// A comment in flow goes into the current node, and nothing else changes.
+pub fn comments_are_read()
+    ensures { OfEachTable AreCommentsRead }
 {}
 
 /// A `br`, a formatting element and a link are read as they are.

@@ -1,23 +1,13 @@
 -- What is wrong with a row behind earlier ones, and with a table from one of its rows on.
-use Rattle.std.proofs.Common.{◌≡◌, ◌∙◌, ℕ, ◌<◌, ◌+◌, Bool, true, false, cond, List, [], length, get_or, take, drop, Option, Some, None, Result, Ok, Err, ◌≢◌, refl, sym, ap}
-use Rattle.std.specs.Prelude.{IfErr, not}
-use Rattle.std.specs.Result.{IsErrAnd}
+use Rattle.std.proofs.Common.{◌≡◌, ◌∙◌, ℕ, ◌<◌, ◌+◌, Bool, true, false, cond, List, [], length, get_or, take, drop, Option, Some, None, refl, sym, ap}
+use Rattle.std.specs.Prelude.{not}
 use Rattle.std.specs.Option.{option_or}
-use Rattle.std.specs.Str.{bytes_eq}
 use Rattle.std.proofs.lemmas.Bool.{cond-true, cond-false, not_from_false, not_from_true}
 use Rattle.std.proofs.lemmas.List.{drop_more, take_more}
-use Rattle.std.proofs.lemmas.Slice.Eq.{bytes_eq-Decides}
-use Rattle.html_references.specs.Order.{IsOrdered, ordered_name}
-use Rattle.html_references.specs.References.{fault_behind, fault_of, first_fault, has_values, is_named, is_reference_name}
+use Rattle.html_references.specs.References.{fault_behind, first_fault, has_values, is_named, is_reference_name}
 use Rattle.html_tokens.specs.declared.table.ReferenceRow.{ReferenceRow}
 use Rattle.html_tokens.specs.declared.table.TableFault.{TableFault}
-use Rattle.html_tokens.specs.declared.table.TableFault.TheVariants.{Duplicate, Memory}
-use Rattle.html_references.proofs.Matches.{any_at}
-
--- a name at an index of the order is a name of the table
-is_named-index : (rows : List ReferenceRow) (order name : List ℕ) (index : ℕ) → IsOrdered rows order → index < length order → ordered_name rows order index ≡ name → is_named rows name ≡ true
-is_named-index rows order name index o l e =
-    any_at (λ other. bytes_eq other name) rows (get_or order index 0) (o.within index l) ((bytes_eq-Decides (ordered_name rows order index) name).1 e)
+use Rattle.html_tokens.specs.declared.table.TableFault.TheVariants.{Duplicate}
 
 fault_behind-good : (earlier : List ReferenceRow) (row : ReferenceRow) (b : Bool) → is_reference_name row.name ≡ true → has_values row ≡ true → is_named earlier row.name ≡ b → fault_behind earlier row ≡ cond b (Some (Duplicate (length earlier + 1))) None
 fault_behind-good earlier row b n v d =
@@ -25,8 +15,8 @@ fault_behind-good earlier row b n v d =
     ∙ (cond-false (not (has_values row)) _ _ (not_from_true _ v) ∙ ap (λ t. cond t (Some (Duplicate (length earlier + 1))) None) d)
 
 -- a good row whose name an earlier one has
-pub fault_behind-found : (earlier : List ReferenceRow) (order : List ℕ) (row : ReferenceRow) (index : ℕ) → IsOrdered earlier order → is_reference_name row.name ≡ true → has_values row ≡ true → index < length order → ordered_name earlier order index ≡ row.name → fault_behind earlier row ≡ Some (Duplicate (length earlier + 1))
-fault_behind-found earlier order row index o n v l e = fault_behind-good earlier row true n v (is_named-index earlier order row.name index o l e)
+pub fault_behind-named : (earlier : List ReferenceRow) (row : ReferenceRow) → is_reference_name row.name ≡ true → has_values row ≡ true → is_named earlier row.name ≡ true → fault_behind earlier row ≡ Some (Duplicate (length earlier + 1))
+fault_behind-named earlier row n v d = fault_behind-good earlier row true n v d
 
 -- a good row with a name of its own
 pub fault_behind-absent : (earlier : List ReferenceRow) (row : ReferenceRow) → is_reference_name row.name ≡ true → has_values row ≡ true → is_named earlier row.name ≡ false → fault_behind earlier row ≡ None
@@ -52,9 +42,3 @@ first_fault-more rows place d l =
 pub first_fault-at : (rows : List ReferenceRow) (place : ℕ) (row : ReferenceRow) (found : Option TableFault) → place < length rows → row ≡ get_or rows place row → fault_behind (take place rows) row ≡ found → first_fault [] rows ≡ first_fault (take place rows) (drop place rows) → first_fault [] rows ≡ option_or found (first_fault (take (place + 1) rows) (drop (place + 1) rows))
 first_fault-at rows place row found l e g h =
     h ∙ (first_fault-more rows place row l ∙ ap (λ o. option_or o (first_fault (take (place + 1) rows) (drop (place + 1) rows))) (ap (fault_behind (take place rows)) (sym e) ∙ g))
-
--- the fault of a row behind good ones, told as the fault of the table
-pub fault-told : {T : Type 0} (rows : List ReferenceRow) (place : ℕ) (row : ReferenceRow) (found : TableFault) (result : Result T TableFault) → place < length rows → row ≡ get_or rows place row → fault_behind (take place rows) row ≡ Some found
-    → first_fault [] rows ≡ first_fault (take place rows) (drop place rows) → IsErrAnd result (λ fault. fault ≡ found) → IfErr result (λ fault. fault ≢ Memory → fault_of rows ≡ Some fault)
-fault-told rows place row found (Ok x) l e g h told = tt
-fault-told rows place row found (Err fault) l e g h told = λ known. first_fault-at rows place row (Some found) l e g h ∙ ap Some (sym told)

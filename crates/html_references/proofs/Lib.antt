@@ -1,12 +1,14 @@
+mod Arranging
 pub mod Begins
 pub mod Faults
 pub mod Fronts
-pub mod Inserts
 pub mod Longest
 pub mod Matches
 pub mod Names
 pub mod Orders
+mod Repeats
 pub mod Spelled
+mod TableFaults
 pub mod TableLaws
 pub mod TableValues
 pub mod WholeNames

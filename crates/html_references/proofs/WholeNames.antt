@@ -3,10 +3,10 @@ use Rattle.std.proofs.Common.{◌≡◌, ◌∙◌, ℕ, ◌-◌, ◌<◌, ◌�
 use Rattle.std.specs.Prelude.{nat_eq, not, ◌&&◌, ◌==◌, IsTrue, Contains, All}
 use Rattle.std.specs.Char.{is_ascii_alphanumeric}
 use Rattle.std.specs.List.{list_all, starts_with, ends_with}
-use Rattle.std.proofs.lemmas.Bool.{and_parts, and_from, cases_order, cond-true, cond-false, eqb-true, true≢false}
+use Rattle.std.proofs.lemmas.Bool.{and_parts, and_from, cases_order, cond-true, cond-false, eqb-true, or_cases, true≢false}
 use Rattle.std.proofs.lemmas.Bool.Decides.{Decides-eqb, nat_tests}
 use Rattle.std.proofs.lemmas.List.{get_or_default}
-use Rattle.std.proofs.lemmas.List.Elements.{All-contains, All-head, All-tail}
+use Rattle.std.proofs.lemmas.List.Elements.{All-contains, All-head, All-tail, Contains-append_right}
 use Rattle.std.proofs.lemmas.Slice.Eq.{ends_is}
 use Rattle.html_tokens.specs.Reference.{is_text_in_value, named_by, reference_at}
 use Rattle.html_tokens.specs.Table.{values, longest}
@@ -158,3 +158,32 @@ rows-stop (row ∷ rows) front c h =
 
 pub whole-stops : (rows : List ReferenceRow) → IsCheckedTable rows → (held : List ℕ) (c : ℕ) → ends_with nat_eq held (59 ∷ []) ≡ true → is_front rows (held ++ c ∷ []) ≡ false
 whole-stops rows checked held c e = subst (λ text. is_front rows (text ++ c ∷ []) ≡ false) (sym (ends-split held e)) (rows-stop rows (take (length held - 1) held) c checked.names)
+
+-- a name that begins with a text that ends in ";" is that text
+name-is : (front other : List ℕ) → is_alphanumeric_front other ≡ true → starts_with nat_eq other (front ++ 59 ∷ []) ≡ true → other ≡ front ++ 59 ∷ []
+name-is [] [] h s = absurd (true≢false (sym s))
+name-is (x ∷ front) [] h s = absurd (true≢false (sym s))
+name-is [] (o ∷ []) h s = ap (λ c. c ∷ []) (sym (eqb-true 59 o (and_parts (nat_eq 59 o) _ s).0))
+name-is [] (o ∷ d ∷ os) h s = absurd (true≢false (sym (and_parts (nat_eq 59 o) _ s).0 ∙ letter-no_semicolon o (and_parts (is_ascii_alphanumeric o) _ h).0))
+name-is (x ∷ front) (o ∷ []) h s = absurd (true≢false (sym (and_parts (nat_eq x o) _ s).1 ∙ nothing-begins front))
+  where
+    nothing-begins : (front : List ℕ) → starts_with nat_eq [] (front ++ 59 ∷ []) ≡ false
+    nothing-begins [] = refl
+    nothing-begins (c ∷ cs) = refl
+name-is (x ∷ front) (o ∷ d ∷ os) h s =
+    let p = and_parts (nat_eq x o) _ s in
+    ap (λ c. c ∷ d ∷ os) (sym (eqb-true x o p.0)) ∙ ap (λ u. x ∷ u) (name-is front (d ∷ os) (and_parts (is_ascii_alphanumeric o) _ h).1 p.1)
+
+-- what begins a name of the table and ends in ";" is the name of a row
+pub whole-row : (rows : List ReferenceRow) (text : List ℕ) → All (λ row. IsTrue (is_reference_name row.name)) rows → is_front rows text ≡ true → ends_with nat_eq text (59 ∷ []) ≡ true → (row : ReferenceRow) × Contains rows row × (row.name ≡ text)
+whole-row [] text names f e = absurd (true≢false (sym f))
+whole-row (row ∷ rows) text names f e =
+    ⊎_elim
+    (λ (s : starts_with nat_eq row.name text ≡ true).
+    let split : text ≡ take (length text - 1) text ++ 59 ∷ [] = ends-split text e in
+    let named : is_reference_name row.name ≡ true = All-head (λ row. IsTrue (is_reference_name row.name)) row rows names in
+    (row, (0, omega arith, refl), name-is (take (length text - 1) text) row.name (front-name row.name _ refl named) (subst (λ u. starts_with nat_eq row.name u ≡ true) split s) ∙ sym split))
+    (λ (s : is_front rows text ≡ true).
+    let r = whole-row rows text (All-tail (λ row. IsTrue (is_reference_name row.name)) row rows names) s e in
+    (r.0, Contains-append_right (row ∷ []) rows r.0 r.1, r.2))
+    (or_cases (starts_with nat_eq row.name text) _ f)

@@ -11,6 +11,7 @@ pub use html_tokens::table::{ReferenceRow, TableFault};
 use std::alloc::{AllocError, Global};
 use std::marker::Model;
 
+mod arranging;
 mod check;
 mod order;
 
@@ -66,12 +67,13 @@ fn order_of(alloc: Global, rows: &[ReferenceRow]) -> Result<Vec<usize>, TableFau
     ensures ok { IfOk result (λ order. IsTable rows.now order.items) }
     ensures fault { IfErr result (λ fault. fault ≢ Memory → fault_of rows.now ≡ Some fault) }
 {
-    let mut order = Vec::with_capacity(alloc, rows.len())?;
-    for (place, row) in rows.iter().enumerate() {
-        let index = check::index_of(&rows[..place], &order, row)?;
-        order.insert(index, place)?;
+    let good = check::good_front(rows);
+    let order = arranging::arranged(alloc, &rows[..good])?;
+    match arranging::first_repeat(&rows[..good], &order) {
+        Some(place) => Err(TableFault::Duplicate(place as u64 + 1)),
+        None if good < rows.len() => Err(check::own_fault(&rows[good], good as u64 + 1)),
+        None => Ok(order),
     }
-    Ok(order)
 }
 
 /// A checked table of named character references. A contract sees the list of its rows, as they were handed in.

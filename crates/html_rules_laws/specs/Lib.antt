@@ -2,6 +2,7 @@ pub mod Adoptions
 pub mod EachText
 pub mod Errors
 pub mod Held
+pub mod Joint
 pub mod Lawful
 pub mod Nesting
 pub mod Placing

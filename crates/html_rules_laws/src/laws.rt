@@ -2,6 +2,7 @@
 ghost use Rattle.html_rules_laws.specs.Adoptions.{AreAdoptionsStanding};
 ghost use Rattle.html_rules_laws.specs.EachText.{IsEachTextTaken};
 ghost use Rattle.html_rules_laws.specs.Errors.{AreErrorsCounted};
+ghost use Rattle.html_rules_laws.specs.Joint.{AreJoint};
 ghost use Rattle.html_rules_laws.specs.Lawful.{AreTokensTakenLawfully};
 ghost use Rattle.html_rules_laws.specs.Nesting.{AreNestedStatesFit, AreReachedStatesFit};
 ghost use Rattle.html_rules_laws.specs.Settled.{IsEachTokenSettled};
@@ -65,4 +66,10 @@ pub fn reached_states_fit()
 /// Each text has a document, and a fragment for each context: no token of its reading is refused, whatever the options.
 pub fn each_text_has_a_document()
     ensures { IsEachTextTaken }
+{}
+
+/// While a text is read, from where a document or a fragment begins, the mode is "text" only where the tokenizer stands in raw text, or in an
+/// end tag there; and the state fits its mode.
+pub fn text_mode_comes_with_raw_text()
+    ensures { AreJoint }
 {}

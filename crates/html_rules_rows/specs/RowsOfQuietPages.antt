@@ -25,6 +25,8 @@ quiet_rows =
     ∷ quiet "<!DOCTYPE html><title>a</title><p>a<p>b<ul><li>c<li>d</ul>"
     ∷ quiet "<!DOCTYPE html><table><tr><td>a<td>b<tr><td>c</table>"
     ∷ quiet "<!DOCTYPE html>"
+    -- comments, wherever they stand
+    ∷ quiet "<!DOCTYPE html><!--a--><html><!----><head><!--b--></head><body>c<!-- d&e --><ul><!--f--></ul></body><!--g--></html><!--h-->"
     -- errors of the rules: no doctype, misnested tags, text in a table, an end tag of nothing
     ∷ loud "<p>a"
     ∷ loud "<!DOCTYPE html><p>1<b>2</p>3</b>"
@@ -32,9 +34,10 @@ quiet_rows =
     ∷ loud "<!DOCTYPE html></p>"
     ∷ loud "<!DOCTYPE html><div>"
     ∷ loud "<!DOCTYPE html><div/></div>"
-    -- what is not clean: a value without quotes, "&" as text
+    -- what is not clean: a value without quotes, "&" as text, a hyphen in a comment
     ∷ loud "<!DOCTYPE html><p class=a>b"
     ∷ loud "<!DOCTYPE html>a & b"
+    ∷ loud "<!DOCTYPE html><!--a-b-->"
     ∷ []
 
 abbrev pub AreQuietRowsRead : Type 0

@@ -76,6 +76,32 @@ impl<Wr: Target + Drop> HtmlSerializer<Wr> {
     }
 }
 
+impl<Wr: Target> HtmlSerializer<Wr> {
+    /// As [`HtmlSerializer::new`], but where memory is wanting the writer is given back.
+    pub fn new_or_back(
+        alloc: Global,
+        writer: Wr,
+        opts: SerializeOpts,
+    ) -> Result<HtmlSerializer<Wr>, Wr>
+        ensures started { IfOk result (λ made. serializing_by Wr.written Wr.failures made.writer made.scripting_enabled made.create_missing_parent made.stack made.failed ≡ started opts.scripting_enabled opts.create_missing_parent opts.traversal_scope (told_by Wr.written Wr.failures writer)) }
+        ensures writer { IfOk result (λ made. made.writer ≡ writer) }
+        ensures back { IfErr result (λ back. back ≡ writer) }
+    {
+        let scripting = opts.scripting_enabled;
+        let creates = opts.create_missing_parent;
+        match first_entries(alloc, scripting, &opts.traversal_scope) {
+            Ok(stack) => Ok(HtmlSerializer {
+                writer,
+                scripting_enabled: scripting,
+                create_missing_parent: creates,
+                stack,
+                failed: false,
+            }),
+            Err(_) => Err(writer),
+        }
+    }
+}
+
 impl<Wr: Target> Serializer for HtmlSerializer<Wr> {
     ghost use Rattle.html_serialize.specs.Serializing.{Serializing, refuses, serializing_by, step};
 

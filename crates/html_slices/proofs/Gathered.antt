@@ -7,6 +7,7 @@ use Rattle.html_tokens.specs.Laws.{ReadsEscapes}
 use Rattle.html_tokens.specs.Table.{Row}
 use Rattle.html_slices.specs.Laws.{EachForm}
 use Rattle.html_slices.specs.Slices.{IsSpelled, IsToken, IsCleanToken}
+use Rattle.html_slices.proofs.Comments.{comment-spelled}
 use Rattle.html_slices.proofs.Spells.{token-read, token-clean}
 use Rattle.html_slices.proofs.SpelledForms.{doctype-spelled, start-spelled, end-spelled, fitting_end-spelled, character-spelled}
 
@@ -16,6 +17,7 @@ forms-spelled rows reads = record {
   start = start-spelled rows reads;
   end = end-spelled rows;
   fitting_end = fitting_end-spelled rows;
+  comment = comment-spelled rows;
   character = character-spelled rows reads;
 }
 
@@ -26,6 +28,7 @@ each P Q f forms = record {
   start = λ last name attrs h plain. f _ _ _ _ (forms.start last name attrs h plain);
   end = λ last name h. f _ _ _ _ (forms.end last name h);
   fitting_end = λ name h. f _ _ _ _ (forms.fitting_end name h);
+  comment = λ last text h. f _ _ _ _ (forms.comment last text h);
   character = λ place last c h. f _ _ _ _ (forms.character place last c h);
 }
 

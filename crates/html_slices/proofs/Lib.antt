@@ -1,5 +1,6 @@
 pub mod Attributes
 pub mod CleanItems
+pub mod Comments
 pub mod Gathered
 pub mod Items
 pub mod Names

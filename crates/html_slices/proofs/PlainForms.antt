@@ -7,12 +7,13 @@ use Rattle.std.proofs.lemmas.Bool.{and_from, and_parts}
 use Rattle.markup.specs.Attributes as markup
 use Rattle.markup.specs.Attributes.{has_local_name}
 use Rattle.markup.specs.declared.attributes.Attribute.{Attribute}
+use Rattle.html_tokens.specs.Clean.{is_clean_in_comment}
 use Rattle.html_tokens.specs.Laws.{are_distinct, has_no_null, is_not_null}
 use Rattle.html_plain.specs.Elements.{spelled}
-use Rattle.html_plain.specs.Grammar.{are_plain_attributes, is_empty, is_plain_attribute, is_plain_character, is_plain_name, is_plain_text, is_unprefixed}
+use Rattle.html_plain.specs.Grammar.{are_plain_attributes, is_comment_character, is_empty, is_plain_attribute, is_plain_character, is_plain_comment, is_plain_name, is_plain_text, is_unprefixed}
 use Rattle.html_plain.specs.declared.elements.PlainElement.{PlainElement}
 use Rattle.html_plain.proofs.Names.{each-element}
-use Rattle.html_slices.specs.Forms.{AreReadBack, has_no_return, is_attribute_name, is_no_text, is_read_attribute, is_tag_name}
+use Rattle.html_slices.specs.Forms.{AreReadBack, has_no_return, is_attribute_name, is_no_text, is_read_attribute, is_read_comment, is_tag_name}
 
 pub names-of_tags : (k : PlainElement) → is_tag_name (spelled k) ≡ true
 names-of_tags k = each-element (λ k. is_tag_name (spelled k)) refl k
@@ -33,6 +34,26 @@ no-return (c ∷ t) h =
 
 pub texts-read : (text : List ℕ) → is_plain_text text ≡ true → (has_no_null text ≡ true) × (has_no_return text ≡ true)
 texts-read text h = let p = and_parts (not (is_empty text)) (list_all is_plain_character text) h in (no-null text p.1, no-return text p.1)
+
+comment-character : (c : ℕ) → is_comment_character c ≡ true → (is_clean_in_comment c ≡ true) × (is_plain_character c ≡ true)
+comment-character c h =
+    let p = and_parts (is_plain_character c && not (nat_eq c 45) && not (nat_eq c 60)) (not (nat_eq c 62)) h in
+    let q = and_parts (is_plain_character c && not (nat_eq c 45)) (not (nat_eq c 60)) p.0 in
+    let r = and_parts (is_plain_character c) (not (nat_eq c 45)) q.0 in
+    let u = and_parts (not (nat_eq c 0) && not (nat_eq c 13)) (scalar c) r.0 in
+    let null = (and_parts (not (nat_eq c 0)) (not (nat_eq c 13)) u.0).0 in
+    (and_from _ _ (and_from _ _ (and_from _ _ r.1 q.1) p.1) null, r.0)
+
+pub comment-characters : (t : List ℕ) → is_plain_comment t ≡ true → (is_read_comment t ≡ true) × (list_all is_plain_character t ≡ true)
+comment-characters [] h = (refl, refl)
+comment-characters (c ∷ t) h =
+    let p = and_parts (is_comment_character c) (list_all is_comment_character t) h in
+    let one = comment-character c p.0 in
+    let more = comment-characters t p.1 in
+    (and_from (is_clean_in_comment c) (is_read_comment t) one.0 more.0, and_from (is_plain_character c) (list_all is_plain_character t) one.1 more.1)
+
+pub comments-read : (text : List ℕ) → is_plain_comment text ≡ true → (is_read_comment text ≡ true) × (has_no_return text ≡ true)
+comments-read text h = let p = comment-characters text h in (p.0, no-return text p.1)
 
 name-read : (n : List ℕ) → is_plain_name n ≡ true → is_attribute_name n ≡ true
 name-read [] h = absurd cc

@@ -9,7 +9,7 @@ use Rattle.html_tokens.specs.Clean.{is_clean_in_name}
 use Rattle.html_tokens.specs.Laws.{has_no_null}
 use Rattle.html_slices.proofs.Attributes.{as-written, quoted}
 use Rattle.html_slices.specs.Forms.{is_no_text, is_tag_name, is_attribute_name, is_read_attribute, has_no_return}
-use Rattle.markup.specs.Escape.{InValue, end_tag, escape, escape_value, escaped, escaped_by, escaped_in, start_tag, written_attribute, written_attributes}
+use Rattle.markup.specs.Escape.{InValue, end_tag, escape, escape_value, escaped, escaped_by, escaped_in, start_tag, written_attribute, written_attributes, written_comment}
 use Rattle.html_slices.proofs.Items.{clean-tag}
 
 joined : (a b : List ℕ) → has_no_return a ≡ true → has_no_return b ≡ true → has_no_return (a ++ b) ≡ true
@@ -58,6 +58,9 @@ attributes-no_return (a ∷ rest) h k =
     let p = and_parts (is_read_attribute a) (list_all is_read_attribute rest) h in
     let q = and_parts (has_no_return a.value) (list_all (λ b. has_no_return b.value) rest) k in
     joined (written_attribute a) (written_attributes rest) (attribute-no_return a p.0 q.0) (attributes-no_return rest p.1 q.1)
+
+pub comment-no_return : (text : List ℕ) → has_no_return text ≡ true → has_no_return (written_comment text) ≡ true
+comment-no_return text h = joined text (codes "-->") h refl
 
 tag-name : (n : List ℕ) → is_tag_name n ≡ true → has_no_return n ≡ true
 tag-name [] h = refl

@@ -8,7 +8,7 @@ use Rattle.html_tokens.specs.declared.tags.Tag.{Tag}
 use Rattle.html_tokens.specs.declared.tags.TagKind.TheVariants.{StartTag, EndTag}
 use Rattle.html_tokens.specs.declared.token.Token.{Token}
 use Rattle.html_tokens.specs.declared.token.Token.TheVariants.{DoctypeToken, TagToken}
-use Rattle.html_tokens.specs.Clean.{is_clean_in_name}
+use Rattle.html_tokens.specs.Clean.{is_clean_in_comment, is_clean_in_name}
 use Rattle.html_tokens.specs.Doctypes.{no_doctype}
 use Rattle.html_tokens.specs.Item.{InRaw, InTag, Stand}
 use Rattle.html_tokens.specs.Laws.{in_data, has_no_null, are_distinct}
@@ -26,7 +26,7 @@ end_token name = TagToken (named EndTag name)
 abbrev pub doctype_token : List ℕ → Token
 doctype_token name = DoctypeToken (record no_doctype { name = Some name })
 
--- NAMES AND ATTRIBUTES
+-- NAMES, ATTRIBUTES AND COMMENTS
 
 -- a lower-case letter, and then such letters, digits and hyphens
 abbrev pub is_tag_name : List ℕ → Bool
@@ -55,6 +55,10 @@ is_read_attribute a = (is_attribute_name a.name.local && (is_none a.name.prefix 
 pub record AreReadBack (attrs : List Attribute) : Type 0 where
   pub each : list_all is_read_attribute attrs ≡ true
   pub distinct : are_distinct attrs ≡ true
+
+-- the text of a comment that is read back: no hyphen, "<", ">" or U+0000
+abbrev pub is_read_comment : List ℕ → Bool
+is_read_comment text = list_all is_clean_in_comment text
 
 -- a text without U+000D, which is its own normal text
 abbrev pub has_no_return : List ℕ → Bool

@@ -6,15 +6,15 @@ use Rattle.html_tokens.specs.declared.replies.TokenSinkResult.{TokenSinkResult}
 use Rattle.html_tokens.specs.declared.replies.TokenSinkResult.TheVariants.{Continue, RawData}
 use Rattle.html_tokens.specs.declared.states.RawKind.TheVariants.{Rcdata}
 use Rattle.html_tokens.specs.declared.token.Token.{Token}
-use Rattle.html_tokens.specs.declared.token.Token.TheVariants.{CharacterTokens}
+use Rattle.html_tokens.specs.declared.token.Token.TheVariants.{CharacterTokens, CommentToken}
 use Rattle.html_tokens.specs.Item.{Fault, Stand}
 use Rattle.html_tokens.specs.Laws.{ReadsEscapes, in_data, is_not_null, has_no_null}
 use Rattle.html_tokens.specs.Notes.{Notes, noting, noting_error, noting_cdata, noting_end}
 use Rattle.html_tokens.specs.Reading.{◌>>=◌, reading, line_breaks}
 use Rattle.html_tokens.specs.Table.{Row}
-use Rattle.html_slices.specs.Forms.{start_token, end_token, doctype_token, is_tag_name, is_letter_name, AreReadBack, has_no_return, in_rcdata, TextPlace, in_text}
+use Rattle.html_slices.specs.Forms.{start_token, end_token, doctype_token, is_tag_name, is_letter_name, is_read_comment, AreReadBack, has_no_return, in_rcdata, TextPlace, in_text}
 use Rattle.html_slices.specs.Slices.{IsSpelled, IsToken, IsCleanToken, Takes, IsReader, OfReaders}
-use Rattle.markup.specs.Escape.{end_tag, escape, escape_value, escaped, start_tag, written_doctype}
+use Rattle.markup.specs.Escape.{end_tag, escape, escape_value, escaped, start_tag, written_comment, written_doctype}
 use Rattle.std.specs.Prelude.{codes}
 
 -- the written forms, each with where it stands, its token, and where the reading goes on, where P holds of each
@@ -24,6 +24,7 @@ pub record EachForm (P : Stand → List ℕ → Token → Stand → Type 0) : Ty
       → P (in_data last) (start_tag name attrs) (start_token name attrs) (in_data (Some name))
   pub end : (last : Option (List ℕ)) (name : List ℕ) → is_tag_name name ≡ true → P (in_data last) (end_tag name) (end_token name) (in_data last)
   pub fitting_end : (name : List ℕ) → is_letter_name name ≡ true → P (in_rcdata (Some name)) (end_tag name) (end_token name) (in_data (Some name))
+  pub comment : (last : Option (List ℕ)) (text : List ℕ) → is_read_comment text ≡ true → P (in_data last) (written_comment text) (CommentToken text) (in_data last)
   pub character : (place : TextPlace) (last : Option (List ℕ)) (c : ℕ) → is_not_null c ≡ true → P (in_text place last) (escaped c) (CharacterTokens (c ∷ [])) (in_text place last)
 
 -- by a table that reads the references of escaping each written form spells its token
@@ -90,5 +91,6 @@ AreTitlesRead step quiet cdata ends =
 pub record AreFormsNormal : Type 0 where
   pub start : (name : List ℕ) (attrs : List Attribute) → is_tag_name name ≡ true → AreReadBack attrs → list_all (λ a. has_no_return a.value) attrs ≡ true → has_no_return (start_tag name attrs) ≡ true
   pub end : (name : List ℕ) → is_tag_name name ≡ true → has_no_return (end_tag name) ≡ true
+  pub comment : (text : List ℕ) → has_no_return text ≡ true → has_no_return (written_comment text) ≡ true
   pub text : (cs : List ℕ) → has_no_return cs ≡ true → has_no_return (escape cs) ≡ true
   pub value : (cs : List ℕ) → has_no_return cs ≡ true → has_no_return (escape_value cs) ≡ true

@@ -1,9 +1,9 @@
 -- Worked rows of reading written forms back.
 use Rattle.std.specs.Prelude.{◌≡◌, ℕ, Bool, true, false, List, [], ◌∷◌, ◌++◌, map, codes}
-use Rattle.markup.specs.Escape.{escape, start_tag, end_tag, written_doctype}
+use Rattle.markup.specs.Escape.{escape, start_tag, end_tag, written_comment, written_doctype}
 use Rattle.html_tokens.specs.Clean.{is_clean_reading}
 use Rattle.html_tokens.specs.Listing.{empty, step}
-use Rattle.html_tokens.specs.RowForms.{Rows, AreRead, row_of, text, text_of, null, at, at_of, start, end, repeated, doctype, yes, no, raw_text, data_stand, five}
+use Rattle.html_tokens.specs.RowForms.{Rows, AreRead, row_of, text, text_of, null, comment, comment_of, at, at_of, start, end, repeated, doctype, yes, no, raw_text, data_stand, five}
 
 -- each written form, and its token
 abbrev pub form_rows : Rows
@@ -15,6 +15,8 @@ form_rows =
     ∷ row_of (end_tag (codes "h1")) (end "h1" [] ∷ [])
     ∷ row_of (escape (codes "a < b && c > \"d\" &lt;")) (text "a < b && c > \"d\" &lt;" ∷ [])
     ∷ row_of (escape (0xA0 ∷ 10 ∷ 0x1F600 ∷ [])) (text_of (0xA0 ∷ 10 ∷ 0x1F600 ∷ []) ∷ [])
+    ∷ row_of (written_comment []) (comment "" ∷ [])
+    ∷ row_of (written_comment (codes " c&amp;\"! " ++ 0xA0 ∷ 10 ∷ [])) (comment_of (codes " c&amp;\"! " ++ 0xA0 ∷ 10 ∷ []) ∷ [])
     -- in the text of a title tags are text, written or not
     ∷ row_of (start_tag (codes "title") [] ++ escape (codes "a<b></titl>&") ++ end_tag (codes "title")) (start "title" [] ∷ text "a<b></titl>&" ∷ end "title" [] ∷ [])
     ∷ row_of (written_doctype (codes "html") ++ start_tag (codes "p") (at "class" "\"" ∷ []) ++ escape (codes "1 & 2") ++ end_tag (codes "p")) (doctype (yes "html") no no ∷ start "p" (at "class" "\"" ∷ []) ∷ text "1 & 2" ∷ end "p" [] ∷ [])
@@ -38,6 +40,11 @@ odd_rows =
     ∷ row_of (escape (codes "a" ++ 0 ∷ [])) (text "a" ∷ null ∷ [])
     ∷ row_of (start_tag (codes "p") (at_of (codes "id") (0 ∷ []) ∷ [])) (start "p" (at_of (codes "id") (0xFFFD ∷ []) ∷ []) ∷ [])
     ∷ row_of (escape (codes "a" ++ 13 ∷ codes "b")) (text_of (codes "a" ++ 10 ∷ codes "b") ∷ [])
+    -- comments that end before their end, U+0000 in one
+    ∷ row_of (written_comment (codes ">a")) (comment "" ∷ text "a-->" ∷ [])
+    ∷ row_of (written_comment (codes "a-->b")) (comment "a" ∷ text "b-->" ∷ [])
+    ∷ row_of (written_comment (codes "a--!>b")) (comment "a" ∷ text "b-->" ∷ [])
+    ∷ row_of (written_comment (0 ∷ [])) (comment_of (0xFFFD ∷ []) ∷ [])
     ∷ []
 
 abbrev pub AreOddRowsRead : Type 0

@@ -86,6 +86,7 @@ impl<Sink: TreeSink> Stack<Sink> {
     }
 
     /// Opens an element.
+    #[inline(always)]
     pub fn push(&mut self, element: OpenElement<Sink::Handle>) -> Result<(), ParseFault>
         ensures ok { OnOk result (self.new ≡ record self.old { open_elems = open_of Sink.node element ∷ self.old.open_elems }) }
         ensures err { OnErr result (self.new ≡ self.old) }

@@ -18,10 +18,10 @@ use Rattle.html_tokens.specs.NormalText.{normal_text}
 use Rattle.html_tokens.specs.Table.{Row}
 use Rattle.html_tokens.specs.TextState.{is_text_state}
 use Rattle.html_tokens.specs.Notes.{Notes, noting, noting_end}
+pub use Rattle.html_tokens.specs.Owed.{owed_for_text}
 use Rattle.html_tokens.specs.Reading.{◌>>=◌, line_number, first_place, first_stand}
 use Rattle.html_tokens.specs.Sink.{Reply, Refusal}
 use Rattle.html_tokenizer_parts.specs.CharRefs.{BeginsReference, fits_in}
-use Rattle.html_tokenizer_parts.specs.Forbidden.{is_forbidden}
 use Rattle.html_tokenizer_parts.specs.declared.held_reference.Ampersand.{Ampersand}
 use Rattle.html_tokenizer_parts.specs.declared.held_reference.Ampersand.TheVariants.{Held, Unknown}
 use Rattle.html_tokenizer_parts.specs.declared.stream.Stream.{Stream}
@@ -33,7 +33,7 @@ use Rattle.html_queue.specs.declared.set.SmallCharSet.{SmallCharSet}
 use Rattle.html_tokenizer.specs.Rest.{rest, rows_of, standing, coming}
 use Rattle.html_tokenizer.specs.Untold.{Untold}
 use Rattle.html_tokenizer_parts.specs.Words.{BeginsEnd, FittingEnd}
-use Rattle.html_tokenizer.specs.Steps.{Read, FailsOver, IsAt, Owed, nothing_owed, owed_for_each, together, more, paused_by, Rises, now, Stays, Fell, Fails, FailsAmong, Replied, reads}
+use Rattle.html_tokenizer.specs.Steps.{Read, FailsOver, IsAt, Owed, together, more, paused_by, Rises, now, Stays, Fell, Fails, FailsAmong, Replied, reads}
 pub use Rattle.html_tokenizer_parts.specs.Refusals.{refused_by, refusal, Refuses}
 use Rattle.html_tokenizer.specs.Listeners.{listening}
 
@@ -46,11 +46,6 @@ paused_with number pauses (EncodingIndicator label) = pauses ++ reply.EncodingIn
 -- what was noted, with what is owed behind it and that pause
 abbrev pub noted_with : {H : Type 0} → (H → ℕ) → Owed → Notes ℕ → TokenizerResult H → Notes ℕ
 noted_with number owed notes result = record (more owed notes) { pauses = paused_with number notes.pauses result }
-
--- what the characters of a text owe on their own, where these are told
-abbrev pub owed_for_text : Bool → List ℕ → Owed
-owed_for_text false t = nothing_owed
-owed_for_text true t = owed_for_each is_forbidden t
 
 -- The next of the characters that come are this run, of which none is a stop where the machine stands.
 pub record ComesAsRunAt {K : Type 0} (k : Tokenizer K) (new : Stream) (from to : Queue) (run : List ℕ) : Type 0 where

@@ -15,10 +15,11 @@ use Rattle.html_tokens.specs.declared.tags.TagKind.{TagKind}
 use Rattle.html_tokens.specs.declared.tags.TagKind.TheVariants.{StartTag, EndTag}
 use Rattle.html_tokens.specs.Tags.{named, with_attribute}
 use Rattle.html_tokenizer.specs.Calls.{TookRun}
-use Rattle.html_tokenizer_parts.specs.CharRefs.{is_held, is_held_front}
-use Rattle.html_tokenizer_parts.specs.declared.held_reference.Ampersand.TheVariants.{Held}
+use Rattle.html_references.specs.References.{IsCheckedTable}
+use Rattle.html_tokens.specs.Reference.{reference_at}
+use Rattle.html_tokens.specs.Table.{Row}
+use Rattle.html_tokenizer_parts.specs.CharRefs.{is_held, is_held_front, may_go_on}
 use Rattle.html_tokenizer.specs.declared.tokenizer.Tokenizer.{Tokenizer}
-use Rattle.html_tokenizer.specs.Rest.{rows_of}
 use Rattle.html_tokenizer.specs.Steps.{FailsOver, IsAt, Read}
 use Rattle.html_tokenizer.specs.Stops.{with_breaks}
 pub use Rattle.html_tokenizer.specs.Stops.{attribute_stops}
@@ -85,10 +86,13 @@ pub record IsReferenceAt (name rest text : List ℕ) : Type 0 where
   pub whole : text ≡ 38 ∷ (name ++ 59 ∷ rest)
   pub utf8 : IsUtf8 name
 
--- some name of the table begins with these characters, and they are held; or none does, and nothing changed
-abbrev pub HoldsName : {K : Type 0} → Bool → Tokenizer K → Tokenizer K → List ℕ → Type 0
-HoldsName true old new cs = (new ≡ record old { char_ref = Some (Held cs) }) × (is_held_front (rows_of old) cs ≡ true) × (list_all is_held cs ≡ true)
-HoldsName false old new cs = new ≡ old
+-- a name of the table with its ";": a reference that no character behind it lengthens
+pub record IsWholeName (rows : List Row) (cs : List ℕ) : Type 0 where
+  pub checked : IsCheckedTable rows
+  pub front : is_held_front rows cs ≡ true
+  pub held : list_all is_held cs ≡ true
+  pub ends : (c : ℕ) → may_go_on rows cs c ≡ false
+  pub same : (t : List ℕ) → reference_at true rows (cs ++ t) ≡ reference_at true rows cs
 
 -- the machine in a tag of this name
 abbrev pub opened_tag : {K : Type 0} → Tokenizer K → TagKind → List ℕ → Tokenizer K
@@ -118,11 +122,15 @@ pub data IsInTag {K : Type 0} (k : Tokenizer K) : Type 0 where
   in_name : IsAt k state.AttributeName → IsInTag k
   in_value : IsAt k (state.AttributeValue value.Unquoted) → IsInTag k
 
--- the machine is in data and holds nothing, no byte order mark may come, and errors of single characters are not told
-pub record ReadsTags {K : Type 0} (k : Tokenizer K) : Type 0 where
-  pub at : IsAt k state.Data
+-- the machine is in this state and holds nothing, no byte order mark may come, and errors of single characters are not told
+pub record ReadsAhead {K : Type 0} (k : Tokenizer K) (st : State) : Type 0 where
+  pub at : IsAt k st
   pub plain : k.stream.exact_errors ≡ false
   pub unmarked : k.stream.discard_bom ≡ false
+
+-- the same in data
+abbrev pub ReadsTags : {K : Type 0} → Tokenizer K → Type 0
+ReadsTags k = ReadsAhead k state.Data
 
 -- a character of data that stands for itself: any but NUL, a carriage return, "&" and "<"
 abbrev pub IsOfLine : ℕ → Type 0

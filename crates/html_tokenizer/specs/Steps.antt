@@ -13,7 +13,8 @@ use Rattle.html_tokens.specs.declared.token.Token.{Token}
 use Rattle.html_tokens.specs.declared.token.Token.TheVariants.{TagToken, ParseError, EOFToken}
 use Rattle.html_tokens.specs.declared.sink.TokenSink.{Ghosts}
 use Rattle.html_tokens.specs.Item.{Fault, Grave, Slight, grave_if, InData, Stand, Item}
-use Rattle.html_tokens.specs.Notes.{Notes, one_if, noting}
+use Rattle.html_tokens.specs.Notes.{Notes, noting}
+pub use Rattle.html_tokens.specs.Owed.{Owed, how_many, nothing_owed, owed_for_each}
 use Rattle.html_tokens.specs.Reading.{◌>>=◌, line_break, line_number, next_stand}
 use Rattle.html_tokens.specs.Sink.{Reply, Refusal, InText, AfterEnd, Unfit}
 use Rattle.html_tokens.specs.Table.{Row}
@@ -48,14 +49,6 @@ paused_by number pauses flow.Suspend = pauses
 paused_by number pauses (flow.Script handle) = pauses ++ reply.Script (number handle) ∷ []
 paused_by number pauses (flow.EncodingIndicator label) = pauses ++ reply.EncodingIndicator label ∷ []
 
--- What some characters owe: so many errors at least, or, where they are quiet, none.
-pub record Owed : Type 0 where
-  pub faults : ℕ
-  pub is_quiet : Bool
-
-abbrev pub nothing_owed : Owed
-nothing_owed = record { faults = 0; is_quiet = true }
-
 -- what a fault owes, if there is one
 abbrev pub owed_for : Option Fault → Owed
 owed_for None = nothing_owed
@@ -73,15 +66,6 @@ and_heard heard owed = record owed { is_quiet = owed.is_quiet && heard }
 -- what characters owe, and those before them
 abbrev pub together : Owed → Owed → Owed
 together owed before = record { faults = owed.faults + before.faults; is_quiet = owed.is_quiet && before.is_quiet }
-
--- how many characters of a text pass
-abbrev pub how_many : (ℕ → Bool) → List ℕ → ℕ
-how_many passes [] = 0
-how_many passes (c ∷ t) = one_if (passes c) + how_many passes t
-
--- what a text owes of which each character that passes is an error
-abbrev pub owed_for_each : (ℕ → Bool) → List ℕ → Owed
-owed_for_each passes t = record { faults = how_many passes t; is_quiet = nat_eq (how_many passes t) 0 }
 
 -- n and so many more, counted one by one
 abbrev pub and_more : ℕ → ℕ → ℕ

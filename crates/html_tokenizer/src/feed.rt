@@ -1,7 +1,8 @@
 //! The input, taken piece by piece.
 ghost use Rattle.std.specs.Prelude.{◌≡◌, false};
 ghost use Rattle.html_tokenizer.specs.Calls.{IsReady, KeepsText, Moves, Runs};
-ghost use Rattle.html_tokenizer.specs.Fronts.{IsInTag, ReadsTags};
+ghost use Rattle.html_tokenizer.specs.Fronts.{IsInTag, ReadsAhead, ReadsTags};
+ghost use Rattle.html_tokens.specs.declared.states.State.TheVariants as state;
 ghost use Rattle.html_tokenizer.specs.Stops.{IsRunAt, IsStoppedBy};
 
 use crate::front_lines::behind_lines;
@@ -12,6 +13,7 @@ use crate::tokenizer::Tokenizer;
 use html_queue::{BufferQueue, SmallCharSet};
 use html_tokens::ProcessResult;
 use html_tokens::sink::TokenSink;
+use html_tokens::states::AttrValueKind;
 use markup::{ParseFault, Text, TokenizerResult};
 
 impl<Sink: TokenSink> Tokenizer<Sink> {
@@ -107,7 +109,7 @@ impl<Sink: TokenSink> Tokenizer<Sink> {
         Ok(ProcessResult::Continue)
     }
 
-    /// Holds a reference by name from the front of the input at once, or else takes what comes next.
+    /// Hands out what a whole name of a reference at the front of the input stands for, or else takes what comes next.
     fn move_by_reference(
         &mut self,
         input: &mut BufferQueue,
@@ -120,13 +122,39 @@ impl<Sink: TokenSink> Tokenizer<Sink> {
         let Some((name, rest)) = reference_of(text) else {
             return self.move_by_lines(input);
         };
-        let holds = self.hold_name(name)?;
-        if !holds {
+        let whole = self.whole_name(name)?;
+        let Some(held) = whole else {
             return self.move_by_piece(input);
-        }
-        self.stream.ignore_lf = false;
+        };
         let width = text.len() - rest.len();
+        self.stream.ignore_lf = false;
         input.skip(width);
+        self.tell_whole_name(&held)?;
+        Ok(ProcessResult::Continue)
+    }
+
+    /// Puts what a whole name of a reference at the front of the input stands for behind a value, or else takes what comes next.
+    fn move_in_value(
+        &mut self,
+        kind: AttrValueKind,
+        input: &mut BufferQueue,
+    ) -> Result<ProcessResult<Sink::Handle>, ParseFault>
+        requires ready { IsReady Sink.TokenSink self.old }
+        requires value { ReadsAhead self.old (state.AttributeValue kind) }
+        ensures { Moves Sink.TokenSink self.old self.new input.old input.new result }
+    {
+        let text = input.as_str();
+        let Some((name, rest)) = reference_of(text) else {
+            return self.move_by_piece(input);
+        };
+        let named = self.whole_name(name)?;
+        let Some(held) = named else {
+            return self.move_by_piece(input);
+        };
+        let width = text.len() - rest.len();
+        self.stream.ignore_lf = false;
+        input.skip(width);
+        self.take_whole_name(kind, &held)?;
         Ok(ProcessResult::Continue)
     }
 
@@ -182,7 +210,10 @@ impl<Sink: TokenSink> Tokenizer<Sink> {
         if self.is_in_tag() && input.peek() == Some('>') {
             return self.move_in_tag(input);
         }
-        self.move_by_piece(input)
+        match self.value_read() {
+            Some(kind) => self.move_in_value(kind, input),
+            None => self.move_by_piece(input),
+        }
     }
 
     /// Takes all of the input, or what stands before a pause.

@@ -1,16 +1,22 @@
-//! References at the front of the input, whose name is held at once up to its `;` (HTML Standard, sections 13.2.5.72 and 13.2.5.73).
+//! References at the front of the input, whose name is read at once up to its `;` (HTML Standard, sections 13.2.5.72 and 13.2.5.73).
 ghost use Rattle.std.specs.Prelude.{◌≡◌, ◌∷◌, [], ◌++◌, IfErr, IfOk, IfSome};
 ghost use Rattle.std.specs.Str.{chars};
 ghost use Rattle.markup.specs.declared.fault.ParseFault.TheVariants.{Memory};
 ghost use Rattle.html_tokenizer.specs.Fronts;
-ghost use Rattle.html_tokenizer.specs.Fronts.{HoldsName, IsReferenceAt};
+ghost use Rattle.html_tokenizer.specs.Fronts.{IsReferenceAt, IsWholeName, ReadsAhead};
+ghost use Rattle.html_tokenizer.specs.Calls.{KeepsRun};
+ghost use Rattle.html_tokenizer.specs.Rest.{rows_of};
+ghost use Rattle.html_tokenizer.specs.Steps.{IsAt};
+ghost use Rattle.html_tokens.specs.declared.states.State.TheVariants as state;
 
 use crate::char_bits::{AMPERSAND, BREAKS, FORM_FEED, LESS_THAN, SEMICOLON, SPACE, TAB};
 use crate::front_tags::behind;
 use crate::tokenizer::Tokenizer;
 use html_queue::SmallCharSet;
-use html_tokenizer_parts::held_reference::{Ampersand, HeldReference};
+use html_tokenizer_parts::held_reference::HeldReference;
+use html_tokenizer_parts::references::{decided, push_resolved};
 use html_tokens::sink::TokenSink;
+use html_tokens::states::{AttrValueKind, State};
 use markup::{ParseFault, Text};
 
 /// The characters before which no name of a reference goes on: NUL, white space, `&`, `;` and `<`.
@@ -37,19 +43,56 @@ pub(crate) fn reference_of(text: &str) -> Option<(&str, &str)>
 }
 
 impl<Sink: TokenSink> Tokenizer<Sink> {
-    /// Holds a text and `;` as what was read behind `&`, if some name begins so.
-    pub(crate) fn hold_name(&mut self, name: &str) -> Result<bool, ParseFault>
-        ensures ok { IfOk result (λ holds. HoldsName holds self.old self.new (chars name.now ++ 59 ∷ [])) }
+    /// A text and `;` as a reference, if they are a name of the table.
+    pub(crate) fn whole_name(&self, name: &str) -> Result<Option<HeldReference>, ParseFault>
+        ensures ok { IfOk result (λ whole. IfSome whole (λ held. (held ≡ chars name.now ++ 59 ∷ []) × IsWholeName (rows_of self.now) held)) }
         ensures fault { IfErr result (λ fault. fault ≡ Memory) }
-        ensures sink { self.new.sink ≡ self.old.sink }
     {
         let _rows = self.stream.table.rows();
         let mut text = Text::from_str(self.stream.alloc, name)?;
         text.push(';')?;
         if !self.stream.table.is_front(text.as_str()) {
-            return Ok(false);
+            return Ok(None);
         }
-        self.char_ref = Some(Ampersand::Held(HeldReference::of_name(text)));
-        Ok(true)
+        Ok(Some(HeldReference::of_name(text)))
+    }
+
+    /// Hands out what a whole name stands for in data.
+    pub(crate) fn tell_whole_name(&mut self, held: &HeldReference) -> Result<(), ParseFault>
+        requires at { IsAt self.old state.Data }
+        requires whole { IsWholeName (rows_of self.old) held.now }
+        requires sound { Sink.is_sound (Sink.view self.old.sink) }
+        ensures { KeepsRun Sink.TokenSink self.old self.new (38 ∷ held.now) result }
+    {
+        self.tell_reference(held)
+    }
+
+    /// Puts what a whole name stands for behind an attribute's value.
+    pub(crate) fn take_whole_name(
+        &mut self,
+        kind: AttrValueKind,
+        held: &HeldReference,
+    ) -> Result<(), ParseFault>
+        requires at { IsAt self.old (state.AttributeValue kind) }
+        requires whole { IsWholeName (rows_of self.old) held.now }
+        requires sound { Sink.is_sound (Sink.view self.old.sink) }
+        ensures { KeepsRun Sink.TokenSink self.old self.new (38 ∷ held.now) result }
+    {
+        let _kind = kind;
+        let decision = decided(&self.stream.table, true, held, false);
+        push_resolved(&mut self.attribute_value, decision.found, held)
+    }
+
+    /// The kind of the value in which a whole name may be read at once: where errors of single characters are not told.
+    pub(crate) fn value_read(&self) -> Option<AttrValueKind>
+        ensures { IfSome result (λ kind. ReadsAhead self.now (state.AttributeValue kind)) }
+    {
+        match self.state {
+            State::AttributeValue(kind)
+                if self.char_ref.is_none()
+                    && !self.stream.exact_errors
+                    && !self.stream.discard_bom => { Some(kind) }
+            _ => None,
+        }
     }
 }

@@ -89,7 +89,8 @@ front-first (row ∷ rows) names h hs f =
     (λ s. first-named row.name h hs (name-named row.name (ends_with nat_eq row.name (59 ∷ [])) refl (names 0 row (omega arith))) s)
     (λ s. front-first rows (All-tail (λ row. IsTrue (is_reference_name row.name)) row rows names) h hs s)
 
-hash-unnamed : (h : ℕ) (hs : List ℕ) (rows : List ReferenceRow) → All (λ row. IsTrue (is_reference_name row.name)) rows → is_front rows (h ∷ hs) ≡ true → nat_eq h 35 ≡ false
+-- what a name of the table begins with begins with no "#"
+pub hash-unnamed : (h : ℕ) (hs : List ℕ) (rows : List ReferenceRow) → All (λ row. IsTrue (is_reference_name row.name)) rows → is_front rows (h ∷ hs) ≡ true → nat_eq h 35 ≡ false
 hash-unnamed h hs rows names f = no_hash h (front-first rows names h hs f)
   where
     no_hash : (h : ℕ) → is_named_with h ≡ true → nat_eq h 35 ≡ false
@@ -253,8 +254,3 @@ go_on-none hex ds c h e f g = go_on-other hex ds c h e f true g
 
 pub go_on-closing : (hex : Bool) (ds : List ℕ) (c : ℕ) → are_digits (stops hex) false ds ≡ true → ends_with nat_eq ds (59 ∷ []) ≡ false → not (stops hex c) ≡ false → (length ds == 0) ≡ false → nat_eq c 59 ≡ are_digits (stops hex) false (ds ++ c ∷ [])
 go_on-closing hex ds c h e f g = go_on-other hex ds c h e f false g
-
--- the same of a text that was found to be such a front
-pub front-if : (rows : List ReferenceRow) → IsCheckedTable rows → (cs text : List ℕ) (found : Bool) → found ≡ is_front rows text → text ≡ cs → found ≡ true → (is_held_front rows cs ≡ true) × (list_all is_held cs ≡ true)
-front-if rows checked cs text true e is h = front-held rows checked cs (ap (is_front rows) (sym is) ∙ sym e)
-front-if rows checked cs text false e is h = absurd cc

@@ -10,7 +10,7 @@ use Rattle.html_tokens.specs.Characters.{run}
 use Rattle.html_tokens.specs.Reference.{Reference, goes_on_at, is_no_character, named_by, number, numbered_reference, numeric, reference_at, semicolon}
 use Rattle.html_tokens.specs.Table.{Row, longest, values_of}
 use Rattle.html_references.specs.References.{IsCheckedTable, is_front}
-use Rattle.html_tokenizer_parts.specs.Forbidden.{is_forbidden}
+use Rattle.html_tokens.specs.Forbidden.{is_forbidden}
 pub use Rattle.html_tokenizer_parts.specs.HeldChars.{is_held, is_named_with}
 use Rattle.html_tokenizer_parts.specs.declared.held_reference.Ampersand.{Ampersand}
 use Rattle.html_tokenizer_parts.specs.declared.held_reference.Ampersand.TheVariants.{Held, Unknown}

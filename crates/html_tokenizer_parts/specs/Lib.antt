@@ -1,5 +1,4 @@
 pub mod CharRefs
-pub mod Forbidden
 pub mod HeldChars
 pub mod Input
 pub mod Keywords

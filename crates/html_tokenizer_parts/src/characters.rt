@@ -1,7 +1,7 @@
 //! Characters of markup.
 ghost use Rattle.std.specs.Prelude.{◌≡◌};
 ghost use Rattle.html_tokens.specs.Characters;
-ghost use Rattle.html_tokenizer_parts.specs.Forbidden.{is_forbidden, is_control, is_noncharacter};
+ghost use Rattle.html_tokens.specs.Forbidden.{is_forbidden, is_control, is_noncharacter};
 
 use crate::error_code::ErrorCode;
 

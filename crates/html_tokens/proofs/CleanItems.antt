@@ -12,7 +12,9 @@ use Rattle.html_tokens.specs.declared.tags.TagKind.{TagKind}
 use Rattle.html_tokens.specs.declared.tags.TagKind.TheVariants.{StartTag, EndTag}
 use Rattle.html_tokens.specs.declared.token.Token.{Token}
 use Rattle.html_tokens.specs.declared.token.Token.TheVariants.{EOFToken}
-use Rattle.html_tokens.specs.Clean.{is_clean_text, is_clean_name, is_clean_end, is_clean_open, is_clean_markup, is_clean_in, is_clean, is_clean_part, quiet_by, clean_by, clean_from, is_named}
+use Rattle.html_tokens.specs.Characters.{begins}
+use Rattle.html_tokens.specs.Clean.{is_clean_text, is_clean_name, is_clean_end, is_clean_comment, is_clean_declaration, is_clean_open, is_clean_markup, is_clean_in, is_clean, is_clean_part, quiet_by, clean_by, clean_from, is_named}
+use Rattle.html_tokens.specs.Comments
 use Rattle.html_tokens.specs.Item.{Place, InData, InRaw, InPlaintext, InCdata, InTag, Stand, Fault, grave_if, reference_item, fault_at_end}
 use Rattle.html_tokens.specs.Items
 use Rattle.html_tokens.specs.Notes.{Notes, no_notes, noted, heard, noting, noting_error, noting_cdata, noting_end, errors_of, was_quiet, owed, is_quiet_reading}
@@ -21,7 +23,8 @@ use Rattle.html_tokens.specs.Reading.{◌>>=◌, said, next_stand, line_number, 
 use Rattle.html_tokens.specs.Reference.{Reference, reference_at, fault_of_reference}
 use Rattle.html_tokens.specs.Table.{Row}
 use Rattle.html_tokens.specs.Tags
-use Rattle.html_tokens.proofs.CleanTags.{IsFaultless, name, attribute, amp-named}
+use Rattle.html_tokens.proofs.CleanComments.{comment}
+use Rattle.html_tokens.proofs.CleanTags.{IsFaultless, all, name, attribute, amp-named}
 use Rattle.html_tokens.proofs.ReferenceNames.{none-true, begins-front, named-faultless}
 
 -- what holds beside nothing else holds
@@ -72,11 +75,27 @@ end st (c ∷ t) h = rw (lower-letter c (and_parts (is_ascii_lowercase c) _ h).0
 doctype : (cdata : Bool) (st : Stand) (t u : List ℕ) → t ≡ codes "DOCTYPE html>" ++ u → IsFaultless (Items.declaration_at cdata st t)
 doctype cdata st t u e = rw e refl
 
+-- behind "<!" "--" and a clean comment stand
+dashed : (cdata : Bool) (st : Stand) (t u : List ℕ) → t ≡ codes "--" ++ u → is_clean_comment u ≡ true → IsFaultless (Items.declaration_at cdata st t)
+dashed cdata st t u e h = rw e (all 4 (Comments.comment_at st u) (comment st u h))
+
+-- one of two
+either : {P : Type 0} (a b : Bool) → (a || b) ≡ true → (a ≡ true → P) → (b ≡ true → P) → P
+either true b h f g = f refl
+either false b h f g = g h
+
+-- behind "<!" a clean declaration has no fault
+declaration : (cdata : Bool) (st : Stand) (c : ℕ) (t : List ℕ) → is_clean_declaration (c ∷ t) ≡ true → IsFaultless (Items.declaration_at cdata st t)
+declaration cdata st c t h =
+    either (begins (codes "!DOCTYPE html>") (c ∷ t)) _ h
+    (λ e. doctype cdata st t (drop 13 t) (ap (drop 1) (begins-front (codes "!DOCTYPE html>") (c ∷ t) e)))
+    (λ e. let parts = and_parts (begins (codes "!--") (c ∷ t)) (is_clean_comment (drop 2 t)) e in dashed cdata st t (drop 2 t) (ap (drop 1) (begins-front (codes "!--") (c ∷ t) parts.0)) parts.1)
+
 -- what a clean character behind "<" begins
 open-by : (o : Items.Opening) (cdata : Bool) (st : Stand) (c : ℕ) (t : List ℕ) → is_clean_open o (c ∷ t) ≡ true → IsFaultless (Items.open_by o cdata st c t)
 open-by Items.Letter cdata st c t h = name st (Tags.named StartTag []) (c ∷ t) (end-name (c ∷ t) h)
 open-by Items.Slash cdata st c t h = end st t h
-open-by Items.Mark cdata st c t h = doctype cdata st t (drop 13 t) (ap (drop 1) (begins-front (codes "!DOCTYPE html>") (c ∷ t) h))
+open-by Items.Mark cdata st c t h = declaration cdata st c t h
 open-by Items.Question cdata st c t h = absurd cc
 open-by Items.Close cdata st c t h = absurd cc
 open-by Items.Other cdata st c t h = absurd cc

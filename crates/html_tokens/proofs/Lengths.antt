@@ -77,13 +77,13 @@ comment_end-≤ (a ∷ b ∷ c ∷ d ∷ t) =
     if-AtMost (nat_eq a 45 && nat_eq b 45 && nat_eq c 62) (Some 3) (if nat_eq a 45 && nat_eq b 45 && nat_eq c 33 && nat_eq d 62 then Some 4 else None) m (omega arith)
     (if-AtMost (nat_eq a 45 && nat_eq b 45 && nat_eq c 33 && nat_eq d 62) (Some 4) None m (omega arith) tt)
 
-comment_by-≤ : (o : Option ℕ) (faulty : Bool) (st : Stand) (front : List ℕ) (go : Unit {0} → Item) (m : ℕ) → AtMost o (suc m) → (go tt).len ≤ m → (Comments.comment_by o faulty st front go).len ≤ suc m
-comment_by-≤ (Some n) faulty st front go m h k = h
-comment_by-≤ None faulty st front go m h k = omega arith
+comment_by-≤ : (o : Option ℕ) (faulty odd : Bool) (st : Stand) (front : List ℕ) (go : Unit {0} → Item) (m : ℕ) → AtMost o (suc m) → (go tt).len ≤ m → (Comments.comment_by o faulty odd st front go).len ≤ suc m
+comment_by-≤ (Some n) faulty odd st front go m h k = h
+comment_by-≤ None faulty odd st front go m h k = omega arith
 
 comment_after-≤ : (st : Stand) (front t : List ℕ) → Within (Comments.comment_after st front t) t
 comment_after-≤ st front [] = omega arith
-comment_after-≤ st front (c ∷ t) = comment_by-≤ (Comments.comment_end (c ∷ t)) _ st front _ (length t) (comment_end-≤ (c ∷ t)) (comment_after-≤ st (front ++ Characters.shown c ∷ []) t)
+comment_after-≤ st front (c ∷ t) = comment_by-≤ (Comments.comment_end (c ∷ t)) _ _ st front _ (length t) (comment_end-≤ (c ∷ t)) (comment_after-≤ st (front ++ Characters.shown c ∷ []) t)
 
 empty_by-≤ : (a b : Bool) (st : Stand) (t : List ℕ) → (a ≡ true → 1 ≤ length t) → (b ≡ true → 2 ≤ length t) → Within (Comments.empty_by a b st t) t
 empty_by-≤ true b st t h k = h refl

@@ -1,3 +1,4 @@
+pub mod CleanComments
 pub mod CleanItems
 pub mod CleanTags
 pub mod Lengths

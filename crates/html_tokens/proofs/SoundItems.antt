@@ -34,13 +34,13 @@ all (suc n) i h = all n i h
 
 -- COMMENTS
 
-comment_by : (o : Option ℕ) (faulty : Bool) (st : Stand) (front : List ℕ) (go : Unit {0} → Item) → IsSoundPlace st.place → IsSoundItem (go tt) → IsSoundItem (Comments.comment_by o faulty st front go)
-comment_by (Some n) faulty st front go p h = (tt, p)
-comment_by None faulty st front go p h = h
+comment_by : (o : Option ℕ) (faulty odd : Bool) (st : Stand) (front : List ℕ) (go : Unit {0} → Item) → IsSoundPlace st.place → IsSoundItem (go tt) → IsSoundItem (Comments.comment_by o faulty odd st front go)
+comment_by (Some n) faulty odd st front go p h = (tt, p)
+comment_by None faulty odd st front go p h = h
 
 comment_after : (st : Stand) (p : IsSoundPlace st.place) (t front : List ℕ) → IsSoundItem (Comments.comment_after st front t)
 comment_after st p [] front = (tt, p)
-comment_after st p (c ∷ t) front = comment_by (Comments.comment_end (c ∷ t)) _ st front (λ _. Comments.comment_after st (front ++ Characters.shown c ∷ []) t) p (comment_after st p t (front ++ Characters.shown c ∷ []))
+comment_after st p (c ∷ t) front = comment_by (Comments.comment_end (c ∷ t)) _ _ st front (λ _. Comments.comment_after st (front ++ Characters.shown c ∷ []) t) p (comment_after st p t (front ++ Characters.shown c ∷ []))
 
 empty_by : (a b : Bool) (st : Stand) (t : List ℕ) → IsSoundPlace st.place → IsSoundItem (Comments.empty_by a b st t)
 empty_by true b st t p = (tt, p)

@@ -96,15 +96,30 @@ abbrev pub is_clean_end : List ℕ → Bool
 is_clean_end [] = false
 is_clean_end (c ∷ t) = is_ascii_lowercase c && is_clean_name (c ∷ t)
 
+-- a character of a comment that tells nothing: no hyphen, "<", ">" or U+0000
+abbrev pub is_clean_in_comment : ℕ → Bool
+is_clean_in_comment c = not (nat_eq c 45) && not (nat_eq c 60) && not (nat_eq c 62) && not (nat_eq c 0)
+
+abbrev pub clean_comment : List ℕ → ℕ
+clean_comment t = run (λ c. not (is_clean_in_comment c)) t
+
+-- behind "<!--": such characters or none, and "-->"
+abbrev pub is_clean_comment : List ℕ → Bool
+is_clean_comment t = begins (codes "-->") (drop (clean_comment t) t)
+
+-- behind "<": a comment, or the doctype
+abbrev pub is_clean_declaration : List ℕ → Bool
+is_clean_declaration t = begins (codes "!DOCTYPE html>") t || (begins (codes "!--") t && is_clean_comment (drop 3 t))
+
 abbrev pub is_clean_open : Markup → List ℕ → Bool
 is_clean_open Letter t = is_clean_end t
 is_clean_open Slash t = is_clean_end (drop 1 t)
-is_clean_open Mark t = begins (codes "!DOCTYPE html>") t
+is_clean_open Mark t = is_clean_declaration t
 is_clean_open Question t = false
 is_clean_open Close t = false
 is_clean_open Other t = false
 
--- behind "<": a tag whose name is clean, or the doctype
+-- behind "<": a tag whose name is clean, a clean comment, or the doctype
 abbrev pub is_clean_markup : List ℕ → Bool
 is_clean_markup [] = false
 is_clean_markup (c ∷ t) = is_clean_open (opening c) (c ∷ t)

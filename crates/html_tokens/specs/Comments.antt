@@ -1,8 +1,8 @@
 -- Comments (HTML Standard, sections 13.2.5.41 and 13.2.5.43 to 13.2.5.52).
-use Rattle.std.specs.Prelude.{ℕ, Bool, true, false, ◌&&◌, not, nat_eq, List, [], ◌∷◌, ◌++◌, codes, Option, Some, None, if◌then◌else◌}
+use Rattle.std.specs.Prelude.{ℕ, Bool, true, false, ◌&&◌, ◌||◌, not, nat_eq, List, [], ◌∷◌, ◌++◌, codes, Option, Some, None, if◌then◌else◌}
 use Rattle.html_tokens.specs.declared.token.Token.TheVariants.{CommentToken}
 use Rattle.html_tokens.specs.Characters.{shown, begins}
-use Rattle.html_tokens.specs.Item.{Stand, Item, Grave, grave_if, and_slight, behind, told_as}
+use Rattle.html_tokens.specs.Item.{Stand, Item, Grave, grave_if, marked, behind, told_as}
 
 -- whether a comment ends here, and the characters of that end: "-->" or "--!>", and at the end of input also "--!", "--" or "-"
 abbrev pub comment_end : List ℕ → Option ℕ
@@ -16,14 +16,18 @@ comment_end (a ∷ b ∷ c ∷ d ∷ t) =
     if nat_eq a 45 && nat_eq b 45 && nat_eq c 62 then Some 3
     else if nat_eq a 45 && nat_eq b 45 && nat_eq c 33 && nat_eq d 62 then Some 4 else None
 
-abbrev pub comment_by : Option ℕ → Bool → Stand → List ℕ → (Unit {0} → Item) → Item
-comment_by (Some n) faulty st front go = told_as (and_slight (grave_if faulty)) (CommentToken front) n st
-comment_by None faulty st front go = behind (go tt)
+-- a character of a comment's text for which errors may be told: U+0000, and a hyphen, since "<!--" in a comment is an error
+abbrev pub is_odd_in_comment : ℕ → Bool
+is_odd_in_comment c = nat_eq c 45 || nat_eq c 0
 
--- the rest of a comment, behind what was read of it; any end but "-->" makes it faulty, and errors may be told of every comment
+abbrev pub comment_by : Option ℕ → Bool → Bool → Stand → List ℕ → (Unit {0} → Item) → Item
+comment_by (Some n) faulty odd st front go = told_as (grave_if faulty) (CommentToken front) n st
+comment_by None faulty odd st front go = marked odd (behind (go tt))
+
+-- the rest of a comment, behind what was read of it; any end but "-->" makes it faulty
 abbrev pub comment_after : Stand → List ℕ → List ℕ → Item
 comment_after st front [] = told_as (Some Grave) (CommentToken front) 0 st
-comment_after st front (c ∷ t) = comment_by (comment_end (c ∷ t)) (not (begins (codes "-->") (c ∷ t))) st front (λ _. comment_after st (front ++ shown c ∷ []) t)
+comment_after st front (c ∷ t) = comment_by (comment_end (c ∷ t)) (not (begins (codes "-->") (c ∷ t))) (is_odd_in_comment c) st front (λ _. comment_after st (front ++ shown c ∷ []) t)
 
 abbrev pub empty_by : Bool → Bool → Stand → List ℕ → Item
 empty_by true dashed st t = told_as (Some Grave) (CommentToken []) 1 st

@@ -4,6 +4,7 @@ pub mod Comments
 pub mod Counting
 pub mod Doctypes
 pub mod Fault
+pub mod Forbidden
 pub mod Item
 pub mod Items
 pub mod Laws
@@ -11,6 +12,7 @@ pub mod Listed
 pub mod Listing
 pub mod NormalText
 pub mod Notes
+pub mod Owed
 pub mod Pieces
 pub mod RawText
 pub mod Reading

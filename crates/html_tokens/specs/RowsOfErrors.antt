@@ -53,13 +53,16 @@ clean_rows =
     ∷ codes "<!DOCTYPE html><html><head><title>a&amp;b</title></head><body><p class=\"b c\" id=\"&quot;&nbsp;>\">x</p><h1>y</h1></body></html>"
     ∷ codes "<a >&lt;p>"
     ∷ codes "<input disabled><a b c = \"d\" e>"
+    ∷ codes "<!----><!--a--><p><!-- b!&c\"d' --></p>"
+    ∷ (codes "<!--" ++ 0xFFFD ∷ 9 ∷ 10 ∷ 13 ∷ codes "-->")
     ∷ []
 
 abbrev pub unclean_rows : List (List ℕ)
 unclean_rows =
     codes "a & b" ∷ codes "a < b" ∷ codes "&amp" ∷ codes "&#38;" ∷ codes "<P>" ∷ codes "<br/>" ∷ codes "<a b=>" ∷ codes "<a b =c>" ∷ codes "<a b/>" ∷ codes "<a b='c'>" ∷ codes "<a b=c>"
     ∷ codes "<a b=\"c\"d=\"e\">" ∷ codes "<a b=\"c\" b=\"d\">" ∷ codes "<a B=\"c\">" ∷ codes "<a b=\"<\">" ∷ codes "<a b=\"&\">" ∷ codes "</a b=\"c\">" ∷ codes "<a b=\"c\""
-    ∷ codes "<!doctype html>" ∷ codes "<!DOCTYPE html >" ∷ codes "<!--a-->" ∷ codes "</>" ∷ codes "<?>" ∷ codes "<a-B>" ∷ codes "<title></Title>" ∷ codes "<title><" ∷ (0 ∷ []) ∷ []
+    ∷ codes "<!doctype html>" ∷ codes "<!DOCTYPE html >" ∷ codes "</>" ∷ codes "<?>" ∷ codes "<a-B>" ∷ codes "<title></Title>" ∷ codes "<title><" ∷ (0 ∷ [])
+    ∷ codes "<!--a-b-->" ∷ codes "<!-----" ∷ codes "<!-----><p>" ∷ codes "<!--<-->" ∷ codes "<!--a>b-->" ∷ (codes "<!--a" ++ 0 ∷ codes "-->") ∷ codes "<!-->" ∷ codes "<!--->" ∷ codes "<!--a--!>" ∷ codes "<!--a" ∷ codes "<!--a--" ∷ codes "<!-a-->" ∷ codes "<!a>" ∷ codes "<?a>" ∷ []
 
 abbrev pub is_clean_of : List ℕ → Bool
 is_clean_of t = is_clean_reading (step raw_text) (λ s token. true) (λ s. s.cdata) five data_stand 0 (empty false) (normal_text true t)

@@ -2,6 +2,7 @@
 
 use markup::Text;
 use std::alloc::{AllocError, AllocFailed, Global};
+use thiserror::Error;
 
 /// A name without its ampersand, and the one or two characters that it stands for, as their numbers.
 #[derive(Debug, Drop)]
@@ -42,15 +43,19 @@ impl ReferenceRow {
 }
 
 /// Why a table of references was not made. Rows count from 1.
-#[derive(Clone, Copy, Debug, PartialEq, Eq, Hash)]
+#[derive(Clone, Copy, Debug, PartialEq, Eq, Hash, Error)]
 pub enum TableFault {
     /// The name is not letters and digits of ASCII, one at least, with `;` or nothing behind them.
+    #[error("row {0} has no name of letters and digits")]
     BadName(u64),
     /// An earlier row has the name.
+    #[error("row {0} has the name of an earlier row")]
     Duplicate(u64),
     /// A value is 0, or not the number of a character.
+    #[error("row {0} has a value that is no character")]
     BadValue(u64),
     /// There was not enough memory.
+    #[error("no memory was left")]
     Memory,
 }
 

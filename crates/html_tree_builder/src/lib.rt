@@ -21,4 +21,13 @@ mod turns;
 mod walks;
 
 pub use builder::TreeBuilder;
+pub use html_names::{adjust_attributes, adjust_tag_name};
+pub use html_stack::{
+    ActiveFormattingIter, ElementClass, ElementName, ElementNamespace, FormatEntry, InsertionMode,
+    InsertionPoint, NewElement, OpenElement, PushFlag, Stack, TagSet, TokenShape, adjusted,
+    create_element, create_element_with_flags, doctype_error_and_quirks, equals_any_case,
+    extract_a_character_encoding_from_a_meta_element, html_elem, insert_at, is_in,
+};
+pub use html_tokens::{Doctype, Tag, TagKind, Token, TokenSink, TokenSinkResult, states};
+pub use markup;
 pub use options::TreeBuilderOpts;

@@ -87,6 +87,7 @@ impl<Sink: TreeSink> TreeBuilder<Sink> {
     }
 
     /// Takes a token that nothing stands against. Where memory is wanting the builder has failed.
+    #[inline(always)]
     fn take_or_fail(
         &mut self,
         token: &mut Token,
@@ -115,6 +116,7 @@ impl<Sink: TreeSink> TreeBuilder<Sink> {
     }
 
     /// Takes a token, unless something stands against it.
+    #[inline(always)]
     fn take_token(
         &mut self,
         token: &mut Token,
@@ -178,6 +180,7 @@ impl<Sink: TreeSink> TokenSink for TreeBuilder<Sink> {
 
     ghost laws = { usable_laws };
 
+    #[inline(always)]
     fn process_token(
         &mut self,
         token: Token,

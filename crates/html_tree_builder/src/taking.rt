@@ -230,6 +230,7 @@ impl<Sink: TreeSink> Construction<Sink> {
     /// Takes a token, of which an error's message is taken out, and a doctype where it belongs. An error is told on, and an empty text
     /// changes nothing. Its turns are counted, unless it is text.
     #[tactic(auto, unfolding(html_rules::specs::Step::taken))]
+    #[inline(always)]
     pub(crate) fn take(
         &mut self,
         sink: &mut Sink,

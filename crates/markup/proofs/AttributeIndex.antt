@@ -1,8 +1,9 @@
 -- Indexes beside lists of attributes.
-use Rattle.std.proofs.Common.{◌≡◌, ◌∙◌, ℕ, suc, ◌+◌, ◌<◌, Bool, true, false, cond, List, [], ◌∷◌, ◌++◌, length, take, get_or, Option, Some, None, refl, sym, ap, subst, arith, true≢false, Bor, IfSome, IsSome}
-use Rattle.std.specs.Prelude.{◌||◌, ◌&&◌, not, is_some}
+use Rattle.std.proofs.Common.{◌≡◌, ◌∙◌, ℕ, suc, ◌+◌, ◌<◌, Bool, true, false, cond, List, [], ◌∷◌, ◌++◌, length, take, get_or, Option, Some, None, Result, Ok, Err, refl, sym, ap, subst, arith, true≢false, Bor, IfSome, IsSome}
+use Rattle.std.specs.Prelude.{◌||◌, ◌&&◌, not, is_ok, is_some, OnOk}
 use Rattle.std.specs.BTreeMap.{is_at}
 use Rattle.std.specs.Cmp.Lexicographic.{slice_cmp, nat_list_eq_equiv, texts_ties}
+use Rattle.std.specs.Global.{Box}
 use Rattle.std.specs.List.{find, list_any, position_from, slice_get}
 use Rattle.std.specs.Option.{option_copied}
 use Rattle.std.specs.Ordering.{nat_cmp}
@@ -122,11 +123,11 @@ IsIndex-more old new attributes attribute h more = record {
       ∙ sym (distinct-more attributes attribute))));
 }
 
-pub FitsIndex-more : (old new : Option AttributeIndex) (attributes : List Attribute) (attribute : Attribute) → FitsIndex old attributes → AddsPlaceIf attribute.name.local (length attributes) old new → FitsIndex new (attributes ++ attribute ∷ [])
+pub FitsIndex-more : (old new : Option (Box AttributeIndex)) (attributes : List Attribute) (attribute : Attribute) → FitsIndex old attributes → AddsPlaceIf attribute.name.local (length attributes) old new → FitsIndex new (attributes ++ attribute ∷ [])
 FitsIndex-more None None attributes attribute h more = tt
 FitsIndex-more None (Some new) attributes attribute h more = absurd more
 FitsIndex-more (Some old) None attributes attribute h more = tt
-FitsIndex-more (Some old) (Some new) attributes attribute h more = IsIndex-more old new attributes attribute h more
+FitsIndex-more (Some old) (Some new) attributes attribute h more = IsIndex-more old.value new.value attributes attribute h more
 
 -- the index says which local names there are
 pub IsIndex-names : (index : AttributeIndex) (attributes : List Attribute) → IsIndex index attributes → (name : List ℕ) → is_some (place_in index.places name) ≡ has_local_name name attributes
@@ -140,6 +141,11 @@ put_by false old place e = sym (first_place-none old)
 no_place : (o : Option ℕ) → is_some o ≡ false → o ≡ None
 no_place None e = refl
 no_place (Some n) e = absurd (true≢false e)
+
+-- what holds where a call went well, of one that did
+pub went_well : {T E P : Type 0} (r : Result T E) → OnOk r P → is_ok r ≡ true → P
+went_well (Ok x) h e = h
+went_well (Err fault) h e = absurd cc
 
 -- a key that was put into the map has a place more
 pub AddsPlace-put : (old new : AttributeIndex) (key name : List ℕ) (place : ℕ) → key ≡ name → is_some (place_in old.places name) ≡ false → ((other : List ℕ) → place_in new.places other ≡ cond (is_at (slice_cmp nat_cmp key) other) (Some place) (place_in old.places other)) → new.are_distinct ≡ old.are_distinct → AddsPlace name place old new
@@ -157,5 +163,5 @@ IsIndex-next old new attributes place attribute inside at h more =
     let next : place + 1 ≡ suc place = omega arith in
     subst (IsIndex new) (sym (ap (λ n. take n attributes) next ∙ (take-suc attributes place attribute inside ∙ ap (λ a. take place attributes ++ a ∷ []) (sym at)))) (IsIndex-more old new (take place attributes) attribute h (subst (λ n. AddsPlace attribute.name.local n old new) (sym (length-take-le place attributes (omega (arith, inside)))) more))
 
-pub FitsIndex-at : (o : Option AttributeIndex) (index : AttributeIndex) (attributes : List Attribute) → o ≡ Some index → FitsIndex o attributes → IsIndex index attributes
+pub FitsIndex-at : (o : Option (Box AttributeIndex)) (index : Box AttributeIndex) (attributes : List Attribute) → o ≡ Some index → FitsIndex o attributes → IsIndex index.value attributes
 FitsIndex-at o index attributes e h = subst (λ o. FitsIndex o attributes) e h

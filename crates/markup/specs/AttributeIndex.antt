@@ -2,6 +2,7 @@
 use Rattle.std.specs.Prelude.{◌≡◌, ◌&&◌, not, cond, ℕ, List, Option, Some, None, ⊤, is_some}
 use Rattle.std.specs.BTreeMap as tree
 use Rattle.std.specs.Cmp.Lexicographic.{slice_cmp}
+use Rattle.std.specs.Global.{Box}
 use Rattle.std.specs.Ordering.{nat_cmp}
 use Rattle.std.specs.Str.{bytes_eq}
 use Rattle.markup.specs.Attributes.{are_distinct, place_of}
@@ -28,12 +29,12 @@ pub record AddsPlace (name : List ℕ) (place : ℕ) (old new : AttributeIndex) 
   pub are_distinct : new.are_distinct ≡ (old.are_distinct && not (is_some (place_in old.places name)))
 
 -- the index, where there is one, says where the attributes are
-abbrev pub FitsIndex : Option AttributeIndex → List Attribute → Type 0
+abbrev pub FitsIndex : Option (Box AttributeIndex) → List Attribute → Type 0
 FitsIndex None attributes = ⊤
-FitsIndex (Some index) attributes = IsIndex index attributes
+FitsIndex (Some index) attributes = IsIndex index.value attributes
 
 -- an index has an attribute more, or there is none any more
-abbrev pub AddsPlaceIf : List ℕ → ℕ → Option AttributeIndex → Option AttributeIndex → Type 0
+abbrev pub AddsPlaceIf : List ℕ → ℕ → Option (Box AttributeIndex) → Option (Box AttributeIndex) → Type 0
 AddsPlaceIf name place old None = ⊤
 AddsPlaceIf name place None (Some new) = ⊥
-AddsPlaceIf name place (Some old) (Some new) = AddsPlace name place old new
+AddsPlaceIf name place (Some old) (Some new) = AddsPlace name place old.value new.value

@@ -1,5 +1,5 @@
 //! Where many attributes are by their local names, so that one is found without a walk over all.
-ghost use Rattle.std.specs.Prelude.{◌≡◌, IfSome, true};
+ghost use Rattle.std.specs.Prelude.{◌≡◌, IfSome, IsTrue, true};
 ghost use Rattle.std.specs.List.{find, list_any};
 ghost use Rattle.std.specs.Option.{option_copied};
 ghost use Rattle.std.specs.Str.{bytes_eq};
@@ -26,76 +26,92 @@ pub(crate) struct AttributeIndex {
     pub(crate) are_distinct: bool,
 }
 
-/// An index with one more; none where memory is short.
-fn add(
-    mut index: AttributeIndex,
-    alloc: Global,
-    name: &Text,
-    place: usize,
-) -> Option<AttributeIndex>
-    ensures { IfSome result (λ added. AddsPlace name.now place index added) }
+/// Puts one more into an index; false where memory is short.
+fn add(index: &mut AttributeIndex, alloc: Global, name: &Text, place: usize) -> bool
+    ensures { IsTrue result → AddsPlace name.now place index.old index.new }
 {
     if index.places.contains_key(name) {
         index.are_distinct = false;
-        return Some(index);
+        return true;
     }
     let Ok(copied) = name.copy(alloc) else {
-        return None;
+        return false;
     };
-    match index.places.insert(copied, place) {
-        Ok(_) => Some(index),
-        Err(_) => None,
-    }
+    index.places.insert(copied, place).is_ok()
 }
 
 /// The index of all of these; none where memory is short.
-fn all(alloc: Global, attributes: &[Attribute]) -> Option<AttributeIndex>
-    ensures { IfSome result (λ index. IsIndex index attributes.now) }
+fn all(alloc: Global, attributes: &[Attribute]) -> Option<Box<AttributeIndex>>
+    ensures { IfSome result (λ index. IsIndex index.value attributes.now) }
 {
-    let mut index = AttributeIndex {
+    let empty = AttributeIndex {
         places: BTreeMap::new(alloc),
         are_distinct: true,
     };
+    let Ok(mut index) = Box::new(alloc, empty) else {
+        return None;
+    };
     for place in 0..attributes.len() {
-        index = add(index, alloc, attributes[place].name.local.as_text(), place)?;
+        let name = attributes[place].name.local.as_text();
+        if !add(&mut index, alloc, name, place) {
+            return None;
+        }
     }
     Some(index)
 }
 
 /// The index with one more, where there is one; none where memory is short.
 pub(crate) fn with(
-    index: Option<AttributeIndex>,
+    index: Option<Box<AttributeIndex>>,
     alloc: Global,
     name: &Text,
     place: usize,
-) -> Option<AttributeIndex>
+) -> Option<Box<AttributeIndex>>
     ensures { AddsPlaceIf name.now place index result }
 {
     match index {
-        Some(index) => add(index, alloc, name, place),
+        Some(mut index) => {
+            if add(&mut index, alloc, name, place) {
+                Some(index)
+            } else {
+                None
+            }
+        }
         None => None,
     }
 }
 
-/// The index of attributes, which is made once there are many; none where memory is short.
-pub(crate) fn of(
-    index: Option<AttributeIndex>,
+/// The index of attributes, where there are many; none where memory is short.
+pub(crate) fn of(alloc: Global, attributes: &[Attribute]) -> Option<Box<AttributeIndex>>
+    ensures { FitsIndex result attributes.now }
+{
+    if attributes.len() > MANY {
+        all(alloc, attributes)
+    } else {
+        None
+    }
+}
+
+/// The index of attributes of which one was added last. Where there is none it is tried for at each doubling of their number, so that
+/// what was refused for want of memory is not tried for at each attribute.
+pub(crate) fn grown(
+    index: Option<Box<AttributeIndex>>,
     alloc: Global,
     attributes: &[Attribute],
-) -> Option<AttributeIndex>
+) -> Option<Box<AttributeIndex>>
     requires { FitsIndex index attributes.now }
     ensures { FitsIndex result attributes.now }
 {
     match index {
         Some(index) => Some(index),
-        None if attributes.len() > MANY => all(alloc, attributes),
+        None if attributes.len().is_power_of_two() => of(alloc, attributes),
         None => None,
     }
 }
 
 /// Whether one of the attributes has that local name.
 pub(crate) fn has_local_name(
-    index: &Option<AttributeIndex>,
+    index: &Option<Box<AttributeIndex>>,
     attributes: &[Attribute],
     name: &LocalName,
 ) -> bool
@@ -124,7 +140,11 @@ fn first<'a>(
 }
 
 /// Whether one of the attributes has that name.
-pub(crate) fn has(index: &Option<AttributeIndex>, attributes: &[Attribute], name: &QualName) -> bool
+pub(crate) fn has(
+    index: &Option<Box<AttributeIndex>>,
+    attributes: &[Attribute],
+    name: &QualName,
+) -> bool
     requires { FitsIndex index.now attributes.now }
     ensures { result ≡ has_attribute name.now attributes.now }
 {
@@ -139,7 +159,7 @@ pub(crate) fn has(index: &Option<AttributeIndex>, attributes: &[Attribute], name
 
 /// Whether an attribute is one of these.
 pub(crate) fn contains(
-    index: &Option<AttributeIndex>,
+    index: &Option<Box<AttributeIndex>>,
     attributes: &[Attribute],
     attribute: &Attribute,
 ) -> bool

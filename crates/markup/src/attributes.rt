@@ -43,7 +43,7 @@ impl Attribute {
 pub struct Attributes {
     list: Vec<Attribute>,
     // Where they are, once there are many.
-    index: Option<AttributeIndex>,
+    index: Option<Box<AttributeIndex>>,
 }
 
 impl Model for Attributes {
@@ -111,6 +111,7 @@ impl Attributes {
     }
 
     /// Adds an attribute at the end.
+    #[inline(always)]
     pub fn push(&mut self, attribute: Attribute) -> Result<(), ParseFault>
         ensures ok { OnOk result (self.new ≡ self.old ++ attribute ∷ []) }
         ensures err { OnErr result (self.new ≡ self.old) }
@@ -195,7 +196,7 @@ impl Attributes {
         for attribute in self.as_slice() {
             list.push_reserved(attribute.copy(alloc)?);
         }
-        let index = attribute_index::of(None, alloc, list.as_slice());
+        let index = attribute_index::of(alloc, list.as_slice());
         Ok(Attributes { list, index })
     }
 }
@@ -203,9 +204,9 @@ impl Attributes {
 // Puts an attribute behind others, which have room for it.
 fn put_last(
     list: &mut Vec<Attribute>,
-    index: Option<AttributeIndex>,
+    index: Option<Box<AttributeIndex>>,
     attribute: Attribute,
-) -> Option<AttributeIndex>
+) -> Option<Box<AttributeIndex>>
     requires room { vec_len list.old + 1 ≤ vec_capacity list.old }
     requires fits { FitsIndex index list.old.items }
     ensures last { list.new.items ≡ list.old.items ++ attribute ∷ [] }
@@ -220,15 +221,15 @@ fn put_last(
         list.as_slice().len(),
     );
     list.push_reserved(attribute);
-    attribute_index::of(index, alloc, list.as_slice())
+    attribute_index::grown(index, alloc, list.as_slice())
 }
 
 // Puts behind attributes, in order, those of others whose name they lack. There is room for all of them.
 fn put_missing(
     list: &mut Vec<Attribute>,
-    mut index: Option<AttributeIndex>,
+    mut index: Option<Box<AttributeIndex>>,
     others: Vec<Attribute>,
-) -> Option<AttributeIndex>
+) -> Option<Box<AttributeIndex>>
     requires room { vec_len list.old + vec_len others ≤ vec_capacity list.old }
     requires fits { FitsIndex index list.old.items }
     ensures missing { list.new.items ≡ with_missing list.old.items others.items }

@@ -6,19 +6,25 @@ use crate::attributes::Attribute;
 use crate::fault::ParseFault;
 use crate::names::QualName;
 use std::alloc::{AllocError, AllocFailed, Global};
+use thiserror::Error;
 
 /// Why writing a tree gave up.
-#[derive(Clone, Copy, Debug, PartialEq, Eq, Hash)]
+#[derive(Clone, Copy, Debug, PartialEq, Eq, Hash, Error)]
 pub enum SerializeFault {
     /// The writer failed. A beginning of the text was written.
+    #[error("the writer failed")]
     Write = 1,
     /// An element or a text has no element around it.
+    #[error("an element or a text has no element around it")]
     NoParent = 2,
     /// The end of an element that was not begun.
+    #[error("the end of an element that was not begun")]
     NoElemInfo = 3,
     /// No memory was left.
+    #[error("no memory was left")]
     Memory = 4,
     /// An earlier call gave up by `Write` or `Memory`, and the serializer serves no more.
+    #[error("an earlier call gave up")]
     Failed = 5,
 }
 

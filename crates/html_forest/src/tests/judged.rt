@@ -58,6 +58,27 @@ const LINK_IN_BOLD_IN_LINK: &[Step<'static>] = &[
     Step::Append(6, 7),
 ];
 
+const COMMENT_BETWEEN_TEXTS: &[Step<'static>] = &[
+    Step::AppendText(4, "a"),
+    Step::Comment(" "),
+    Step::Append(4, 5),
+    Step::AppendText(4, "b"),
+];
+
+const COMMENT_IN_A_PARAGRAPH: &[Step<'static>] = &[
+    Step::Element("p"),
+    Step::Append(4, 5),
+    Step::Comment("a"),
+    Step::Append(5, 6),
+];
+
+const COMMENT_IN_A_LIST: &[Step<'static>] = &[
+    Step::Element("ul"),
+    Step::Append(4, 5),
+    Step::Comment("a"),
+    Step::Append(5, 6),
+];
+
 const TITLE: &[Step<'static>] = &[
     Step::Element("title"),
     Step::AppendText(5, "a"),
@@ -87,7 +108,35 @@ const ROWS: &[(&str, &[Step<'static>], bool)] = &[
     ("title", TITLE, true),
     ("two titles", TWO_TITLES, false),
     ("behind the root", &[Step::AppendText(0, " ")], false),
-    ("comment", &[Step::Comment("a"), Step::Append(4, 5)], false),
+    ("comment", &[Step::Comment("a"), Step::Append(4, 5)], true),
+    (
+        "empty comment",
+        &[Step::Comment(""), Step::Append(4, 5)],
+        true,
+    ),
+    ("comment between texts", COMMENT_BETWEEN_TEXTS, true),
+    (
+        "hyphen in a comment",
+        &[Step::Comment("a-b"), Step::Append(4, 5)],
+        false,
+    ),
+    (
+        "carriage return in a comment",
+        &[Step::Comment("\r"), Step::Append(4, 5)],
+        false,
+    ),
+    (
+        "comment in the head",
+        &[Step::Comment("a"), Step::Append(3, 5)],
+        false,
+    ),
+    (
+        "comment in the document",
+        &[Step::Comment("a"), Step::Append(0, 5)],
+        false,
+    ),
+    ("comment in a paragraph", COMMENT_IN_A_PARAGRAPH, false),
+    ("comment in a list", COMMENT_IN_A_LIST, false),
     (
         "template",
         &[Step::Element("template"), Step::Append(4, 5)],

@@ -16,7 +16,7 @@ use Rattle.html_rules.specs.Choice.{choose}
 use Rattle.html_rules.specs.ForeignContent.{is_foreign}
 use Rattle.html_rules.specs.Formatting.{create_formatting_element_for, last_named, reconstruct_active_formatting_elements}
 use Rattle.html_rules.specs.Names as names
-use Rattle.html_rules.specs.Places.{append_text, insert_element, put_element}
+use Rattle.html_rules.specs.Places.{append_comment, append_text, insert_element, put_element}
 use Rattle.html_rules.specs.Rules.{Finished, rows, turn, turn_of, using_rules_for}
 use Rattle.html_rules.specs.Sets.{names_of}
 use Rattle.html_rules.specs.Stack.{close_item, close_p_element, close_p_element_in_button_scope, expect_to_close, generate_implied_end_except, generate_implied_end_tags, parse_error, pop_but_root, pop_until}
@@ -24,7 +24,7 @@ use Rattle.html_rules.specs.State.{Entry, Open, State, current_is, is_in}
 use Rattle.html_rules.specs.declared.insertion_mode.InsertionMode.TheVariants as mode
 use Rattle.html_rules.specs.declared.tag_set.TagSet.TheVariants as set
 use Rattle.html_slices.specs.Forms.{end_token, start_token}
-use Rattle.html_tokens.specs.declared.token.Token.TheVariants.{CharacterTokens}
+use Rattle.html_tokens.specs.declared.token.Token.TheVariants.{CharacterTokens, CommentToken}
 use Rattle.html_read_back.specs.States.{Around, Home, OfBody, OfCell, at, mode_in, opened, tag_of}
 
 -- elements that only close a paragraph where they begin
@@ -128,6 +128,11 @@ module _ (o : Around) (head : Option ℕ) (n : ℕ) (top : PlainElement) (f : Fo
   unfolding turn is_foreign using_rules_for rows names_of
   character-there c OfBody = refl
   character-there c OfCell = refl
+
+  pub comment-there : (text : List ℕ) (b : Home) → turn (CommentToken text) (here b) ≡ turn_of (append_comment text (here b)) (Finished false)
+  unfolding turn is_foreign using_rules_for rows names_of
+  comment-there text OfBody = refl
+  comment-there text OfCell = refl
 
 module _ (o : Around) (head : Option ℕ) (n : ℕ) (f : Forest) (os : List Open) (es : List Entry) (ok : Bool) where
   abbrev within : PlainElement → Home → State

@@ -1,11 +1,12 @@
-//! Checking the rows of a table, one behind another.
-ghost use Rattle.std.specs.Prelude.{◌≡◌, None, Some, IfOk, IfErr, OnOk};
+//! Checking the rows of a table, each by itself.
+ghost use Rattle.std.specs.Prelude.{◌≡◌, ◌<◌, ◌≤◌, false, true, length, take, slice_index_or, All};
 ghost use Rattle.std.specs.Char.{is_ascii_alphanumeric};
 ghost use Rattle.std.specs.List.{list_all};
-ghost use Rattle.html_references.specs.References.{fault_behind, has_values, is_reference_name, is_reference_value, stem};
-ghost use Rattle.html_references.specs.Order.{IsOrder, IsPlaceOf};
+ghost use Rattle.html_references.specs.References.{has_values, is_reference_name, is_reference_value, stem};
+ghost use Rattle.html_references.specs.Order.{is_good, own_fault};
+ghost use Rattle.html_tokens.specs.declared.table.ReferenceRow.{ReferenceRow};
 
-use crate::references::{ReferenceRow, TableFault, order};
+use crate::references::{ReferenceRow, TableFault};
 
 // A name without the `;` at its end.
 fn stem(name: &[u8]) -> &[u8]
@@ -49,26 +50,35 @@ fn is_named_well(row: &ReferenceRow) -> bool
     is_name(row.name.as_str().as_bytes())
 }
 
-// Where a row goes into the order of the rows before it, or what is wrong with it.
-pub fn index_of(
-    earlier: &[ReferenceRow],
-    order: &[usize],
-    row: &ReferenceRow,
-) -> Result<usize, TableFault>
-    requires { IsOrder earlier.now order.now }
-    ensures index { IfOk result (λ index. IsPlaceOf earlier.now order.now row.now.name index) }
-    ensures checked { OnOk result (fault_behind earlier.now row.now ≡ None) }
-    ensures fault { IfErr result (λ fault. fault_behind earlier.now row.now ≡ Some fault) }
+// Whether a row has a good name and good values.
+fn is_good(row: &ReferenceRow) -> bool
+    ensures { result ≡ is_good row.now }
 {
-    let number = earlier.len() as u64 + 1;
-    if !is_named_well(row) {
-        return Err(TableFault::BadName(number));
+    is_named_well(row) && are_values(row)
+}
+
+// How many rows stand before the first that has a bad name or a bad value.
+pub fn good_front(rows: &[ReferenceRow]) -> usize
+    ensures within { result ≤ length rows.now }
+    ensures good { All (λ row. is_good row ≡ true) (take result rows.now) }
+    ensures bad { (d : ReferenceRow) → result < length rows.now → is_good (slice_index_or rows.now result d) ≡ false }
+{
+    for (place, row) in rows.iter().enumerate() {
+        if !is_good(row) {
+            return place;
+        }
     }
-    if !are_values(row) {
-        return Err(TableFault::BadValue(number));
-    }
-    match order::search(earlier, order, order::name_bytes(row)) {
-        Ok(_) => Err(TableFault::Duplicate(number)),
-        Err(index) => Ok(index),
+    rows.len()
+}
+
+// What is wrong with a row of this number that has a bad name or a bad value.
+pub fn own_fault(row: &ReferenceRow, number: u64) -> TableFault
+    requires { is_good row.now ≡ false }
+    ensures { result ≡ own_fault number row.now }
+{
+    if is_named_well(row) {
+        TableFault::BadValue(number)
+    } else {
+        TableFault::BadName(number)
     }
 }

@@ -13,13 +13,8 @@ use Rattle.html_tokens.specs.Reference.{Reference, fault_of_reference, reference
 use Rattle.html_tokens.specs.Table.{Row}
 use Rattle.html_tokens.specs.Tags.{Opening, Quote, Close, Other, Part, Space, Solidus, End, Attributes, attribute_after, attribute_by, equals_by, has_attribute, opened_at, opened_by, opening, part, quote_at, quoted_after, slash_by, tag_by, unquoted_after, value_at, with_attribute}
 use Rattle.html_rules.specs.ForeignContent.{is_end_tag}
+use Rattle.html_rules_laws.specs.Joint.{is_raw_place}
 use Rattle.html_rules_laws.proofs.Bools.{no}
-
--- raw text, and inside of an end tag
-abbrev pub is_raw_place : Place → Bool
-is_raw_place (InRaw kind) = true
-is_raw_place (InTag tag) = is_end_tag tag.kind
-is_raw_place p = false
 
 -- what may come there
 abbrev pub MayTell : Option Token → Place → Type 0

@@ -1,5 +1,5 @@
 -- No token of a text is refused.
-use Rattle.std.proofs.Common.{◌≡◌, ◌∙◌, ℕ, zero, suc, ◌-◌, ◌+◌, Bool, true, false, List, [], ◌∷◌, Option, Some, None, Result, Ok, refl, sym, ap, subst, true≢false, inl, inr, ◌⊎◌}
+use Rattle.std.proofs.Common.{◌≡◌, ◌∙◌, ℕ, zero, suc, ◌-◌, ◌+◌, Bool, true, false, List, [], ◌∷◌, Option, Some, None, Result, Ok, Err, refl, sym, ap, subst, true≢false, inl, inr, ◌⊎◌}
 use Rattle.std.specs.Prelude.{take, IfOk, IsOk}
 use Rattle.std.proofs.lemmas.Bool.{and_parts}
 use Rattle.markup.specs.Forest.{Forest}
@@ -38,6 +38,7 @@ use Rattle.html_rules.specs.declared.insertion_mode.InsertionMode.{InsertionMode
 use Rattle.html_rules.specs.declared.insertion_mode.InsertionMode.TheVariants as mode
 use Rattle.html_rules.specs.declared.tag_set.TagSet.TheVariants as set
 use Rattle.html_rules_laws.specs.EachText.{IsEachTextTaken}
+use Rattle.html_rules_laws.specs.Joint.{AreJoint, Met, document, fragment, behind as item_behind, is_raw_place}
 use Rattle.html_rules_laws.specs.Nesting.{Ground, IsNested, fits_nested, fits_under, ground_of, is_loose, part_of}
 use Rattle.html_rules_laws.specs.Settled.{are_template_modes}
 use Rattle.html_rules_laws.specs.Sound.{Sound}
@@ -52,7 +53,7 @@ use Rattle.html_rules_laws.proofs.Nesting.Begins.{nested-states}
 use Rattle.html_rules_laws.proofs.Nesting.Fits.{nested-fits}
 use Rattle.html_rules_laws.proofs.Nesting.Tokens.{hushed-nested, reached-states, settle-nested, unlined-nested}
 use Rattle.html_rules_laws.proofs.Nesting.Turns.{other-html}
-use Rattle.html_rules_laws.proofs.Taken.EndTags.{MayTell, is_raw_place, item-fits}
+use Rattle.html_rules_laws.proofs.Taken.EndTags.{MayTell, item-fits}
 use Rattle.html_rules_laws.proofs.Taken.Outside.{IsOutside, IsRaw, Outside, check-out, error-out, is_text, moved-out, reset-out, settle-out}
 use Rattle.html_rules_laws.proofs.Bools.{no}
 
@@ -367,3 +368,42 @@ each-text = record {
       reading-taken table 0 begins 0 (hushed s) (normal_text opts.discard_bom text)
       (begun begins s (states-steady.fragment setting context form f tree top own) (nested-states.fragment setting context form f tree named) (fragment-going setting context form f) (fragment-out setting context form f));
 }
+
+-- WHERE A READING STANDS
+
+given-or : {A F : Type 0} → A → Result A F → A
+given-or other (Ok x) = x
+given-or other (Err e) = other
+
+-- an item leads from one joint state to another
+item-joint : (st next : Stand) (fault : Option Fault) (o : Option Token) (read : ℕ) (s r : State) (reply : Reply) → Joint st s → (is_raw_place st.place ≡ true → MayTell o next.place) → said step (λ fault s. s) fault o read s ≡ Ok (r, reply) → Joint (next_stand next reply) r
+unfolding given-or
+item-joint st next fault None read s r reply j tell e =
+    let same = ap (given-or (r, reply)) e in
+    subst (λ (p : State × Reply). Joint (next_stand next p.1) p.0) same (rw (erred-same fault s) (silent-joint st next s j tell))
+item-joint st next fault (Some t) read s r reply j tell e =
+    let f : IsFollowed s t (line_number read) (Held next) = elim j.text [ inl o ↦ outside-follow st next s j o t (line_number read) | inr text ↦ text-follow st next s j text.0 t (line_number read) (tell text.1) ] in
+    let same = ap (given-or (r, reply)) (sym f.is ∙ (ap (λ (x : State). step x t (line_number read)) (sym (erred-same fault s)) ∙ e)) in
+    subst (λ (p : State × Reply). Joint (next_stand next p.1) p.0) same (joined next s t (line_number read) j.steady j.is f)
+
+met-joint : (table : List Row) (st : Stand) (s : State) → Met table st s → Joint st s
+met-joint table st s (document opts setting f tree top) =
+    begun (stand_of opts) (before_document setting f) (states-steady.document setting f tree top) (nested-states.document setting f) refl (record { mode = refl; original = refl; modes = refl })
+met-joint table st s (fragment opts setting context form scripting f tree top own named) =
+    begun (stand_of (record opts { initial_state = Some (tokenizer_state context scripting) })) (before_fragment setting context form f)
+    (states-steady.fragment setting context form f tree top own) (nested-states.fragment setting context form f tree named) (fragment-going setting context form f) (fragment-out setting context form f)
+met-joint table st s (item_behind st' s' r c t breaks reply before e) =
+    let i : Item = item table (asks_cdata s') st' c t in
+    item-joint st' i.next i.fault i.token breaks s' r reply (met-joint table st' s' before) (λ raw. (item-fits table (asks_cdata s') st' c t raw).tells) e
+
+outside-raw : (st : Stand) (s : State) → Outside s → s.mode ≡ mode.Text → is_raw_place st.place ≡ true
+outside-raw st s o at = absurd (true≢false (ap is_text (sym at) ∙ o.mode))
+
+pub joint-states : AreJoint
+joint-states table st s met =
+    let j = met-joint table st s met in
+    record {
+      going = j.going;
+      fits = fit-of st s j;
+      raw = λ at. elim j.text [ inl o ↦ outside-raw st s o at | inr text ↦ text.1 ];
+    }

@@ -107,6 +107,7 @@ impl<Sink: TreeSink> Stack<Sink> {
     }
 
     /// Makes an element, puts it at a place and opens it.
+    #[inline(always)]
     pub(crate) fn put_and_open(
         &mut self,
         sink: &mut Sink,

@@ -106,6 +106,7 @@ fn current_point<Sink: TreeSink>(
 }
 
 /// Puts a node or text at a place. On [`ParseFault::Memory`], the only fault, the tree is as it was.
+#[inline(always)]
 pub fn insert_at<Sink: TreeSink>(
     sink: &mut Sink,
     point: InsertionPoint<Sink::Handle>,

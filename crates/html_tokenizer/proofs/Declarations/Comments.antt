@@ -1,7 +1,8 @@
 -- How comments are read, and what the machine's states make of them.
-use Rattle.std.proofs.Common.{◌≡◌, ◌∙◌, ℕ, ◌+◌, Bool, true, false, nat_eq, List, [], ◌∷◌, ◌++◌, take, drop, Some, None, Result, Ok, refl, sym, ap, append_assoc, Option}
-use Rattle.std.specs.Prelude.{codes, is_some, not}
+use Rattle.std.proofs.Common.{◌≡◌, ◌∙◌, ℕ, ◌+◌, Bool, true, false, nat_eq, List, [], ◌∷◌, ◌++◌, take, drop, Some, None, Result, refl, sym, ap, append_assoc, Option}
+use Rattle.std.specs.Prelude.{codes, is_some}
 use Rattle.std.specs.Result.{IsErrAnd}
+use Rattle.std.proofs.lemmas.Bool.{eqb-true}
 use Rattle.markup.specs.declared.fault.ParseFault.{ParseFault}
 use Rattle.html_tokens.specs.declared.replies.ProcessResult.{ProcessResult}
 use Rattle.html_tokens.specs.declared.replies.ProcessResult.TheVariants as flow
@@ -9,32 +10,26 @@ use Rattle.html_tokens.specs.declared.states.State.{State}
 use Rattle.html_tokens.specs.declared.states.State.TheVariants as state
 use Rattle.html_tokens.specs.declared.token.Token.TheVariants.{CommentToken}
 use Rattle.html_tokens.specs.declared.sink.TokenSink.{Ghosts}
-use Rattle.html_tokens.specs.Characters.{shown, begins}
-use Rattle.html_tokens.specs.Comments.{comment_end, comment_by, empty_by, comment_at, comment_after, bogus_by, bogus_comment_after}
-use Rattle.html_tokens.specs.Item.{Stand, Item, InData, behind, told_as, Fault, Grave, Slight}
-use Rattle.html_tokens.specs.Notes.{Notes, noting}
-use Rattle.html_tokens.specs.Reading.{line_number, line_break, line_breaks}
+use Rattle.html_tokens.specs.Characters.{shown}
+use Rattle.html_tokens.specs.Comments.{is_odd_in_comment, comment_end, comment_by, comment_at, comment_after, bogus_by, bogus_comment_after}
+use Rattle.html_tokens.specs.Item.{Stand, Item, InData, behind, marked, told_as, Fault, Grave, Slight, slight_if, and_slight}
+use Rattle.html_tokens.specs.Notes.{Notes, noting, noting_error}
+use Rattle.html_tokens.specs.Reading.{erred_by, line_number, line_break, line_breaks}
 use Rattle.html_tokens.specs.Sink.{◌>>=◌, SinkLaws}
+use Rattle.html_tokens.proofs.CleanComments.{begun-by, end-mark, end-none}
 use Rattle.html_tokenizer.specs.declared.tokenizer.Tokenizer.{Tokenizer}
 use Rattle.html_tokenizer.specs.Rest.{rows_of, standing, held_at}
 use Rattle.html_tokenizer.specs.Steps.{owed_for, Owed, IsAt, more, Falls, Told, Took, Keeps, nothing_owed, a_fault, reads, plays}
-use Rattle.html_tokenizer.proofs.Steps.Readings.{play-is}
+use Rattle.html_tokenizer.proofs.Steps.Lawful.{slight-absorbed}
+use Rattle.html_tokenizer.proofs.Steps.Readings.{play-is, play-odd}
 use Rattle.html_tokenizer.proofs.Steps.TokenEnds.{EndSays, end-says, emitted-took, emitted-failed, same-text, behind-one, item-absorbs}
-use Rattle.html_tokenizer.proofs.Errors.RefusedErrors.{tells-less}
-use Rattle.html_tokenizer.proofs.Steps.Keeping.{Absorbs, at, took, keeps_silent, state-absorbs}
-use Rattle.html_tokenizer.proofs.Errors.Rises.{slighted-no-more}
+use Rattle.html_tokenizer.proofs.Steps.Keeping.{Absorbs, at, took, took_odd, keeps_odd, keeps_silent, state-absorbs, no-break}
 use Rattle.html_tokenizer.specs.Listeners.{listening}
 
 -- ITEMS
 
-comment-goes_on : (st : Stand) (front : List ℕ) (c : ℕ) (t : List ℕ) → comment_end (c ∷ t) ≡ None → comment_after st front (c ∷ t) ≡ behind (comment_after st (front ++ shown c ∷ []) t)
+comment-goes_on : (st : Stand) (front : List ℕ) (c : ℕ) (t : List ℕ) → comment_end (c ∷ t) ≡ None → comment_after st front (c ∷ t) ≡ marked (is_odd_in_comment c) (behind (comment_after st (front ++ shown c ∷ []) t))
 comment-goes_on st front c t e = rw e refl
-
-end-letter : (c : ℕ) (t : List ℕ) → nat_eq c 45 ≡ false → comment_end (c ∷ t) ≡ None
-end-letter c [] e = rw e refl
-end-letter c (a ∷ []) e = rw e refl
-end-letter c (a ∷ b ∷ []) e = rw e refl
-end-letter c (a ∷ b ∷ d ∷ t) e = rw e refl
 
 end-dash : (c : ℕ) (t : List ℕ) → nat_eq c 45 ≡ false → comment_end (45 ∷ c ∷ t) ≡ None
 end-dash c [] e = rw e refl
@@ -49,54 +44,58 @@ end-bang : (c : ℕ) (t : List ℕ) → nat_eq c 62 ≡ false → comment_end (4
 end-bang c t e = rw e refl
 
 -- behind one dash, or two, or two and "!", that end nothing
-dash-letter : (st : Stand) (front : List ℕ) (c : ℕ) (t : List ℕ) → nat_eq c 45 ≡ false → comment_after st front (45 ∷ c ∷ t) ≡ behind (comment_after st (front ++ 45 ∷ []) (c ∷ t))
+dash-letter : (st : Stand) (front : List ℕ) (c : ℕ) (t : List ℕ) → nat_eq c 45 ≡ false → comment_after st front (45 ∷ c ∷ t) ≡ marked true (behind (comment_after st (front ++ 45 ∷ []) (c ∷ t)))
 dash-letter st front c t e = comment-goes_on st front 45 (c ∷ t) (end-dash c t e)
 
--- behind what is no empty comment
-empty-none : (a b : Bool) (st : Stand) (t : List ℕ) → a ≡ false → b ≡ false → empty_by a b st t ≡ comment_after st [] t
-empty-none a b st t e f = rw (e, f) refl
-
-no-mark : (c : ℕ) (t : List ℕ) → nat_eq 62 c ≡ false → begins (codes ">") (c ∷ t) ≡ false
-no-mark c t e = rw e refl
-
-no-dash : (c : ℕ) (t : List ℕ) → nat_eq 45 c ≡ false → begins (codes "->") (c ∷ t) ≡ false
-no-dash c t e = rw e refl
-
-at-other : (st : Stand) (c : ℕ) (t : List ℕ) → nat_eq 62 c ≡ false → nat_eq 45 c ≡ false → comment_at st (c ∷ t) ≡ comment_after st [] (c ∷ t)
-at-other st c t e f = empty-none _ _ st (c ∷ t) (no-mark c t e) (no-dash c t f)
-
-at-dash : (st : Stand) (c : ℕ) (t : List ℕ) → nat_eq 62 c ≡ false → nat_eq c 45 ≡ false → comment_at st (45 ∷ c ∷ t) ≡ behind (comment_after st (45 ∷ []) (c ∷ t))
+at-dash : (st : Stand) (c : ℕ) (t : List ℕ) → nat_eq 62 c ≡ false → nat_eq c 45 ≡ false → comment_at st (45 ∷ c ∷ t) ≡ marked true (behind (comment_after st (45 ∷ []) (c ∷ t)))
 at-dash st c t e f = rw e (dash-letter st [] c t f)
 
-dashes-letter : (st : Stand) (front : List ℕ) (c : ℕ) (t : List ℕ) → nat_eq c 62 ≡ false → nat_eq c 33 ≡ false → nat_eq c 45 ≡ false → comment_after st front (45 ∷ 45 ∷ c ∷ t) ≡ behind (behind (comment_after st (front ++ codes "--") (c ∷ t)))
+-- an item behind a hyphen that ends nothing
+abbrev dashed : Item → Item
+dashed i = marked true (behind i)
+
+dashes-letter : (st : Stand) (front : List ℕ) (c : ℕ) (t : List ℕ) → nat_eq c 62 ≡ false → nat_eq c 33 ≡ false → nat_eq c 45 ≡ false → comment_after st front (45 ∷ 45 ∷ c ∷ t) ≡ dashed (dashed (comment_after st (front ++ codes "--") (c ∷ t)))
 dashes-letter st front c t e f g =
     comment-goes_on st front 45 (45 ∷ c ∷ t) (end-dashes c t e f)
-    ∙ ap behind (dash-letter st (front ++ 45 ∷ []) c t g ∙ ap (λ x. behind (comment_after st x (c ∷ t))) (append_assoc front (45 ∷ []) (45 ∷ [])))
+    ∙ ap dashed (dash-letter st (front ++ 45 ∷ []) c t g ∙ ap (λ x. dashed (comment_after st x (c ∷ t))) (append_assoc front (45 ∷ []) (45 ∷ [])))
 
-bang-letter : (st : Stand) (front : List ℕ) (c : ℕ) (t : List ℕ) → nat_eq c 62 ≡ false → comment_after st front (45 ∷ 45 ∷ 33 ∷ c ∷ t) ≡ behind (behind (behind (comment_after st (front ++ codes "--!") (c ∷ t))))
+bang-letter : (st : Stand) (front : List ℕ) (c : ℕ) (t : List ℕ) → nat_eq c 62 ≡ false → comment_after st front (45 ∷ 45 ∷ 33 ∷ c ∷ t) ≡ dashed (dashed (behind (comment_after st (front ++ codes "--!") (c ∷ t))))
 bang-letter st front c t e =
     comment-goes_on st front 45 (45 ∷ 33 ∷ c ∷ t) (end-bang c t e)
-    ∙ ap behind (comment-goes_on st (front ++ 45 ∷ []) 45 (33 ∷ c ∷ t) (end-dash 33 (c ∷ t) refl)
-    ∙ ap behind (comment-goes_on st ((front ++ 45 ∷ []) ++ 45 ∷ []) 33 (c ∷ t) (end-letter 33 (c ∷ t) refl)
+    ∙ ap dashed (comment-goes_on st (front ++ 45 ∷ []) 45 (33 ∷ c ∷ t) (end-dash 33 (c ∷ t) refl)
+    ∙ ap dashed (comment-goes_on st ((front ++ 45 ∷ []) ++ 45 ∷ []) 33 (c ∷ t) (end-none 33 (c ∷ t) refl)
     ∙ ap (λ x. behind (comment_after st x (c ∷ t))) (append_assoc (front ++ 45 ∷ []) (45 ∷ []) (33 ∷ []) ∙ append_assoc front (45 ∷ []) (codes "-!"))))
 
 -- FAULTS
 
-comment-fault_by : (end : Option ℕ) (faulty : Bool) (st : Stand) (front : List ℕ) (go : Unit {0} → Item) → is_some (go tt).fault ≡ true → is_some (comment_by end faulty st front go).fault ≡ true
-comment-fault_by (Some n) true st front go h = refl
-comment-fault_by (Some n) false st front go h = refl
-comment-fault_by None faulty st front go h = h
+slight-some : (fault : Option Fault) → is_some (and_slight fault) ≡ true
+slight-some None = refl
+slight-some (Some fault) = refl
 
--- every comment has a fault
-comment-fault : (st : Stand) (front t : List ℕ) → is_some (comment_after st front t).fault ≡ true
-comment-fault st front [] = refl
-comment-fault st front (c ∷ t) = comment-fault_by (comment_end (c ∷ t)) (not (begins (codes "-->") (c ∷ t))) st front (λ _. comment_after st (front ++ shown c ∷ []) t) (comment-fault st (front ++ shown c ∷ []) t)
+-- what is marked has a fault
+marked-some : (odd : Bool) (i : Item) → odd ≡ true → is_some (marked odd i).fault ≡ true
+marked-some odd i e = rw e (slight-some i.fault)
+
+comment-fault_by : (end : Option ℕ) (faulty odd : Bool) (st : Stand) (front : List ℕ) (go : Unit {0} → Item) → faulty ≡ true → odd ≡ true → is_some (comment_by end faulty odd st front go).fault ≡ true
+comment-fault_by (Some n) faulty odd st front go e f = rw e refl
+comment-fault_by None faulty odd st front go e f = marked-some odd (behind (go tt)) f
+
+-- a comment with U+0000 has a fault
+null-fault : (st : Stand) (front : List ℕ) (c : ℕ) (t : List ℕ) → nat_eq c 0 ≡ true → is_some (comment_after st front (c ∷ t)).fault ≡ true
+null-fault st front c t e =
+    let null : c ≡ 0 = eqb-true c 0 e in
+    ap (λ i. is_some i.fault) (comment-goes_on st front c t (end-none c t (ap (λ d. nat_eq d 45) null)))
+    ∙ marked-some (is_odd_in_comment c) (behind (comment_after st (front ++ shown c ∷ []) t)) (ap is_odd_in_comment null)
+
+-- and so has one in which "--" stands, and no ">" behind it
+dashes-fault : (st : Stand) (front : List ℕ) (c : ℕ) (t : List ℕ) → nat_eq 62 c ≡ false → is_some (comment_after st front (45 ∷ 45 ∷ c ∷ t)).fault ≡ true
+dashes-fault st front c t e = comment-fault_by (comment_end (45 ∷ 45 ∷ c ∷ t)) _ true st front (λ _. comment_after st (front ++ 45 ∷ []) (45 ∷ c ∷ t)) (rw e refl) refl
 
 bogus-fault_by : (ends : Bool) (st : Stand) (front : List ℕ) (go : Unit {0} → Item) → is_some (go tt).fault ≡ true → is_some (bogus_by ends st front go).fault ≡ true
 bogus-fault_by true st front go h = refl
 bogus-fault_by false st front go h = h
 
--- and so has every bogus comment
+-- every bogus comment has a fault
 bogus-fault : (st : Stand) (front t : List ℕ) → is_some (bogus_comment_after st front t).fault ≡ true
 bogus-fault st front [] = refl
 bogus-fault st front (c ∷ t) = bogus-fault_by (nat_eq c 62) st front (λ _. bogus_comment_after st (front ++ shown c ∷ []) t) (bogus-fault st (front ++ shown c ∷ []) t)
@@ -132,13 +131,9 @@ module _ {K H : Type 0} (Sink : Ghosts K H) (laws : SinkLaws Sink.is_sound Sink.
   unfolding held_at
   start_dash-says old b s h t = comment-says (Some Grave) old b s h [] t (45 ∷ 62 ∷ t) 2 _ refl refl refl
 
-  end-mark : (t : List ℕ) → comment_end (45 ∷ 45 ∷ 62 ∷ t) ≡ Some 3
-  end-mark [] = refl
-  end-mark (c ∷ t) = refl
-
-  pub end_state-says : (old : Tokenizer K) → CommentSays state.CommentEnd old (owed_for (Some Slight)) old.comment
+  pub end_state-says : (old : Tokenizer K) → CommentSays state.CommentEnd old nothing_owed old.comment
   unfolding held_at
-  end_state-says old b s h t = comment-says (Some Slight) old b s h old.comment t (45 ∷ 45 ∷ 62 ∷ t) 3 (comment_after (standing old InData) old.comment (45 ∷ 45 ∷ 62 ∷ t)) (rw (end-mark t) refl) refl refl
+  end_state-says old b s h t = comment-says None old b s h old.comment t (45 ∷ 45 ∷ 62 ∷ t) 3 (comment_after (standing old InData) old.comment (45 ∷ 45 ∷ 62 ∷ t)) (rw (end-mark t) refl) refl refl
 
   pub end_bang-says : (old : Tokenizer K) → CommentSays state.CommentEndBang old a_fault old.comment
   unfolding held_at
@@ -147,10 +142,6 @@ module _ {K H : Type 0} (Sink : Ghosts K H) (laws : SinkLaws Sink.is_sound Sink.
   -- The comment was told, or could not be told.
   pub comment-took : {owed : Owed} (old new : Tokenizer K) (c : ℕ) (st : State) (front : List ℕ) → c ≡ 62 → IsAt old st → Sink.is_sound (Sink.view old.sink) → Told Sink owed (CommentToken front) (emitted old) new → CommentSays st old owed front → Took Sink old new c flow.Continue
   comment-took old new c st front e from ok told says = emitted-took Sink laws old (emitted old) new c st (CommentToken front) e from ok refl refl (record { state = refl; fresh = from.fresh }) told says
-
-  -- The same of a comment that ended well, of which no error was told.
-  pub comment-took_well : (old new : Tokenizer K) (c : ℕ) (st : State) (front : List ℕ) → c ≡ 62 → IsAt old st → Sink.is_sound (Sink.view old.sink) → Told Sink nothing_owed (CommentToken front) (emitted old) new → CommentSays st old (owed_for (Some Slight)) front → Took Sink old new c flow.Continue
-  comment-took_well old new c st front e from ok told says = comment-took old new c st front e from ok (tells-less Sink laws nothing_owed (owed_for (Some Slight)) (emitted old) new (CommentToken front) (Ok tt) (slighted-no-more true None) told) says
 
   pub comment-failed : (owed : Owed) (old new : Tokenizer K) (c : ℕ) (st : State) (front : List ℕ) (result : Result (ProcessResult H) ParseFault) (fault : ParseFault) → c ≡ 62 → IsAt old st → Sink.is_sound (Sink.view old.sink) → IsErrAnd result (λ y. y ≡ fault)
       → Falls Sink old.sink new.sink (Sink.step (Sink.view old.sink) (CommentToken front) (line_number old.stream.breaks)) fault → CommentSays st old owed front → Keeps Sink old new c result
@@ -162,13 +153,13 @@ module _ {K H : Type 0} (Sink : Ghosts K H) (laws : SinkLaws Sink.is_sound Sink.
     unfolding held_at
     bogus-absorbs from = state-absorbs Sink old c state.BogusComment from (λ b s t. item-absorbs Sink laws old (bogus_comment_after (standing old InData) old.comment (c ∷ t)) b s (c ∷ t) (bogus-fault (standing old InData) old.comment (c ∷ t)))
 
-    pub comment-absorbs : IsAt old state.Comment → Absorbs Sink old c
+    pub comment-absorbs : IsAt old state.Comment → nat_eq c 0 ≡ true → Absorbs Sink old c
     unfolding held_at
-    comment-absorbs from = state-absorbs Sink old c state.Comment from (λ b s t. item-absorbs Sink laws old (comment_after (standing old InData) old.comment (c ∷ t)) b s (c ∷ t) (comment-fault (standing old InData) old.comment (c ∷ t)))
+    comment-absorbs from e = state-absorbs Sink old c state.Comment from (λ b s t. item-absorbs Sink laws old (comment_after (standing old InData) old.comment (c ∷ t)) b s (c ∷ t) (null-fault (standing old InData) old.comment c t e))
 
-    pub end-absorbs : IsAt old state.CommentEnd → Absorbs Sink old c
+    pub end-absorbs : IsAt old state.CommentEnd → nat_eq 62 c ≡ false → Absorbs Sink old c
     unfolding held_at
-    end-absorbs from = state-absorbs Sink old c state.CommentEnd from (λ b s t. item-absorbs Sink laws old (comment_after (standing old InData) old.comment (45 ∷ 45 ∷ c ∷ t)) b s (45 ∷ 45 ∷ c ∷ t) (comment-fault (standing old InData) old.comment (45 ∷ 45 ∷ c ∷ t)))
+    end-absorbs from e = state-absorbs Sink old c state.CommentEnd from (λ b s t. item-absorbs Sink laws old (comment_after (standing old InData) old.comment (45 ∷ 45 ∷ c ∷ t)) b s (45 ∷ 45 ∷ c ∷ t) (dashes-fault (standing old InData) old.comment c t e))
 
   -- A character more of the comment is held, or of what may end it.
   module _ (old : Tokenizer K) (c : ℕ) (ok : Sink.is_sound (Sink.view old.sink)) where
@@ -177,19 +168,19 @@ module _ {K H : Type 0} (Sink : Ghosts K H) (laws : SinkLaws Sink.is_sound Sink.
         → Took Sink old (holding old front st') c flow.Continue
     moves st st' front from law = took Sink old (holding old front st') c st st' from (record { state = refl; fresh = from.fresh }) refl refl ok law
 
-    -- the same where the machine stays in its state
-    grows : (st : State) (front : List ℕ) → IsAt old st
-        → ((b : ℕ) (s : Sink.State × Notes ℕ) (t : List ℕ) → at Sink st old b s (c ∷ t) ≡ at Sink st (record old { comment = front }) (b + line_break (nat_eq c 10)) s t)
+    -- the same where the machine stays in its state, and the character may be odd
+    grows : (odd : Bool) (st : State) (front : List ℕ) → IsAt old st
+        → ((b : ℕ) (s : Sink.State × Notes ℕ) (t : List ℕ) → at Sink st old b s (c ∷ t) ≡ at Sink st (record old { comment = front }) (b + line_break (nat_eq c 10)) (erred_by noting_error (slight_if odd) s) t)
         → Took Sink old (record old { comment = front }) c flow.Continue
-    grows st front from law = took Sink old (record old { comment = front }) c st st from (record { state = from.state; fresh = from.fresh }) refl refl ok law
+    grows odd st front from law = took_odd Sink odd old (record old { comment = front }) c st st from (record { state = from.state; fresh = from.fresh }) refl refl ok law
 
     pub bogus-push : (front : List ℕ) → IsAt old state.BogusComment → nat_eq c 62 ≡ false → front ≡ old.comment ++ shown c ∷ [] → Took Sink old (record old { comment = front }) c flow.Continue
     unfolding held_at
-    bogus-push front from e is = rw is (grows state.BogusComment (old.comment ++ shown c ∷ []) from (λ b s t. play-is (listening Sink) (rows_of old) _ _ b s c t (rw e refl)))
+    bogus-push front from e is = rw is (grows false state.BogusComment (old.comment ++ shown c ∷ []) from (λ b s t. play-is (listening Sink) (rows_of old) _ _ b s c t (rw e refl)))
 
     pub comment-push : (front : List ℕ) → IsAt old state.Comment → nat_eq c 45 ≡ false → front ≡ old.comment ++ shown c ∷ [] → Took Sink old (record old { comment = front }) c flow.Continue
     unfolding held_at
-    comment-push front from e is = rw is (grows state.Comment (old.comment ++ shown c ∷ []) from (λ b s t. play-is (listening Sink) (rows_of old) _ _ b s c t (comment-goes_on (standing old InData) old.comment c t (end-letter c t e))))
+    comment-push front from e is = rw is (grows (is_odd_in_comment c) state.Comment (old.comment ++ shown c ∷ []) from (λ b s t. play-odd (listening Sink) (rows_of old) slight-absorbed (is_odd_in_comment c) _ _ b s c t (comment-goes_on (standing old InData) old.comment c t (end-none c t e))))
 
   -- A dash or "!" is held beside the comment.
   module _ (old : Tokenizer K) (ok : Sink.is_sound (Sink.view old.sink)) where
@@ -215,47 +206,52 @@ module _ {K H : Type 0} (Sink : Ghosts K H) (laws : SinkLaws Sink.is_sound Sink.
 
     pub end-dash_more : (front : List ℕ) → front ≡ old.comment ++ 45 ∷ [] → IsAt old state.CommentEnd → Took Sink old (record old { comment = front }) 45 flow.Continue
     unfolding held_at
-    end-dash_more front is from = rw is (grows old 45 ok state.CommentEnd (old.comment ++ 45 ∷ []) from (λ b s t.
-        play-is (listening Sink) (rows_of old) _ _ b s 45 (45 ∷ 45 ∷ t) (comment-goes_on (standing old InData) old.comment 45 (45 ∷ 45 ∷ t) (end-dashes 45 t refl refl))))
+    end-dash_more front is from = rw is (grows old 45 ok true state.CommentEnd (old.comment ++ 45 ∷ []) from (λ b s t.
+        play-odd (listening Sink) (rows_of old) slight-absorbed true _ _ b s 45 (45 ∷ 45 ∷ t) (comment-goes_on (standing old InData) old.comment 45 (45 ∷ 45 ∷ t) (end-dashes 45 t refl refl))))
 
-  -- What was held ends nothing, and the character is of the comment.
+  -- an item behind a hyphen that ends nothing, which is slight
+  behind-dash : (old : Tokenizer K) (i j : Item) (b : ℕ) (s : Sink.State × Notes ℕ) (u : List ℕ) → i ≡ dashed j → plays Sink (rows_of old) i b s (45 ∷ u) ≡ plays Sink (rows_of old) j b (noting_error Slight s) u
+  behind-dash old i j b s u is = play-odd (listening Sink) (rows_of old) slight-absorbed true i j b s 45 u is ∙ ap (λ x. plays Sink (rows_of old) j x (noting_error Slight s) u) (no-break b 45 refl)
+
+  -- What was held ends nothing, and the character is of the comment. Where a hyphen was held, that is slight.
   module _ (old new : Tokenizer K) (c : ℕ) (result : Result (ProcessResult H) ParseFault) (front : List ℕ) (keeps : Keeps Sink (holding old front state.Comment) new c result) where
-    goes-on : (st : State) → IsAt old st → ((b : ℕ) (s : Sink.State × Notes ℕ) (t : List ℕ) → at Sink st old b s (c ∷ t) ≡ at Sink state.Comment (holding old front state.Comment) b s (c ∷ t)) → Keeps Sink old new c result
-    goes-on st from law = keeps_silent Sink old (holding old front state.Comment) new c st state.Comment result from (record { state = refl; fresh = from.fresh }) refl refl law keeps
+    goes-on : (odd : Bool) (st : State) → IsAt old st → ((b : ℕ) (s : Sink.State × Notes ℕ) (t : List ℕ) → at Sink st old b s (c ∷ t) ≡ at Sink state.Comment (holding old front state.Comment) b (erred_by noting_error (slight_if odd) s) (c ∷ t)) → Keeps Sink old new c result
+    goes-on odd st from law = keeps_odd Sink odd old (holding old front state.Comment) new c st state.Comment result from (record { state = refl; fresh = from.fresh }) refl refl law keeps
 
     pub start-other : IsAt old state.CommentStart → front ≡ [] → nat_eq 62 c ≡ false → nat_eq 45 c ≡ false → Keeps Sink old new c result
     unfolding held_at
-    start-other from is e f = goes-on state.CommentStart from (λ b s t.
-        ap (λ i. plays Sink (rows_of old) i b s (c ∷ t)) (at-other (standing old InData) c t e f)
+    start-other from is e f = goes-on false state.CommentStart from (λ b s t.
+        ap (λ i. plays Sink (rows_of old) i b s (c ∷ t)) (begun-by (standing old InData) c t e f)
         ∙ ap (λ x. plays Sink (rows_of old) (comment_after (standing old InData) x (c ∷ t)) b s (c ∷ t)) (sym is))
 
     pub start_dash-other : IsAt old state.CommentStartDash → front ≡ 45 ∷ [] → nat_eq 62 c ≡ false → nat_eq c 45 ≡ false → Keeps Sink old new c result
     unfolding held_at
-    start_dash-other from is e f = goes-on state.CommentStartDash from (λ b s t.
-        behind-one Sink laws old 45 refl (comment_at (standing old InData) (45 ∷ c ∷ t)) (comment_after (standing old InData) (45 ∷ []) (c ∷ t)) b s (c ∷ t) (at-dash (standing old InData) c t e f)
-        ∙ ap (λ x. plays Sink (rows_of old) (comment_after (standing old InData) x (c ∷ t)) b s (c ∷ t)) (sym is))
+    start_dash-other from is e f = goes-on true state.CommentStartDash from (λ b s t.
+        behind-dash old (comment_at (standing old InData) (45 ∷ c ∷ t)) (comment_after (standing old InData) (45 ∷ []) (c ∷ t)) b s (c ∷ t) (at-dash (standing old InData) c t e f)
+        ∙ ap (λ x. plays Sink (rows_of old) (comment_after (standing old InData) x (c ∷ t)) b (noting_error Slight s) (c ∷ t)) (sym is))
 
     pub end_dash-other : IsAt old state.CommentEndDash → front ≡ old.comment ++ 45 ∷ [] → nat_eq c 45 ≡ false → Keeps Sink old new c result
     unfolding held_at
-    end_dash-other from is e = goes-on state.CommentEndDash from (λ b s t.
-        behind-one Sink laws old 45 refl _ _ b s (c ∷ t) (dash-letter (standing old InData) old.comment c t e)
-        ∙ ap (λ x. plays Sink (rows_of old) (comment_after (standing old InData) x (c ∷ t)) b s (c ∷ t)) (sym is))
+    end_dash-other from is e = goes-on true state.CommentEndDash from (λ b s t.
+        behind-dash old _ _ b s (c ∷ t) (dash-letter (standing old InData) old.comment c t e)
+        ∙ ap (λ x. plays Sink (rows_of old) (comment_after (standing old InData) x (c ∷ t)) b (noting_error Slight s) (c ∷ t)) (sym is))
 
     pub end-other : IsAt old state.CommentEnd → front ≡ old.comment ++ codes "--" → nat_eq c 62 ≡ false → nat_eq c 33 ≡ false → nat_eq c 45 ≡ false → Keeps Sink old new c result
     unfolding held_at
-    end-other from is e f h = goes-on state.CommentEnd from (λ b s t.
-        behind-one Sink laws old 45 refl _ _ b s (45 ∷ c ∷ t) (dashes-letter (standing old InData) old.comment c t e f h)
-        ∙ behind-one Sink laws old 45 refl _ _ b s (c ∷ t) refl
-        ∙ ap (λ x. plays Sink (rows_of old) (comment_after (standing old InData) x (c ∷ t)) b s (c ∷ t)) (sym is))
+    end-other from is e f h = goes-on true state.CommentEnd from (λ b s t.
+        let left : Item = comment_after (standing old InData) (old.comment ++ codes "--") (c ∷ t) in
+        behind-dash old (comment_after (standing old InData) old.comment (45 ∷ 45 ∷ c ∷ t)) (dashed left) b s (45 ∷ c ∷ t) (dashes-letter (standing old InData) old.comment c t e f h)
+        ∙ behind-dash old (dashed left) left b (noting_error Slight s) (c ∷ t) refl
+        ∙ ap (λ x. plays Sink (rows_of old) (comment_after (standing old InData) x (c ∷ t)) b (noting_error Slight s) (c ∷ t)) (sym is))
 
     pub bang-other : IsAt old state.CommentEndBang → front ≡ old.comment ++ codes "--!" → nat_eq c 62 ≡ false → Keeps Sink old new c result
     unfolding held_at
-    bang-other from is e = goes-on state.CommentEndBang from (λ b s t.
+    bang-other from is e = goes-on true state.CommentEndBang from (λ b s t.
         let left : Item = comment_after (standing old InData) (old.comment ++ codes "--!") (c ∷ t) in
-        behind-one Sink laws old 45 refl (comment_after (standing old InData) old.comment (45 ∷ 45 ∷ 33 ∷ c ∷ t)) (behind (behind left)) b s (45 ∷ 33 ∷ c ∷ t) (bang-letter (standing old InData) old.comment c t e)
-        ∙ behind-one Sink laws old 45 refl (behind (behind left)) (behind left) b s (33 ∷ c ∷ t) refl
-        ∙ behind-one Sink laws old 33 refl (behind left) left b s (c ∷ t) refl
-        ∙ ap (λ x. plays Sink (rows_of old) (comment_after (standing old InData) x (c ∷ t)) b s (c ∷ t)) (sym is))
+        behind-dash old (comment_after (standing old InData) old.comment (45 ∷ 45 ∷ 33 ∷ c ∷ t)) (dashed (behind left)) b s (45 ∷ 33 ∷ c ∷ t) (bang-letter (standing old InData) old.comment c t e)
+        ∙ behind-dash old (dashed (behind left)) (behind left) b (noting_error Slight s) (33 ∷ c ∷ t) refl
+        ∙ behind-one Sink laws old 33 refl (behind left) left b (noting_error Slight s) (c ∷ t) refl
+        ∙ ap (λ x. plays Sink (rows_of old) (comment_after (standing old InData) x (c ∷ t)) b (noting_error Slight s) (c ∷ t)) (sym is))
 
   -- States within a comment that are never entered are read as those that they stand for.
   module _ (old new : Tokenizer K) (c : ℕ) (result : Result (ProcessResult H) ParseFault) where

@@ -9,7 +9,7 @@ use Rattle.html_tokens.specs.Sink.{one_more, Counts, CountsOwn}
 use Rattle.html_tokens.specs.declared.token.Token.{Token}
 use Rattle.html_tokens.specs.declared.token.Token.TheVariants.{ParseError}
 use Rattle.html_tokenizer.specs.Calls.{owed_for_text}
-use Rattle.html_tokenizer_parts.specs.Forbidden.{is_forbidden}
+use Rattle.html_tokens.specs.Forbidden.{is_forbidden}
 use Rattle.html_tokenizer.specs.Steps.{IsNoTag, Owed, nothing_owed, owed_for, owed_for_each, how_many, and_heard, together, Rises, and_more, more}
 
 capped : (a b c m n : ℕ) → min (a + m) 0xffff_ffff_ffff_ffff ≤ b → min (b + n) 0xffff_ffff_ffff_ffff ≤ c → min (a + (n + m)) 0xffff_ffff_ffff_ffff ≤ c

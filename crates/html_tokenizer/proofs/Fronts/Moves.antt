@@ -12,8 +12,9 @@ use Rattle.html_queue.proofs.Taking.{filled}
 use Rattle.html_tokens.specs.declared.replies.ProcessResult.{ProcessResult}
 use Rattle.html_tokens.specs.declared.replies.ProcessResult.TheVariants as flow
 use Rattle.html_tokens.specs.declared.sink.TokenSink.{Ghosts}
+use Rattle.html_tokens.specs.declared.states.State.{State}
 use Rattle.html_tokenizer.specs.Calls.{IsReady, Moves, owed_for_text}
-use Rattle.html_tokenizer.specs.Fronts.{ReadsTags, TakesFront}
+use Rattle.html_tokenizer.specs.Fronts.{ReadsAhead, TakesFront}
 use Rattle.html_tokenizer_parts.specs.Input.{coming_in}
 use Rattle.html_tokenizer.specs.declared.tokenizer.Tokenizer.{Tokenizer}
 use Rattle.html_tokenizer.specs.Steps.{Rises, more, now, together}
@@ -44,9 +45,9 @@ module _ {K H : Type 0} (Sink : Ghosts K H) where
   heeding k = record k { stream = record k.stream { ignore_lf = false } }
 
   -- what was taken is what the queue lost
-  pub moved-front : (old new : Tokenizer K) (from to : Queue) (text spelled rest : List ℕ) (width : ℕ) → ReadsTags old → text ≡ spelled → width ≡ length text - length rest → length rest < length text → TakesFront Sink (heeding old) new text rest
+  pub moved-front : (st : State) (old new : Tokenizer K) (from to : Queue) (text spelled rest : List ℕ) (width : ℕ) → ReadsAhead old st → text ≡ spelled → width ≡ length text - length rest → length rest < length text → TakesFront Sink (heeding old) new text rest
       → Takes (chars (take width spelled)) from to → Moves Sink old new from to (Ok flow.Continue)
-  moved-front old new from to text spelled rest width reads e is shorter front takes =
+  moved-front st old new from to text spelled rest width reads e is shorter front takes =
       let run = chars front.front in
       let p = front.took in
       let mid = heeding old in

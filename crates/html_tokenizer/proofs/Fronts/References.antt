@@ -1,26 +1,50 @@
--- References that are held from the front of a text at once.
-use Rattle.std.proofs.Common.{◌≡◌, ◌∙◌, ℕ, ◌<◌, true, false, nat_eq, Bool, List, [], ◌∷◌, ◌++◌, length, Some, refl, sym, ap, subst, arith, append_assoc, length-append}
-use Rattle.std.specs.List.{list_all}
-use Rattle.std.specs.Str.{IsUtf8, chars}
-use Rattle.std.proofs.lemmas.Bool.{and_parts}
-use Rattle.std.proofs.lemmas.Bool.Decides.{nat_tests}
+-- References by name that are read from the front of a text at once.
+use Rattle.std.proofs.Common.{◌≡◌, ◌∙◌, ℕ, ◌-◌, ◌<◌, true, false, nat_eq, Bool, List, [], ◌∷◌, ◌++◌, length, take, Option, Result, Ok, Err, refl, sym, ap, subst, arith, append_assoc, append-nil, length-append}
+use Rattle.std.specs.List.{ends_with, list_all}
+use Rattle.std.specs.Result.{IsErrAnd}
+use Rattle.std.specs.Prelude.{IfErr, OnOk, is_some}
+use Rattle.std.specs.Str.{IsCharBoundary, IsUtf8, chars}
+use Rattle.std.proofs.lemmas.Bool.{and_parts, true≢false}
+use Rattle.std.proofs.lemmas.Bool.Decides.{Decides-eqb, nat_tests}
 use Rattle.std.proofs.lemmas.List.Elements.{All-cons, All-nil}
-use Rattle.std.proofs.lemmas.Str.{chars-append, IsUtf8-append, IsUtf8-from_ascii, chars-IsAscii}
+use Rattle.std.proofs.lemmas.Result.{err_from_is_err_and}
+use Rattle.std.proofs.lemmas.Slice.Eq.{ends_is}
+use Rattle.std.proofs.lemmas.Str.{chars-append, IsCharBoundary-from_take, IsUtf8-append, IsUtf8-from_ascii, chars-IsAscii}
+use Rattle.std.proofs.Math.Seq.{take-append_seam}
+use Rattle.markup.specs.declared.fault.ParseFault.{ParseFault}
+use Rattle.markup.specs.declared.fault.ParseFault.TheVariants.{Memory}
+use Rattle.html_queue.specs.Queue.{Queue, Takes}
+use Rattle.html_references.specs.References.{IsCheckedTable, is_front}
+use Rattle.html_references.proofs.WholeNames.{whole-read, whole-row, whole-stops}
+use Rattle.html_tokens.specs.declared.replies.ProcessResult.{ProcessResult}
 use Rattle.html_tokens.specs.declared.sink.TokenSink.{Ghosts}
+use Rattle.html_tokens.specs.declared.states.AttrValueKind.{AttrValueKind}
+use Rattle.html_tokens.specs.declared.states.State.{State}
 use Rattle.html_tokens.specs.declared.states.State.TheVariants as state
-use Rattle.html_tokenizer.specs.Calls.{TookRun}
-use Rattle.html_tokenizer_parts.specs.CharRefs.{is_held, is_held_front}
-use Rattle.html_tokenizer.specs.Fronts.{HoldsName, IsReferenceAt, ReadsTags, TakesFront}
-use Rattle.html_tokenizer_parts.specs.Input.{IsUnbroken}
+use Rattle.html_tokens.specs.declared.table.ReferenceRow.{ReferenceRow}
+use Rattle.html_tokens.specs.declared.token.Token.TheVariants.{CharacterTokens}
+use Rattle.html_tokens.specs.Notes.{Notes, noting}
+use Rattle.html_tokens.specs.Reading.{◌>>=◌, line_number}
+use Rattle.html_tokens.specs.Item.{slight_if}
+use Rattle.html_tokens.specs.Reference.{Reference, fault_of_reference, reference_at}
+use Rattle.html_tokens.specs.Sink.{SinkLaws}
+use Rattle.html_tokenizer.specs.Calls.{KeepsRun, Moves, TookRun}
+use Rattle.html_tokenizer_parts.specs.CharRefs.{decided, fits_in, is_front_by, is_held, resolved, resolved_by}
+use Rattle.html_tokenizer_parts.proofs.CharRefs.{fault-decided, reference-end}
+use Rattle.html_tokenizer_parts.proofs.HeldFronts.{front-held, hash-unnamed}
+use Rattle.html_tokenizer_parts.proofs.InputRuns.{front-comes}
+use Rattle.html_tokenizer.specs.Fronts.{IsReferenceAt, IsWholeName, ReadsAhead, TakesFront}
+use Rattle.html_tokenizer_parts.specs.Input.{IsUnbroken, coming_in}
 use Rattle.html_tokenizer.specs.Rest.{rows_of}
-use Rattle.html_tokenizer.specs.Steps.{IsAt, nothing_owed}
-use Rattle.html_tokenizer_parts.specs.declared.held_reference.Ampersand.TheVariants.{Held}
+use Rattle.html_tokenizer.specs.Steps.{IsAt, Tells, and_heard, more, now, owed_for}
 use Rattle.html_tokenizer.specs.declared.tokenizer.Tokenizer.{Tokenizer}
+use Rattle.html_tokenizer.proofs.Feeds.Pieces.{comes-to}
 use Rattle.html_tokenizer.proofs.Fronts.Texts.{ascii-one, chars-cons, utf8-cons}
 use Rattle.html_tokenizer.proofs.Fronts.Moves.{heeding}
-use Rattle.html_tokenizer.proofs.Steps.Keeping.{now-at, stays-same}
-use Rattle.html_tokenizer.proofs.HeldReferences.Holding.{now-held}
-use Rattle.html_tokenizer.proofs.Errors.Rises.{rises-same}
+use Rattle.html_tokenizer.proofs.Errors.Rises.{rises-slight}
+use Rattle.html_tokenizer.proofs.HeldReferences.InText.{data-at_end, data-resolves}
+use Rattle.html_tokenizer.proofs.HeldReferences.InValues.{value-at_end, value-resolves, wronged_by}
+use Rattle.html_tokenizer.proofs.Steps.Keeping.{at, fails-along, fell-same, fits-at, now-at, now-target, stays-same, told-next, token-fails}
 
 held-no_break : (c : ℕ) → is_held c ≡ true → (nat_eq c 10 ≡ false) × (nat_eq c 13 ≡ false)
 held-no_break c h = (grind (arith, nat_tests, h), grind (arith, nat_tests, h))
@@ -38,44 +62,155 @@ spelled name utf8 =
     chars-cons 38 (name ++ 59 ∷ []) (omega arith)
     ∙ ap (λ u. 38 ∷ u) (chars-append name (59 ∷ []) utf8 ∙ ap (λ u. chars name ++ u) (chars-IsAscii (59 ∷ []) (ascii-one 59 (omega arith))))
 
-module _ {K : Type 0} where
-  -- what some name begins with is held
-  pub holds-name : (old : Tokenizer K) (cs text : List ℕ) → text ≡ cs → (is_held_front (rows_of old) cs ≡ true) × (list_all is_held cs ≡ true) → HoldsName true old (record old { char_ref = Some (Held text) }) cs
-  holds-name old cs text e h = rw e (refl, h.0, h.1)
+-- what begins a name of the table and ends in ";" is a whole name
+pub whole-name : (rows : List ReferenceRow) → IsCheckedTable rows → (cs : List ℕ) → is_front rows cs ≡ true → ends_with nat_eq cs (59 ∷ []) ≡ true → IsWholeName rows cs
+whole-name rows checked [] f e = absurd (true≢false (sym e))
+whole-name rows checked (h ∷ hs) f e =
+    let p = front-held rows checked (h ∷ hs) f in
+    let r = whole-row rows (h ∷ hs) checked.names f e in
+    let read = whole-read rows checked r.0 r.1 (ap (λ name. ends_with nat_eq name (59 ∷ [])) r.2 ∙ e) true in
+    record {
+      checked = checked;
+      front = p.0;
+      held = p.1;
+      ends = λ c. ap (λ b. is_front_by b rows h (hs ++ c ∷ [])) (hash-unnamed h hs rows checked.names f) ∙ whole-stops rows checked (h ∷ hs) c e;
+      same = λ t.
+          ap (λ name. reference_at true rows (name ++ t)) (sym r.2)
+          ∙ (read t ∙ sym (read [])
+          ∙ (ap (reference_at true rows) (append-nil ((r.0).name)) ∙ ap (reference_at true rows) r.2));
+    }
+
+semicolon-ends : (cs : List ℕ) → ends_with nat_eq (cs ++ 59 ∷ []) (59 ∷ []) ≡ true
+semicolon-ends cs = (ends_is Decides-eqb (cs ++ 59 ∷ []) (59 ∷ []) _ refl).1 cs refl
+
+-- the same of a text that was found to be such a front
+pub whole-found : (rows : List ReferenceRow) → IsCheckedTable rows → (cs text : List ℕ) (found : Bool) → found ≡ is_front rows text → text ≡ cs ++ 59 ∷ [] → found ≡ true → IsWholeName rows (cs ++ 59 ∷ [])
+whole-found rows checked cs text found e is h = whole-name rows checked (cs ++ 59 ∷ []) (ap (is_front rows) (sym is) ∙ (sym e ∙ h)) (semicolon-ends cs)
+
+module _ {K H : Type 0} (Sink : Ghosts K H) (laws : SinkLaws Sink.is_sound Sink.step Sink.ended Sink.is_quiet) where
+  -- a whole name is told in data as what it stands for, whatever follows
+  whole-says : (old : Tokenizer K) (cs : List ℕ) → IsWholeName (rows_of old) cs → (b : ℕ) (s : Sink.State × Notes ℕ) → Sink.is_sound s.0 → (t : List ℕ)
+      → at Sink state.Data old b s (38 ∷ cs ++ t) ≡ (noting Sink.step Sink.is_quiet (s.0, more (owed_for (fault_of_reference (rows_of old) cs)) s.1) (CharacterTokens (resolved false (rows_of old) cs false)) (line_number b) >>= λ p. at Sink state.Data old b p.0 t)
+  whole-says old cs whole b s h [] = data-at_end Sink laws old cs whole.held b s h
+  whole-says old cs whole b s h (c ∷ t) = data-resolves Sink laws old cs c (record { checked = whole.checked; held = whole.held; front = whole.front; ends = whole.ends c }) b s h t
+
+  pub whole-told : (old new : Tokenizer K) (cs : List ℕ) (result : Result (Unit {0}) ParseFault) → IsAt old state.Data → Sink.is_sound (Sink.view old.sink) → IsWholeName (rows_of old) cs
+      → Tells Sink (owed_for (fault_of_reference (rows_of old) cs)) (CharacterTokens (resolved false (rows_of old) cs false)) old new result → KeepsRun Sink old new (38 ∷ cs) result
+  whole-told old new cs (Ok x) from ok whole told =
+      let token = CharacterTokens (resolved false (rows_of old) cs false) in
+      let owed = owed_for (fault_of_reference (rows_of old) cs) in
+      let heard = and_heard (Sink.is_quiet (Sink.view old.sink) token) owed in
+      record {
+        paused = tt;
+        owed = heard;
+        rises = told.rises;
+        same = λ notes t.
+            now-at Sink old state.Data old.stream.breaks (Sink.view old.sink, notes) ((38 ∷ cs) ++ t) from
+            ∙ whole-says old cs whole old.stream.breaks (Sink.view old.sink, notes) ok t
+            ∙ told-next Sink owed old new token notes (λ s. at Sink state.Data old old.stream.breaks s t) told
+            ∙ sym (now-target Sink old new.sink state.Data old.stream.breaks (Sink.view new.sink, more heard notes) t from)
+            ∙ sym (ap (λ k. now Sink k old.stream.breaks (Sink.view new.sink, more heard notes) t) told.changed);
+        stream = ap (λ k. k.stream) told.changed;
+        sound = told.sound;
+        fits = ap (λ (k : Tokenizer K). fits_in (rows_of k) k.char_ref k.state) told.changed ∙ fits-at old state.Data from;
+        stays = told.stays;
+      }
+  whole-told old new cs (Err fault) from ok whole fails = (
+    fails.0,
+    λ notes t.
+        token-fails Sink old.sink new.sink _ (Sink.view old.sink) (more (owed_for (fault_of_reference (rows_of old) cs)) notes) (CharacterTokens (resolved false (rows_of old) cs false)) (line_number old.stream.breaks) fault _ fails.1
+        (now-at Sink old state.Data old.stream.breaks (Sink.view old.sink, notes) ((38 ∷ cs) ++ t) from ∙ whole-says old cs whole old.stream.breaks (Sink.view old.sink, notes) ok t),
+  )
 
 module _ {K H : Type 0} (Sink : Ghosts K H) where
-  held-run : (old : Tokenizer K) (cs : List ℕ) → IsAt old state.Data → Sink.is_sound (Sink.view old.sink) → is_held_front (rows_of old) cs ≡ true → TookRun Sink old (record old { char_ref = Some (Held cs) }) (38 ∷ cs)
-  held-run old cs from ok front = record {
-    paused = tt;
-    owed = nothing_owed;
-    rises = rises-same Sink.errors old.sink old.sink refl;
-    same = λ notes t.
-        now-at Sink old state.Data old.stream.breaks (Sink.view old.sink, notes) ((38 ∷ cs) ++ t) from
-        ∙ sym (now-held Sink old state.Data cs old.stream.breaks (Sink.view old.sink, notes) t from.state refl);
-    stream = refl;
-    sound = ok;
-    fits = rw (front, from.state) refl;
-    stays = stays-same Sink old.sink old.sink refl;
-  }
+  -- the machine with what a whole name stands for behind its value
+  abbrev with_whole : Tokenizer K → List ℕ → Tokenizer K
+  with_whole k cs = record k { attribute_value = k.attribute_value ++ resolved true (rows_of k) cs false }
 
-  pub reference-front : (old new : Tokenizer K) (name rest text : List ℕ) → IsAt old state.Data → Sink.is_sound (Sink.view old.sink) → IsReferenceAt name rest text
-      → new ≡ record old { char_ref = Some (Held (chars name ++ 59 ∷ [])) } → is_held_front (rows_of old) (chars name ++ 59 ∷ []) ≡ true → list_all is_held (chars name ++ 59 ∷ []) ≡ true
-      → TakesFront Sink old new text rest
-  reference-front old new name rest text from ok at is front held =
-      let e = spelled name at.utf8 in
-      rw is (record {
-        front = 38 ∷ (name ++ 59 ∷ []);
-        whole = at.whole ∙ ap (λ u. 38 ∷ u) (sym (append_assoc name (59 ∷ []) rest));
-        utf8 = utf8-cons 38 (name ++ 59 ∷ []) (omega arith) (IsUtf8-append name (59 ∷ []) at.utf8 (IsUtf8-from_ascii (59 ∷ []) (ascii-one 59 (omega arith))));
-        unbroken = subst IsUnbroken (sym e) (All-cons (λ c. (nat_eq c 10 ≡ false) × (nat_eq c 13 ≡ false)) 38 (chars name ++ 59 ∷ []) (refl, refl) (held-whole (chars name ++ 59 ∷ []) held));
-        took = subst (TookRun Sink old (record old { char_ref = Some (Held (chars name ++ 59 ∷ [])) })) (sym e) (held-run old (chars name ++ 59 ∷ []) from ok front);
+  -- a whole name in a value is read as what it stands for, whatever follows
+  whole-value-says : (kind : AttrValueKind) (old : Tokenizer K) (cs : List ℕ) → IsWholeName (rows_of old) cs → (b : ℕ) (s : Sink.State × Notes ℕ) (t : List ℕ)
+      → at Sink (state.AttributeValue kind) old b s (38 ∷ cs ++ t) ≡ at Sink (state.AttributeValue kind) (with_whole old cs) b (wronged_by Sink old cs s) t
+  whole-value-says kind old cs whole b s [] = value-at_end Sink kind old cs whole.held b s
+  whole-value-says kind old cs whole b s (c ∷ t) =
+      value-resolves Sink kind old cs (c ∷ t) false whole.held (whole.same (c ∷ t) ∙ reference-end true (rows_of old) cs) (fault-decided (rows_of old) cs c t whole.checked whole.front (whole.ends c)) b s
+
+  whole-pushed : (kind : AttrValueKind) (old : Tokenizer K) (cs text : List ℕ) (found : Option Reference) → IsAt old (state.AttributeValue kind) → Sink.is_sound (Sink.view old.sink) → IsWholeName (rows_of old) cs
+      → text ≡ old.attribute_value ++ resolved_by found cs → found ≡ decided true (rows_of old) cs false → KeepsRun Sink old (record old { attribute_value = text }) (38 ∷ cs) (Ok tt)
+  whole-pushed kind old cs text found from ok whole pushed is =
+      let wrong = is_some (fault_of_reference (rows_of old) cs) in
+      let same : text ≡ old.attribute_value ++ resolved true (rows_of old) cs false = pushed ∙ ap (λ o. old.attribute_value ++ resolved_by o cs) is in
+      let there : IsAt (with_whole old cs) (state.AttributeValue kind) = record { state = from.state; fresh = from.fresh } in
+      rw same (record {
+        paused = tt;
+        owed = owed_for (slight_if wrong);
+        rises = rises-slight Sink.errors wrong old.sink old.sink refl;
+        same = λ notes t.
+            now-at Sink old (state.AttributeValue kind) old.stream.breaks (Sink.view old.sink, notes) ((38 ∷ cs) ++ t) from
+            ∙ whole-value-says kind old cs whole old.stream.breaks (Sink.view old.sink, notes) t
+            ∙ sym (now-at Sink (with_whole old cs) (state.AttributeValue kind) old.stream.breaks (wronged_by Sink old cs (Sink.view old.sink, notes)) t there);
+        stream = refl;
+        sound = ok;
+        fits = fits-at (with_whole old cs) (state.AttributeValue kind) there;
+        stays = stays-same Sink old.sink old.sink refl;
       })
 
-  pub reference-taken : (old mid : Tokenizer K) (name rest text : List ℕ) (holds : Bool) → ReadsTags old → Sink.is_sound (Sink.view old.sink) → IsReferenceAt name rest text → holds ≡ true → HoldsName holds old mid (chars name ++ 59 ∷ [])
-      → TakesFront Sink (heeding Sink old) (heeding Sink mid) text rest
-  reference-taken old mid name rest text true reads ok at h p =
-      reference-front (heeding Sink old) (heeding Sink mid) name rest text (record { state = reads.at.state; fresh = reads.at.fresh }) ok at (ap (heeding Sink) p.0) p.1 p.2
-  reference-taken old mid name rest text false reads ok at h p = absurd cc
+  pub whole-taken : (kind : AttrValueKind) (old : Tokenizer K) (cs text : List ℕ) (found : Option Reference) (result : Result (Unit {0}) ParseFault) → IsAt old (state.AttributeValue kind) → Sink.is_sound (Sink.view old.sink) → IsWholeName (rows_of old) cs
+      → OnOk result (text ≡ old.attribute_value ++ resolved_by found cs) → IfErr result (λ fault. fault ≡ Memory) → found ≡ decided true (rows_of old) cs false → KeepsRun Sink old (record old { attribute_value = text }) (38 ∷ cs) result
+  whole-taken kind old cs text found (Ok x) from ok whole pushed memory is = whole-pushed kind old cs text found from ok whole pushed is
+  whole-taken kind old cs text found (Err fault) from ok whole pushed memory is = rw memory (fell-same Sink old.sink old.sink refl ok, λ notes t. tt)
+
+module _ {K H : Type 0} (Sink : Ghosts K H) where
+  -- the bytes of "&", a name and ";" stand at the front of the text, and spell these characters
+  pub record Spells (name rest text : List ℕ) (cs : List ℕ) : Type 0 where
+    pub whole : text ≡ (38 ∷ (name ++ 59 ∷ [])) ++ rest
+    pub utf8 : IsUtf8 (38 ∷ (name ++ 59 ∷ []))
+    pub spelled : chars (38 ∷ (name ++ 59 ∷ [])) ≡ 38 ∷ cs
+
+  pub reference-spells : (name rest text cs : List ℕ) → IsReferenceAt name rest text → cs ≡ chars name ++ 59 ∷ [] → Spells name rest text cs
+  reference-spells name rest text cs at e = record {
+    whole = at.whole ∙ ap (λ u. 38 ∷ u) (sym (append_assoc name (59 ∷ []) rest));
+    utf8 = utf8-cons 38 (name ++ 59 ∷ []) (omega arith) (IsUtf8-append name (59 ∷ []) at.utf8 (IsUtf8-from_ascii (59 ∷ []) (ascii-one 59 (omega arith))));
+    spelled = spelled name at.utf8 ∙ ap (λ u. 38 ∷ u) (sym e);
+  }
+
+  -- the text may be cut behind them
+  pub reference-cut : (name rest text read : List ℕ) (cs : List ℕ) (width : ℕ) → IsUtf8 text → text ≡ read → width ≡ length text - length rest → Spells name rest text cs → IsCharBoundary read width
+  reference-cut name rest text read cs width utf8 e is at =
+      let front = 38 ∷ (name ++ 59 ∷ []) in
+      let n : width ≡ length front = omega (arith, is, ap length at.whole, length-append front rest) in
+      let taken : take (length front) text ≡ front = ap (take (length front)) at.whole ∙ take-append_seam front rest in
+      subst (λ u. IsCharBoundary u width) e
+      (subst (IsCharBoundary text) (sym n)
+      (IsCharBoundary-from_take text (length front) utf8 (omega (arith, ap length at.whole, length-append front rest)) (subst IsUtf8 (sym taken) at.utf8)))
+
+  front-unbroken : (cs : List ℕ) → list_all is_held cs ≡ true → IsUnbroken (38 ∷ cs)
+  front-unbroken cs held = All-cons (λ c. (nat_eq c 10 ≡ false) × (nat_eq c 13 ≡ false)) 38 cs (refl, refl) (held-whole cs held)
+
+  pub reference-taken : (old new : Tokenizer K) (name rest text cs : List ℕ) → Spells name rest text cs → list_all is_held cs ≡ true → KeepsRun Sink old new (38 ∷ cs) (Ok tt) → TakesFront Sink old new text rest
+  reference-taken old new name rest text cs at held p = record {
+    front = 38 ∷ (name ++ 59 ∷ []);
+    whole = at.whole;
+    utf8 = at.utf8;
+    unbroken = subst IsUnbroken (sym at.spelled) (front-unbroken cs held);
+    took = subst (TookRun Sink old new) (sym at.spelled) p;
+  }
+
+  -- the input stays stuck where what it stands for could not be told
+  pub reference-stuck : (st : State) (old new : Tokenizer K) (from to : Queue) (name rest text read cs : List ℕ) (width : ℕ) (fault : ParseFault) (result : Result (ProcessResult H) ParseFault) → ReadsAhead old st → text ≡ read → width ≡ length text - length rest → Spells name rest text cs → list_all is_held cs ≡ true
+      → Takes (chars (take width read)) from to → KeepsRun Sink (heeding Sink old) new (38 ∷ cs) (Err fault) → IsErrAnd result (λ y. y ≡ fault) → Moves Sink old new from to result
+  reference-stuck st old new from to name rest text read cs width fault result reads e is at held takes fails wrong =
+      let p = err_from_is_err_and result wrong in
+      let front = 38 ∷ (name ++ 59 ∷ []) in
+      let run = 38 ∷ cs in
+      let n : width ≡ length front = omega (arith, is, ap length at.whole, length-append front rest) in
+      let taken : chars (take width read) ≡ run = ap (λ u. chars (take width u)) (sym e) ∙ ap (λ k. chars (take k text)) n ∙ ap chars (ap (take (length front)) at.whole ∙ take-append_seam front rest) ∙ at.spelled in
+      let comes : (t : List ℕ) → coming_in old.stream (run ++ t) ≡ run ++ coming_in (heeding Sink old).stream t = λ t. front-comes old.stream run t reads.unmarked (omega arith) (front-unbroken cs held) in
+      rw (p.1, p.2) (record {
+        lost = run;
+        takes = subst (λ u. Takes u from to) taken takes;
+        fell = fails.0;
+        fails = λ notes t. fails-along Sink old.sink new.sink _ _ fault (comes-to Sink old (heeding Sink old) (run ++ t) (run ++ coming_in (heeding Sink old).stream t) notes refl refl (comes t)) (fails.1 notes (coming_in (heeding Sink old).stream t));
+      })
 
   -- less is left than there was
   pub reference-shorter : (name rest text : List ℕ) → IsReferenceAt name rest text → length rest < length text

@@ -50,7 +50,7 @@ module _ {K H : Type 0} (Sink : Ghosts K H) (laws : SinkLaws Sink.is_sound Sink.
       tells-less Sink laws (owed_for (grave_if told)) (owed_for (fault_of_reference (rows_of old) cs)) old new (CharacterTokens (resolved false (rows_of old) cs false)) result (fault-within false (rows_of old) cs false told (sym e ∙ f))
       (rw (is ∙ ap (λ front. front ++ resolved_by o cs) none ∙ ap (λ o. resolved_by o cs) found) at tells)
 
-  data-resolves : (old : Tokenizer K) (cs : List ℕ) (c : ℕ) → IsDecided (rows_of old) cs c → Resolves Sink state.Data old cs c (owed_for (fault_of_reference (rows_of old) cs)) (CharacterTokens (resolved false (rows_of old) cs false))
+  pub data-resolves : (old : Tokenizer K) (cs : List ℕ) (c : ℕ) → IsDecided (rows_of old) cs c → Resolves Sink state.Data old cs c (owed_for (fault_of_reference (rows_of old) cs)) (CharacterTokens (resolved false (rows_of old) cs false))
   unfolding held_at
   data-resolves old cs c d b s h t = reading-held (λ p. Sink.is_sound p.0) (listening Sink) (rows_of old) (noting-lawful Sink.is_sound Sink.step Sink.ended Sink.is_quiet laws) (standing old InData) b s cs (erred-sound Sink.is_sound (fault_of_reference (rows_of old) cs) s h) c t (data-reads old) d
       ∙ ap (λ q. noting Sink.step Sink.is_quiet q (CharacterTokens (resolved false (rows_of old) cs false)) (line_number b) >>= λ p. reads Sink (rows_of old) (standing old InData) b p.0 (c ∷ t)) (erred-more (fault_of_reference (rows_of old) cs) s)

@@ -42,7 +42,7 @@ module _ {K H : Type 0} (Sink : Ghosts K H) where
   wronged_by k cs s = (s.0, more (owed_for (slight_if (is_some (fault_of_reference (rows_of k) cs)))) s.1)
 
   -- what was held and what follows is read as what was held behind the value, and then what follows
-  value-resolves : (kind : AttrValueKind) (old : Tokenizer K) (cs u : List ℕ) (follows : Bool) → list_all is_held cs ≡ true → reference_at true (rows_of old) (cs ++ u) ≡ decided true (rows_of old) cs follows → fault_of_reference (rows_of old) (cs ++ u) ≡ fault_of_reference (rows_of old) cs → (b : ℕ) (s : Sink.State × Notes ℕ)
+  pub value-resolves : (kind : AttrValueKind) (old : Tokenizer K) (cs u : List ℕ) (follows : Bool) → list_all is_held cs ≡ true → reference_at true (rows_of old) (cs ++ u) ≡ decided true (rows_of old) cs follows → fault_of_reference (rows_of old) (cs ++ u) ≡ fault_of_reference (rows_of old) cs → (b : ℕ) (s : Sink.State × Notes ℕ)
       → at Sink (state.AttributeValue kind) old b s (38 ∷ cs ++ u)
       ≡ at Sink (state.AttributeValue kind) (record old { attribute_value = old.attribute_value ++ resolved true (rows_of old) cs follows }) b (wronged_by old cs s) u
   unfolding held_at

@@ -1,5 +1,5 @@
 -- A "<" or "</" in data may open a tag or a comment; comments, declarations and doctypes whose front is held end at ">" or "-->".
-use Rattle.std.proofs.Common.{◌≡◌, ◌∙◌, ℕ, length, Bool, true, false, List, [], ◌∷◌, ◌++◌, Some, refl, ap, lit<}
+use Rattle.std.proofs.Common.{◌≡◌, ◌∙◌, ℕ, length, Bool, true, false, List, [], ◌∷◌, ◌++◌, Some, None, refl, ap, lit<}
 use Rattle.std.specs.Prelude.{codes}
 use Rattle.std.specs.List.{list_all}
 use Rattle.html_tokens.specs.declared.states.DoctypeIdKind.{DoctypeIdKind}
@@ -8,11 +8,12 @@ use Rattle.html_tokens.specs.declared.states.State.{State}
 use Rattle.html_tokens.specs.declared.states.State.TheVariants as state
 use Rattle.html_tokens.specs.declared.token.Doctype.{Doctype}
 use Rattle.html_tokens.specs.declared.token.Token.TheVariants.{CommentToken}
-use Rattle.html_tokens.specs.Comments.{comment_end, comment_after}
+use Rattle.html_tokens.specs.Comments.{comment_after}
 use Rattle.html_tokens.specs.Doctypes.{after_name, forced, given, given_more, no_doctype}
-use Rattle.html_tokens.specs.Item.{Grave, Slight, InData, Stand, Item, behind_all, told_as}
+use Rattle.html_tokens.specs.Item.{Grave, InData, Stand, Item, behind_all, told_as}
 use Rattle.html_tokens.specs.Items.{declaration_at}
 use Rattle.html_tokens.specs.Table.{Row}
+use Rattle.html_tokens.proofs.CleanComments.{end-mark}
 use Rattle.html_tokens.proofs.Readings.{reading-item}
 use Rattle.html_tokenizer_parts.specs.declared.keyword.Word.{Word}
 use Rattle.html_tokenizer_parts.specs.declared.keyword.Word.TheVariants as word
@@ -29,12 +30,8 @@ use Rattle.html_tokenizer.specs.Listeners.{Listener, told_item}
 
 -- ITEMS
 
-comment-ends : (t : List ℕ) → comment_end (45 ∷ 45 ∷ 62 ∷ t) ≡ Some 3
-comment-ends [] = refl
-comment-ends (c ∷ t) = refl
-
-comment-closed : (st : Stand) (front t : List ℕ) → comment_after st front (45 ∷ 45 ∷ 62 ∷ t) ≡ told_as (Some Slight) (CommentToken front) 3 st
-comment-closed st front t = rw (comment-ends t) refl
+comment-closed : (st : Stand) (front t : List ℕ) → comment_after st front (45 ∷ 45 ∷ 62 ∷ t) ≡ told_as None (CommentToken front) 3 st
+comment-closed st front t = rw (end-mark t) refl
 
 -- WORDS BEFORE ">"
 
@@ -133,7 +130,7 @@ module _ (T : Type 0) {K : Type 0} (k : Tokenizer K) where
   comment-front_at : (st : State) → InComment st → Untold T st k
   comment-front_at st same = Front (record {
     more = codes "-->";
-    item = told_as (Some Slight) (CommentToken k.comment) 3 (standing k InData);
+    item = told_as None (CommentToken k.comment) 3 (standing k InData);
     some = lit< tt;
     whole = refl;
     markup = refl;
@@ -161,7 +158,7 @@ module _ (T : Type 0) {K : Type 0} (k : Tokenizer K) where
   dash-front_at : (st : State) → BehindDash st → Untold T st k
   dash-front_at st same = Front (record {
     more = codes "->";
-    item = told_as (Some Slight) (CommentToken k.comment) 2 (standing k InData);
+    item = told_as None (CommentToken k.comment) 2 (standing k InData);
     some = lit< tt;
     whole = refl;
     markup = refl;
@@ -181,11 +178,11 @@ module _ (T : Type 0) {K : Type 0} (k : Tokenizer K) where
   -- behind "--", and "--!"
   pub comment_bang_dashes-front : Untold T state.CommentLessThanSignBangDashDash k
   unfolding held_at
-  comment_bang_dashes-front = by-mark T k state.CommentLessThanSignBangDashDash (told_as (Some Slight) (CommentToken k.comment) 1 (standing k InData)) refl refl (λ to b s t. ap (λ i. played to i k b s (45 ∷ 45 ∷ 62 ∷ t)) (comment-closed (standing k InData) k.comment t))
+  comment_bang_dashes-front = by-mark T k state.CommentLessThanSignBangDashDash (told_as None (CommentToken k.comment) 1 (standing k InData)) refl refl (λ to b s t. ap (λ i. played to i k b s (45 ∷ 45 ∷ 62 ∷ t)) (comment-closed (standing k InData) k.comment t))
 
   pub comment_end-front : Untold T state.CommentEnd k
   unfolding held_at
-  comment_end-front = by-mark T k state.CommentEnd (told_as (Some Slight) (CommentToken k.comment) 1 (standing k InData)) refl refl (λ to b s t. ap (λ i. played to i k b s (45 ∷ 45 ∷ 62 ∷ t)) (comment-closed (standing k InData) k.comment t))
+  comment_end-front = by-mark T k state.CommentEnd (told_as None (CommentToken k.comment) 1 (standing k InData)) refl refl (λ to b s t. ap (λ i. played to i k b s (45 ∷ 45 ∷ 62 ∷ t)) (comment-closed (standing k InData) k.comment t))
 
   pub comment_end_bang-front : Untold T state.CommentEndBang k
   unfolding held_at

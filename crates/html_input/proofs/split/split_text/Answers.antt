@@ -16,6 +16,5 @@ returns-in-Err-clause-err c front text long =
 
 pub returns-clause-ok : goal.returns-clause-ok
 returns-clause-ok c =
-    let made = rw c.unwrap.ensures at c.from_utf8.ensures.ok in
     split-front c.args.bytes.items c.as_slice.result.now c.split_off.new.self.items _ c.in_ok-cut.cut.items c.in-Ok.valid c.as_slice.ensures.value c.in-Ok.ensures.ok c.in_ok-cut.ensures.items
-    (ap (λ v. v.items) made) c.in_ok-cut.ensures.tail
+    (ap (λ v. v.items) c.from_utf8_unchecked.ensures.value) c.in_ok-cut.ensures.tail

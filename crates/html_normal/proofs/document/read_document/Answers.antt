@@ -21,7 +21,7 @@ pub returns-in_err-finish-clause-err : goal.returns-in_err-finish-clause-err
 returns-in_err-finish-clause-err g c =
     let p = err_from_is_err_and c.from_residual-in_err-finish.result c.from_residual-in_err-finish.ensures.1 in
     let begins = c.in_ok-parser.ensures.begins in
-    let read = c.in_ok-read_into.ensures.ok.reads _ [] begins.starts.read in
+    let read = c.in_ok-read_into.ensures.ok.reads.reads _ [] begins.starts.read in
     let fails = rw c.in_ok-read_into.ensures.rest.free at c.in_err-finish.ensures.gives in
     rw (p.1, p.2) (finish-fault _ c.in_err-finish.field-0.0 _ _ _ _ _ read begins.taken fails)
 
@@ -29,7 +29,7 @@ pub returns-clause-ok : goal.returns-clause-ok
 returns-clause-ok g c =
     let begins = c.in_ok-parser.ensures.begins in
     let all = c.in_ok-read_into.ensures.ok in
-    let read = all.reads _ [] begins.starts.read in
+    let read = all.reads.reads _ [] begins.starts.read in
     let gives = rw c.in_ok-read_into.ensures.rest.free at c.in_ok-finish.ensures.gives in
     document-made _ _ c.args.exact.tokenizer c.options.result.tokenizer (setting_of forest_answers c.options.result.tree_builder) c.in_ok-forest.forest _ _ all.bytes
     c.read_into.new.parser.input_buffer.characters _ (λ sink is. is) c.options.ensures.tokenizer c.options.ensures.tree_builder c.in_ok-forest.ensures.ok

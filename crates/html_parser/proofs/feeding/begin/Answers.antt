@@ -6,3 +6,6 @@ returns-clause-reads g c = read-nothing g.Sink.TokenSink c.new.result c.args.sin
 
 pub returns-clause-begun : goal.returns-clause-begun
 returns-clause-begun g c = c.new.ensures.reads.begun
+
+pub returns-clause-over : goal.returns-clause-over
+returns-clause-over g c = c.new.ensures.reads.over

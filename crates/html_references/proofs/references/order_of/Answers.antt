@@ -1,24 +1,21 @@
-use Rattle.std.proofs.Common.{arith, None}
-use Rattle.html_references.proofs.Faults.{fault-told, first_fault-at}
-use Rattle.html_references.proofs.Inserts.{IsOrder-more, IsTable-whole}
+use Rattle.std.proofs.Common.{◌∙◌, ap, sym, Some}
+use Rattle.html_references.specs.Order.{is_good}
+use Rattle.html_references.proofs.TableFaults.{duplicate-first, own_fault-first, table-whole}
 use Rattle.html_references.proofs.references.order_of.Goals as goal
 
-pub loop-place-preserved : goal.loop-place-preserved
-loop-place-preserved c =
-    let placed = rw (c.deref.ensures.value) at c.in_ok-index.ensures.index in
-    let good = c.in_ok-index.ensures.checked in
-    record {
-      order_of =
-          IsOrder-more c.args.rows.now c.loop-place.place c.index-rows-place.result c.loop-place.order.items c.insert.new.self.items c.in_ok-index.index
-          (omega arith) c.index-rows-place.is c.loop-place.invariant.order_of placed good c.in_ok-insert.ensures.items;
-      faults = first_fault-at c.args.rows.now c.loop-place.place c.index-rows-place.result None (omega arith) c.index-rows-place.is good c.loop-place.invariant.faults;
-    }
+pub returns-in-Some-clause-fault : goal.returns-in-Some-clause-fault
+returns-in-Some-clause-fault c = λ known.
+    duplicate-first c.args.rows.now c.good_front-good.result c.in_ok-order.order.items c.good_front-good.ensures.within c.good_front-good.ensures.good c.in_ok-order.ensures
+    c.in-Some.place (rw c.deref.ensures.value at c.in-Some.ensures)
 
-pub returns-clause-ok : goal.returns-clause-ok
-returns-clause-ok c =
-    IsTable-whole c.args.rows.now c.loop-place.order.items c.loop-place.place c.loop-place-test.false c.loop-place.invariant.order_of c.loop-place.invariant.faults
+pub returns-in-None-clause-fault : goal.returns-in-None-clause-fault
+returns-in-None-clause-fault c = λ known.
+    own_fault-first c.args.rows.now c.good_front-good.result c.in_ok-order.order.items c.good_front-good.ensures.within c.good_front-good.ensures.good c.in_ok-order.ensures
+    c.index-rows-good.result (rw c.deref.ensures.value at c.in-None.ensures) c.if-good-rows.true c.index-rows-good.is
+    (ap is_good c.index-rows-good.is ∙ c.good_front-good.ensures.bad c.index-rows-good.result c.if-good-rows.true)
+    ∙ ap Some (sym c.own_fault.ensures)
 
-pub returns-in_err-index-clause-fault : goal.returns-in_err-index-clause-fault
-returns-in_err-index-clause-fault c =
-    fault-told c.args.rows.now c.loop-place.place c.index-rows-place.result c.in_err-index.field-0.0 c.from_residual-in_err-index.result c.loop-place-test.true c.index-rows-place.is c.in_err-index.ensures.fault c.loop-place.invariant.faults
-    c.from_residual-in_err-index.ensures.1
+pub returns-in-None-2-clause-ok : goal.returns-in-None-2-clause-ok
+returns-in-None-2-clause-ok c =
+    table-whole c.args.rows.now c.good_front-good.result c.in_ok-order.order.items c.good_front-good.ensures.within c.good_front-good.ensures.good c.in_ok-order.ensures
+    (rw c.deref.ensures.value at c.in-None-2.ensures) c.if-good-rows.false

@@ -20,7 +20,9 @@ returns-in-Some-Doctype-clause-ok c =
     c.behind_doctype-behind.ensures c.go_on-in-Some-Doctype.ensures.stand c.go_on-in-Some-Doctype.ensures.rest (ap (λ waiting. waiting.items) c.go_on-in-Some-Doctype.ensures.waiting)
 
 pub returns-in-Some-Comment-clause-ok : goal.returns-in-Some-Comment-clause-ok
-returns-in-Some-Comment-clause-ok c = comment-taken c.args.forest.now c.requires.tree _ _ c.args.id _ (sym c.in-Some-Comment.ensures.about ∙ ap data_view c.in-Some-Comment.field-0-is)
+returns-in-Some-Comment-clause-ok c =
+    comment-taken c.args.forest.now c.requires.tree _ _ c.args.id _ _ _ (sym c.in-Some-Comment.ensures.about ∙ ap data_view c.in-Some-Comment.field-0-is)
+    c.behind_comment-behind.ensures c.go_on-in-Some-Comment.ensures.stand c.go_on-in-Some-Comment.ensures.rest (ap (λ waiting. waiting.items) c.go_on-in-Some-Comment.ensures.waiting)
 
 pub returns-in-Some-ProcessingInstruction-clause-ok : goal.returns-in-Some-ProcessingInstruction-clause-ok
 returns-in-Some-ProcessingInstruction-clause-ok c = instruction-taken c.args.forest.now c.requires.tree _ _ c.args.id _ _ (sym c.in-Some-ProcessingInstruction.ensures.about ∙ ap data_view c.in-Some-ProcessingInstruction.field-0-is)

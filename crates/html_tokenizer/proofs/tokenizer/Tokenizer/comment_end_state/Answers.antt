@@ -1,7 +1,11 @@
+use Rattle.std.proofs.Common.{◌≡◌, ◌∙◌, true, false, nat_eq, sym, ap}
+use Rattle.std.specs.Prelude.{not}
+use Rattle.std.proofs.lemmas.Bool.{ne_eqb}
 use Rattle.html_tokenizer.proofs.Declarations.Comments.{end-absorbs}
 use Rattle.html_tokenizer.proofs.Errors.BeforeCharacters.{keeps_refused}
 use Rattle.html_tokenizer.proofs.Steps.Keeping.{keeps_erred}
 use Rattle.html_tokenizer.proofs.tokenizer.Tokenizer.comment_end_state.Goals as goal
+use Rattle.html_tokenizer.proofs.tokenizer.Tokenizer.comment_end_state.Goals.{then-c-ne62, else-c-ne62}
 
 pub returns-in_err-tell_if : goal.returns-in_err-tell_if
 returns-in_err-tell_if g c =
@@ -11,4 +15,7 @@ returns-in_err-tell_if g c =
 pub returns : goal.returns
 returns g c =
     let m = g.Sink.TokenSink in
-    keeps_erred m _ c.args.self.now c.tell_if.new.self _ c.args.c _ c.in_ok-tell_if.ensures (λ e. end-absorbs m g.met.Sink.TokenSink.laws c.args.self.now c.args.c c.requires.at) c.take_behind_dashes.ensures
+    keeps_erred m _ c.args.self.now c.tell_if.new.self _ c.args.c _ c.in_ok-tell_if.ensures (λ e. end-absorbs m g.met.Sink.TokenSink.laws c.args.self.now c.args.c c.requires.at (elim c.if-c-ne62.branch [
+      | then-c-ne62 w ↦ ne_eqb 62 c.args.c (λ same. w.if-c-ne62.true (sym same))
+      | else-c-ne62 w ↦ absurd (let no : true ≡ false = sym e ∙ w.is_nested-is ∙ ap (λ d. not (nat_eq d 62)) w.if-c-ne62.false in cc)
+    ])) c.take_behind_dashes.ensures

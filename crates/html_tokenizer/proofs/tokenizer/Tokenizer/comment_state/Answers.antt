@@ -12,4 +12,4 @@ returns-in_err-tell_null g c =
 pub returns : goal.returns
 returns g c =
     let m = g.Sink.TokenSink in
-    keeps_erred m (nat_eq c.args.c 0) c.args.self.now c.tell_null.new.self _ c.args.c _ c.in_ok-tell_null.ensures (λ e. comment-absorbs m g.met.Sink.TokenSink.laws c.args.self.now c.args.c c.requires.at) c.take_in_comment.ensures
+    keeps_erred m (nat_eq c.args.c 0) c.args.self.now c.tell_null.new.self _ c.args.c _ c.in_ok-tell_null.ensures (λ e. comment-absorbs m g.met.Sink.TokenSink.laws c.args.self.now c.args.c c.requires.at e) c.take_in_comment.ensures

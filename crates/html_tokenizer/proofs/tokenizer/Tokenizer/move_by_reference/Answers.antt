@@ -1,23 +1,34 @@
 use Rattle.std.proofs.Common.{refl}
-use Rattle.html_tokenizer.proofs.Fronts.Moves.{heeding, moved-front, not-fronted, skip-cut}
-use Rattle.html_tokenizer.proofs.Fronts.References.{reference-shorter, reference-taken}
+use Rattle.html_tokens.specs.declared.states.State.TheVariants as state
+use Rattle.html_tokenizer.proofs.Fronts.Moves.{heeding, moved-front, not-fronted}
+use Rattle.html_tokenizer.proofs.Fronts.References.{reference-cut, reference-shorter, reference-spells, reference-stuck, reference-taken}
 use Rattle.html_tokenizer.proofs.tokenizer.Tokenizer.move_by_reference.Goals as goal
 
 pub skip-requires : goal.skip-requires
 skip-requires g c =
     let m = g.Sink.TokenSink in
-    skip-cut m (heeding m c.args.self.now) (heeding m c.hold_name.new.self) c.as_str-text.result.now _ c.in-Some.rest.now _ c.as_str-text.utf8 c.as_str-text.ensures refl
-    (reference-taken m c.args.self.now c.hold_name.new.self c.in-Some.name.now c.in-Some.rest.now c.as_str-text.result.now _ c.requires.tags c.requires.ready.sound c.in-Some.ensures c.if-not-holds.false c.in_ok-holds.ensures.ok)
+    let whole = rw c.in-Some-whole.is at c.in_ok-whole.ensures.ok in
+    reference-cut m c.in-Some.name.now c.in-Some.rest.now c.as_str-text.result.now _ _ _ c.as_str-text.utf8 c.as_str-text.ensures refl
+    (reference-spells m c.in-Some.name.now c.in-Some.rest.now c.as_str-text.result.now _ c.in-Some.ensures whole.0)
 
 pub returns : goal.returns
 returns g c =
     let m = g.Sink.TokenSink in
-    moved-front m c.args.self.now (heeding m c.hold_name.new.self) c.args.input.now c.skip.new.self c.as_str-text.result.now _ c.in-Some.rest.now _ c.requires.tags c.as_str-text.ensures refl
+    let whole = rw c.in-Some-whole.is at c.in_ok-whole.ensures.ok in
+    moved-front m state.Data c.args.self.now c.tell_whole_name.new.self c.args.input.now c.skip.new.self c.as_str-text.result.now _ c.in-Some.rest.now _ c.requires.tags c.as_str-text.ensures refl
     (reference-shorter m c.in-Some.name.now c.in-Some.rest.now c.as_str-text.result.now c.in-Some.ensures)
-    (reference-taken m c.args.self.now c.hold_name.new.self c.in-Some.name.now c.in-Some.rest.now c.as_str-text.result.now _ c.requires.tags c.requires.ready.sound c.in-Some.ensures c.if-not-holds.false c.in_ok-holds.ensures.ok)
+    (reference-taken m (heeding m c.args.self.now) c.tell_whole_name.new.self c.in-Some.name.now c.in-Some.rest.now c.as_str-text.result.now _
+    (reference-spells m c.in-Some.name.now c.in-Some.rest.now c.as_str-text.result.now _ c.in-Some.ensures whole.0) whole.1.held c.in_ok-tell_whole_name.ensures)
     c.skip.ensures
 
-pub returns-in_err-holds : goal.returns-in_err-holds
-returns-in_err-holds g c =
+pub returns-in_err-tell_whole_name : goal.returns-in_err-tell_whole_name
+returns-in_err-tell_whole_name g c =
     let m = g.Sink.TokenSink in
-    not-fronted m c.args.self.now c.hold_name.new.self c.args.input.now _ _ c.hold_name.ensures.sink c.in_err-holds.ensures.fault c.requires.ready c.from_residual.ensures.1
+    let whole = rw c.in-Some-whole.is at c.in_ok-whole.ensures.ok in
+    reference-stuck m state.Data c.args.self.now c.tell_whole_name.new.self c.args.input.now c.skip.new.self c.in-Some.name.now c.in-Some.rest.now c.as_str-text.result.now _ _ _ _ c.from_residual-in_err-tell_whole_name.result c.requires.tags c.as_str-text.ensures refl
+    (reference-spells m c.in-Some.name.now c.in-Some.rest.now c.as_str-text.result.now _ c.in-Some.ensures whole.0) whole.1.held c.skip.ensures c.in_err-tell_whole_name.ensures c.from_residual-in_err-tell_whole_name.ensures.1
+
+pub returns-in_err-whole : goal.returns-in_err-whole
+returns-in_err-whole g c =
+    let m = g.Sink.TokenSink in
+    not-fronted m c.args.self.now c.args.self.now c.args.input.now _ _ refl c.in_err-whole.ensures.fault c.requires.ready c.from_residual.ensures.1

@@ -1,22 +1,20 @@
-use Rattle.std.specs.Prelude.{Some}
 use Rattle.std.specs.Str.{chars}
 use Rattle.std.proofs.lemmas.Bool.{ne_eqb}
 use Rattle.html_tokens.specs.declared.states.State.TheVariants as state
-use Rattle.html_tokens.specs.Item.{Slight}
-use Rattle.html_tokenizer.specs.Steps.{owed_for}
-use Rattle.html_tokenizer.proofs.Declarations.Comments.{end_state-says, end-bang_held, end-dash_more, end-other, comment-took_well, comment-failed}
+use Rattle.html_tokenizer.specs.Steps.{nothing_owed}
+use Rattle.html_tokenizer.proofs.Declarations.Comments.{end_state-says, end-bang_held, end-dash_more, end-other, comment-took, comment-failed}
 use Rattle.html_tokenizer.proofs.tokenizer.Tokenizer.take_behind_dashes.Goals as goal
 
 pub returns-in_err-emit_comment : goal.returns-in_err-emit_comment
 returns-in_err-emit_comment g c =
     let m = g.Sink.TokenSink in
     comment-failed m g.met.Sink.TokenSink.laws
-    (owed_for (Some Slight)) _ _ _ state.CommentEnd _ _ _ c.if-c-eq62.true c.requires.at c.requires.sound c.from_residual.ensures.1 c.in_err-emit_comment.ensures (end_state-says m g.met.Sink.TokenSink.laws _)
+    nothing_owed _ _ _ state.CommentEnd _ _ _ c.if-c-eq62.true c.requires.at c.requires.sound c.from_residual.ensures.1 c.in_err-emit_comment.ensures (end_state-says m g.met.Sink.TokenSink.laws _)
 
 pub returns-then-c-eq62 : goal.returns-then-c-eq62
 returns-then-c-eq62 g c =
     let m = g.Sink.TokenSink in
-    comment-took_well m g.met.Sink.TokenSink.laws
+    comment-took m g.met.Sink.TokenSink.laws
     _ _ _ state.CommentEnd _ c.if-c-eq62.true c.requires.at c.requires.sound c.in_ok-emit_comment.ensures (end_state-says m g.met.Sink.TokenSink.laws _)
 
 pub returns-then-c-eq33 : goal.returns-then-c-eq33

@@ -1,6 +1,6 @@
 use Rattle.std.proofs.Common.{◌≡◌, ◌∙◌}
 use Rattle.std.specs.Prelude.{◌&&◌}
-use Rattle.html_tokenizer_parts.specs.Forbidden.{is_forbidden}
+use Rattle.html_tokens.specs.Forbidden.{is_forbidden}
 use Rattle.html_tokenizer.proofs.Errors.BeforeCharacters.{errs-less}
 use Rattle.html_tokenizer.proofs.Errors.Rises.{char-no-more}
 use Rattle.html_tokenizer.proofs.tokenizer.Tokenizer.tell_forbidden.Goals.{then-self, else-self}

@@ -1,0 +1,13 @@
+pub mod PiecesRead
+pub mod PiecesNormal
+pub mod Lawful
+pub mod Kept
+pub mod Pieces
+pub mod Calls
+pub mod Urls
+pub mod KeptTexts
+pub mod Mapped
+pub mod Filtered
+pub mod Marks
+pub mod Read
+pub mod Stays

@@ -1,0 +1,15 @@
+use Rattle.std.proofs.Common.{refl}
+use Rattle.std.specs.Str.{chars}
+use Rattle.html_clean.proofs.policy.Policy.text_and_links.Goals as goal
+
+pub returns-clause-ok : goal.returns-clause-ok
+unfolding chars
+returns-clause-ok c = record {
+  kept = c.in_ok-rules.ensures.ok;
+  dropped = c.in_ok-names_of.ensures.ok;
+  everywhere = c.in_ok-names_of-2.ensures.ok;
+  urls = c.new.ensures.items;
+  schemes = c.in_ok-texts_of.ensures.ok;
+  relative = refl;
+  hosts = refl;
+}

@@ -1,0 +1,15 @@
+pub mod Names
+pub mod Urls
+pub mod Policies
+pub mod Pieces
+pub mod PieceLaws
+pub mod PieceRows
+pub mod Cleaned
+pub mod Calls
+pub mod Counts
+pub mod Filter
+pub mod Laws
+pub mod Written
+pub mod Ready
+pub mod Checks
+pub mod Rows

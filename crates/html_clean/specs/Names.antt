@@ -1,0 +1,66 @@
+-- Which names of elements and of attributes a policy can keep at all.
+use Rattle.std.specs.Prelude.{ℕ, Bool, false, ◌&&◌, not, nat_eq, List, [], ◌∷◌, Option, Some, None, codes}
+use Rattle.markup.specs.Trees.{is_among, void_names}
+use Rattle.html_slices.specs.Forms.{is_attribute_name}
+
+-- Elements of HTML (HTML Standard, section 4, and section 16.2 for those that are obsolete). These are not among them, and so never
+-- kept: `script`, `style`, `xmp`, `iframe`, `noembed`, `noframes`, `plaintext`, `title`, `textarea` and `noscript`, behind whose start
+-- tags other text than data may come; `template`, which holds what it has apart; `svg` and `math`, in which other rules hold; `base`,
+-- `basefont`, `bgsound`, `link` and `meta`, which say something of the whole page; `image`, which is read as `img`; frames, `applet`,
+-- `keygen`, `listing` and names of one's own.
+abbrev pub safe_names : List (List ℕ)
+safe_names =
+    codes "a" ∷ codes "abbr" ∷ codes "acronym" ∷ codes "address" ∷ codes "area" ∷ codes "article" ∷ codes "aside" ∷ codes "audio" ∷
+    codes "b" ∷ codes "bdi" ∷ codes "bdo" ∷ codes "big" ∷ codes "blockquote" ∷ codes "body" ∷ codes "br" ∷ codes "button" ∷
+    codes "canvas" ∷ codes "caption" ∷ codes "center" ∷ codes "cite" ∷ codes "code" ∷ codes "col" ∷ codes "colgroup" ∷ codes "data" ∷
+    codes "datalist" ∷ codes "dd" ∷ codes "del" ∷ codes "details" ∷ codes "dfn" ∷ codes "dialog" ∷ codes "dir" ∷ codes "div" ∷
+    codes "dl" ∷ codes "dt" ∷ codes "em" ∷ codes "embed" ∷ codes "fieldset" ∷ codes "figcaption" ∷ codes "figure" ∷ codes "font" ∷
+    codes "footer" ∷ codes "form" ∷ codes "h1" ∷ codes "h2" ∷ codes "h3" ∷ codes "h4" ∷ codes "h5" ∷ codes "h6" ∷ codes "head" ∷
+    codes "header" ∷ codes "hgroup" ∷ codes "hr" ∷ codes "html" ∷ codes "i" ∷ codes "img" ∷ codes "input" ∷ codes "ins" ∷
+    codes "kbd" ∷ codes "label" ∷ codes "legend" ∷ codes "li" ∷ codes "main" ∷ codes "map" ∷ codes "mark" ∷ codes "marquee" ∷
+    codes "menu" ∷ codes "meter" ∷ codes "nav" ∷ codes "nobr" ∷ codes "object" ∷ codes "ol" ∷ codes "optgroup" ∷ codes "option" ∷
+    codes "output" ∷ codes "p" ∷ codes "param" ∷ codes "picture" ∷ codes "pre" ∷ codes "progress" ∷ codes "q" ∷ codes "rb" ∷
+    codes "rp" ∷ codes "rt" ∷ codes "rtc" ∷ codes "ruby" ∷ codes "s" ∷ codes "samp" ∷ codes "search" ∷ codes "section" ∷
+    codes "select" ∷ codes "slot" ∷ codes "small" ∷ codes "source" ∷ codes "span" ∷ codes "strike" ∷ codes "strong" ∷ codes "sub" ∷
+    codes "summary" ∷ codes "sup" ∷ codes "table" ∷ codes "tbody" ∷ codes "td" ∷ codes "tfoot" ∷ codes "th" ∷ codes "thead" ∷
+    codes "time" ∷ codes "tr" ∷ codes "track" ∷ codes "tt" ∷ codes "u" ∷ codes "ul" ∷ codes "var" ∷ codes "video" ∷ codes "wbr" ∷ []
+
+unfoldable pub is_safe_name : List ℕ → Bool
+is_safe_name name = is_among name safe_names
+
+abbrev pub is_void : List ℕ → Bool
+is_void name = is_among name void_names
+
+-- the first two characters of a text
+abbrev pub first_two : List ℕ → Option (ℕ × ℕ)
+first_two [] = None
+first_two (c ∷ []) = None
+first_two (c ∷ (d ∷ cs)) = Some (c, d)
+
+-- whether there are two, which are as said
+abbrev pub are_first : (ℕ → Bool) → (ℕ → Bool) → Option (ℕ × ℕ) → Bool
+are_first p q None = false
+are_first p q (Some two) = p two.0 && q two.1
+
+-- attributes whose values are scripts, styles, documents or several URLs
+abbrev pub unsafe_attributes : List (List ℕ)
+unsafe_attributes =
+    codes "archive" ∷ codes "attributionsrc" ∷ codes "imagesrcset" ∷ codes "ping" ∷ codes "srcdoc" ∷ codes "srcset" ∷ codes "style" ∷ []
+
+-- as attributes do that have a script for an event
+abbrev pub begins_with_on : List ℕ → Bool
+begins_with_on text = are_first (λ c. nat_eq c 111) (λ c. nat_eq c 110) (first_two text)
+
+-- lower-case letters, digits and hyphens, but none of these
+unfoldable pub is_safe_attribute : List ℕ → Bool
+is_safe_attribute name = is_attribute_name name && (not (begins_with_on name) && not (is_among name unsafe_attributes))
+
+-- attributes of HTML whose values are URLs, on whatever element
+abbrev pub url_attributes : List (List ℕ)
+url_attributes =
+    codes "action" ∷ codes "background" ∷ codes "cite" ∷ codes "classid" ∷ codes "codebase" ∷ codes "data" ∷ codes "dynsrc" ∷
+    codes "formaction" ∷ codes "href" ∷ codes "icon" ∷ codes "longdesc" ∷ codes "lowsrc" ∷ codes "manifest" ∷ codes "poster" ∷
+    codes "profile" ∷ codes "src" ∷ []
+
+unfoldable pub is_url_attribute : List ℕ → Bool
+is_url_attribute name = is_among name url_attributes

@@ -1,0 +1,113 @@
+-- What a policy keeps.
+use Rattle.std.specs.Prelude.{ℕ, Bool, true, false, cond, ◌&&◌, ◌||◌, not, nat_eq, List, [], ◌∷◌, ◌++◌, is_none}
+use Rattle.std.specs.List.{filter, list_any}
+use Rattle.std.specs.Str.{bytes_eq}
+use Rattle.markup.specs.Attributes.{has_local_name}
+use Rattle.markup.specs.Trees.{is_among, is_html}
+use Rattle.markup.specs.declared.attributes.Attribute.{Attribute}
+use Rattle.markup.specs.declared.names.QualName.{QualName}
+use Rattle.html_slices.specs.Forms.{is_no_text}
+use Rattle.html_clean.specs.Names.{is_safe_attribute, is_safe_name, is_url_attribute}
+use Rattle.html_clean.specs.Urls.{url_kind}
+use Rattle.html_clean.specs.declared.elements.Fate.{Fate}
+use Rattle.html_clean.specs.declared.elements.Fate.TheVariants.{Kept, Dropped, Unwrapped}
+use Rattle.html_clean.specs.declared.url.UrlKind.{UrlKind}
+use Rattle.html_clean.specs.declared.url.UrlKind.TheVariants.{HasHost, HasScheme, IsRelative}
+use Rattle.html_clean.specs.declared.policy.Policy.{Policy}
+use Rattle.html_clean.specs.declared.policy.Rule.{Rule}
+
+-- ELEMENTS
+
+-- whether one of some rules is for an element
+abbrev pub is_ruled : List Rule → List ℕ → Bool
+is_ruled rules name = list_any (λ (rule : Rule). bytes_eq name rule.element) rules
+
+-- whether the HTML element of a name is kept
+abbrev pub is_kept_name : Policy → List ℕ → Bool
+is_kept_name policy name = is_safe_name name && is_ruled policy.kept.items name
+
+-- what becomes of an element, by whether it is kept and whether it is dropped
+abbrev pub fate_by : Bool → Bool → Fate
+fate_by true drops = Kept
+fate_by false true = Dropped
+fate_by false false = Unwrapped
+
+abbrev pub fate : Policy → QualName → Fate
+fate policy name = fate_by (is_html name && is_kept_name policy name.local) (is_among name.local policy.dropped.items)
+
+-- TEXTS AND ATTRIBUTES
+
+-- neither U+0000 nor U+000D
+abbrev pub is_plain_character : ℕ → Bool
+is_plain_character c = not (nat_eq c 0) && not (nat_eq c 13)
+
+abbrev pub plain_text : List ℕ → List ℕ
+plain_text text = filter is_plain_character text
+
+-- U+FEFF, which a reader of a whole text drops at its front
+abbrev pub is_mark : ℕ → Bool
+is_mark c = nat_eq c 0xFEFF
+
+abbrev pub without_marks : List ℕ → List ℕ
+without_marks [] = []
+without_marks (c ∷ cs) = cond (is_mark c) (without_marks cs) (c ∷ cs)
+
+abbrev pub starts_with_mark : List ℕ → Bool
+starts_with_mark [] = false
+starts_with_mark (c ∷ cs) = is_mark c
+
+-- what is passed on of a text, in front of which nothing was passed on, or something
+abbrev pub text_at : Bool → List ℕ → List ℕ
+text_at true text = without_marks (plain_text text)
+text_at false text = plain_text text
+
+-- whether a URL of this kind is kept
+abbrev pub is_kept_kind : Policy → UrlKind → Bool
+is_kept_kind policy (HasScheme scheme) = is_among scheme policy.schemes.items
+is_kept_kind policy HasHost = policy.allows_hosts
+is_kept_kind policy IsRelative = policy.allows_relative
+
+-- whether a rule gives an element an attribute of that name
+abbrev pub gives : List ℕ → List ℕ → Rule → Bool
+gives element name rule = bytes_eq element rule.element && is_among name rule.attributes.items
+
+-- whether one of some rules gives an element an attribute of that name
+abbrev pub is_in_rule : List Rule → List ℕ → List ℕ → Bool
+is_in_rule rules element name = list_any (gives element name) rules
+
+-- whether an element may have an attribute of that name
+abbrev pub is_named_for : Policy → List ℕ → List ℕ → Bool
+is_named_for policy element name = is_among name policy.everywhere.items || is_in_rule policy.kept.items element name
+
+-- a name that may be kept, without prefix and namespace
+abbrev pub is_safe_attribute_name : QualName → Bool
+is_safe_attribute_name name = is_safe_attribute name.local && (is_none name.prefix && is_no_text name.ns)
+
+-- whether the value of an attribute of that name is a URL
+abbrev pub has_url : Policy → List ℕ → Bool
+has_url policy name = is_url_attribute name || is_among name policy.urls.items
+
+-- whether an element may have an attribute
+abbrev pub is_kept_attribute : Policy → List ℕ → Attribute → Bool
+is_kept_attribute policy element a =
+    is_safe_attribute_name a.name
+    && (is_named_for policy element a.name.local && (not (has_url policy a.name.local) || is_kept_kind policy (url_kind a.value)))
+
+abbrev pub plain_attribute : Attribute → Attribute
+plain_attribute a = record a { value = plain_text a.value }
+
+abbrev pub added_if : Bool → List Attribute → Attribute → List Attribute
+added_if true kept a = kept ++ a ∷ []
+added_if false kept a = kept
+
+-- attributes with one more, with its plain value, if it is kept and none of its name was
+abbrev pub kept_with : Policy → List ℕ → List Attribute → Attribute → List Attribute
+kept_with policy element kept a = added_if (is_kept_attribute policy element (plain_attribute a) && not (has_local_name a.name.local kept)) kept (plain_attribute a)
+
+-- those that are kept behind others: of those of one name the first
+abbrev pub kept_behind : Policy → List ℕ → List Attribute → List Attribute → List Attribute
+kept_behind policy element kept [] = kept
+kept_behind policy element kept (a ∷ rest) = kept_behind policy element (kept_with policy element kept a) rest
+
+abbrev pub kept_attributes : Policy → List ℕ → List Attribute → List Attribute
+kept_attributes policy element attributes = kept_behind policy element [] attributes

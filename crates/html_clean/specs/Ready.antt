@@ -1,0 +1,56 @@
+-- The policy that is ready.
+use Rattle.std.specs.Prelude.{◌≡◌, ℕ, true, List, [], ◌∷◌, codes, map}
+use Rattle.html_clean.specs.declared.policy.Policy.{Policy}
+use Rattle.html_clean.specs.declared.policy.Rule.{Rule}
+
+-- the name of a rule's element, and those of its attributes
+abbrev pub rule_names : Rule → List ℕ × List (List ℕ)
+rule_names rule = (rule.element, rule.attributes.items)
+
+-- what ammonia keeps by default
+abbrev pub ready_rules : List (List ℕ × List (List ℕ))
+ready_rules =
+    (codes "abbr", []) ∷ (codes "acronym", []) ∷ (codes "area", []) ∷ (codes "article", []) ∷ (codes "aside", []) ∷ (codes "b", []) ∷
+    (codes "bdi", []) ∷ (codes "br", []) ∷ (codes "caption", []) ∷ (codes "center", []) ∷ (codes "cite", []) ∷ (codes "code", []) ∷
+    (codes "data", []) ∷ (codes "dd", []) ∷ (codes "details", []) ∷ (codes "dfn", []) ∷ (codes "div", []) ∷ (codes "dl", []) ∷
+    (codes "dt", []) ∷ (codes "em", []) ∷ (codes "figcaption", []) ∷ (codes "figure", []) ∷ (codes "footer", []) ∷ (codes "h1", []) ∷
+    (codes "h2", []) ∷ (codes "h3", []) ∷ (codes "h4", []) ∷ (codes "h5", []) ∷ (codes "h6", []) ∷ (codes "header", []) ∷
+    (codes "hgroup", []) ∷ (codes "i", []) ∷ (codes "kbd", []) ∷ (codes "li", []) ∷ (codes "map", []) ∷ (codes "mark", []) ∷
+    (codes "nav", []) ∷ (codes "p", []) ∷ (codes "pre", []) ∷ (codes "rp", []) ∷ (codes "rt", []) ∷ (codes "rtc", []) ∷
+    (codes "ruby", []) ∷ (codes "s", []) ∷ (codes "samp", []) ∷ (codes "small", []) ∷ (codes "span", []) ∷ (codes "strike", []) ∷
+    (codes "strong", []) ∷ (codes "sub", []) ∷ (codes "summary", []) ∷ (codes "sup", []) ∷ (codes "time", []) ∷ (codes "tt", []) ∷
+    (codes "u", []) ∷ (codes "ul", []) ∷ (codes "var", []) ∷ (codes "wbr", []) ∷ (codes "a", codes "href" ∷ codes "hreflang" ∷ []) ∷
+    (codes "bdo", codes "dir" ∷ []) ∷ (codes "blockquote", codes "cite" ∷ []) ∷
+    (codes "col", codes "align" ∷ codes "char" ∷ codes "charoff" ∷ codes "span" ∷ []) ∷
+    (codes "colgroup", codes "align" ∷ codes "char" ∷ codes "charoff" ∷ codes "span" ∷ []) ∷
+    (codes "del", codes "cite" ∷ codes "datetime" ∷ []) ∷ (codes "hr", codes "align" ∷ codes "size" ∷ codes "width" ∷ []) ∷
+    (codes "img", codes "align" ∷ codes "alt" ∷ codes "height" ∷ codes "src" ∷ codes "width" ∷ []) ∷
+    (codes "ins", codes "cite" ∷ codes "datetime" ∷ []) ∷ (codes "ol", codes "start" ∷ []) ∷ (codes "q", codes "cite" ∷ []) ∷
+    (codes "table", codes "align" ∷ codes "char" ∷ codes "charoff" ∷ codes "summary" ∷ []) ∷
+    (codes "tbody", codes "align" ∷ codes "char" ∷ codes "charoff" ∷ []) ∷
+    (codes "td", codes "align" ∷ codes "char" ∷ codes "charoff" ∷ codes "colspan" ∷ codes "headers" ∷ codes "rowspan" ∷ []) ∷
+    (codes "tfoot", codes "align" ∷ codes "char" ∷ codes "charoff" ∷ []) ∷
+    (codes "th", codes "align" ∷ codes "char" ∷ codes "charoff" ∷ codes "colspan" ∷ codes "headers" ∷ codes "rowspan" ∷ codes "scope" ∷ []) ∷
+    (codes "thead", codes "align" ∷ codes "char" ∷ codes "charoff" ∷ []) ∷
+    (codes "tr", codes "align" ∷ codes "char" ∷ codes "charoff" ∷ []) ∷ []
+
+abbrev pub ready_dropped : List (List ℕ)
+ready_dropped =
+    codes "head" ∷ codes "iframe" ∷ codes "noembed" ∷ codes "noframes" ∷ codes "noscript" ∷ codes "script" ∷ codes "style" ∷
+    codes "template" ∷ codes "title" ∷ []
+
+abbrev pub ready_schemes : List (List ℕ)
+ready_schemes =
+    codes "bitcoin" ∷ codes "ftp" ∷ codes "ftps" ∷ codes "geo" ∷ codes "http" ∷ codes "https" ∷ codes "im" ∷ codes "irc" ∷
+    codes "ircs" ∷ codes "magnet" ∷ codes "mailto" ∷ codes "mms" ∷ codes "mx" ∷ codes "news" ∷ codes "nntp" ∷ codes "openpgp4fpr" ∷
+    codes "sip" ∷ codes "sms" ∷ codes "smsto" ∷ codes "ssh" ∷ codes "tel" ∷ codes "url" ∷ codes "webcal" ∷ codes "wtai" ∷
+    codes "xmpp" ∷ []
+
+pub record IsTextAndLinks (policy : Policy) : Type 0 where
+  pub kept : map rule_names policy.kept.items ≡ ready_rules
+  pub dropped : policy.dropped.items ≡ ready_dropped
+  pub everywhere : policy.everywhere.items ≡ codes "lang" ∷ codes "title" ∷ []
+  pub urls : policy.urls.items ≡ []
+  pub schemes : policy.schemes.items ≡ ready_schemes
+  pub relative : policy.allows_relative ≡ true
+  pub hosts : policy.allows_hosts ≡ true

@@ -1,0 +1,143 @@
+//! Which attributes are kept.
+ghost use Rattle.std.specs.Prelude.{◌≡◌, ◌&&◌, IfOk, IfErr, OnOk, is_none};
+ghost use Rattle.html_clean.specs.Policies.{gives, has_url, is_in_rule, is_kept_attribute, is_kept_kind, is_named_for, is_safe_attribute_name, kept_attributes, kept_with, plain_attribute};
+ghost use Rattle.html_slices.specs.Forms.{is_no_text};
+ghost use Rattle.markup.specs.Trees.{is_among};
+ghost use Rattle.markup.specs.declared.fault.ParseFault.TheVariants.{Memory};
+
+use crate::elements::is_among;
+use crate::names::{is_safe_attribute, is_url_attribute};
+use crate::policy::{Policy, Rule};
+use crate::texts::plain_text;
+use crate::url::{UrlKind, url_kind};
+use markup::{Attribute, Attributes, KnownNamespace, LocalName, ParseFault, QualName, Text};
+use std::alloc::Global;
+
+/// Whether a name has neither a prefix nor a namespace.
+fn is_unprefixed(name: &QualName) -> bool
+    ensures { result ≡ (is_none name.now.prefix && is_no_text name.now.ns) }
+{
+    name.prefix.is_none() && name.ns.is_known(KnownNamespace::NoNamespace)
+}
+
+/// Whether it may be kept besides.
+fn is_safe_attribute_name(name: &QualName) -> bool
+    ensures { result ≡ is_safe_attribute_name name.now }
+{
+    is_safe_attribute(&name.local) && is_unprefixed(name)
+}
+
+/// Whether a rule gives an element an attribute of that name.
+fn gives(rule: &Rule, element: &LocalName, name: &LocalName) -> bool
+    ensures { result ≡ gives element.now name.now rule.now }
+{
+    *element == rule.element && is_among(name, &rule.attributes)
+}
+
+/// Whether one of these rules does.
+fn is_in_rule(rules: &[Rule], element: &LocalName, name: &LocalName) -> bool
+    ensures { result ≡ is_in_rule rules.now element.now name.now }
+{
+    rules.iter().any(|rule| gives(rule, element, name))
+}
+
+/// Whether an element may have an attribute of that name.
+fn is_named_for(policy: &Policy, element: &LocalName, name: &LocalName) -> bool
+    ensures { result ≡ is_named_for policy.now element.now name.now }
+{
+    is_among(name, &policy.everywhere) || is_in_rule(&policy.kept, element, name)
+}
+
+/// Whether a scheme is one of these.
+fn is_scheme_among(scheme: &Text, schemes: &[Text]) -> bool
+    ensures { result ≡ is_among scheme.now schemes.now }
+{
+    schemes.iter().any(|other| *scheme == *other)
+}
+
+/// Whether the value of an attribute of that name is a URL.
+fn has_url(policy: &Policy, name: &LocalName) -> bool
+    ensures { result ≡ has_url policy.now name.now }
+{
+    is_url_attribute(name) || is_among(name, &policy.urls)
+}
+
+/// Whether a URL of this kind is kept.
+fn is_kept_kind(policy: &Policy, kind: &UrlKind) -> bool
+    ensures { result ≡ is_kept_kind policy.now kind.now }
+{
+    match kind {
+        UrlKind::HasScheme(scheme) => is_scheme_among(scheme, &policy.schemes),
+        UrlKind::HasHost => policy.allows_hosts,
+        UrlKind::IsRelative => policy.allows_relative,
+    }
+}
+
+/// Whether an element may have an attribute.
+fn is_kept_attribute(
+    alloc: Global,
+    policy: &Policy,
+    element: &LocalName,
+    attribute: &Attribute,
+) -> Result<bool, ParseFault>
+    ensures ok { IfOk result (λ kept. kept ≡ is_kept_attribute policy.now element.now attribute.now) }
+    ensures err { IfErr result (λ fault. fault ≡ Memory) }
+{
+    if !is_safe_attribute_name(&attribute.name)
+        || !is_named_for(policy, element, &attribute.name.local)
+    {
+        return Ok(false);
+    }
+    if !has_url(policy, &attribute.name.local) {
+        return Ok(true);
+    }
+    let kind = url_kind(alloc, attribute.value.as_str())?;
+    Ok(is_kept_kind(policy, &kind))
+}
+
+/// An attribute with its plain value.
+fn plain_attribute(alloc: Global, attribute: &Attribute) -> Result<Attribute, ParseFault>
+    ensures ok { IfOk result (λ made. made ≡ plain_attribute attribute.now) }
+    ensures err { IfErr result (λ fault. fault ≡ Memory) }
+{
+    Ok(Attribute {
+        name: attribute.name.copy(alloc)?,
+        value: plain_text(alloc, attribute.value.as_str())?,
+    })
+}
+
+/// Adds an attribute with its plain value, if it is kept and none of its name was.
+fn add(
+    alloc: Global,
+    policy: &Policy,
+    element: &LocalName,
+    kept: &mut Attributes,
+    attribute: &Attribute,
+) -> Result<(), ParseFault>
+    ensures ok { OnOk result (kept.new ≡ kept_with policy.now element.now kept.old attribute.now) }
+    ensures err { IfErr result (λ fault. fault ≡ Memory) }
+{
+    let plain = plain_attribute(alloc, attribute)?;
+    let allowed = is_kept_attribute(alloc, policy, element, &plain)?;
+    if allowed && !kept.has_local_name(&attribute.name.local) {
+        kept.push(plain)?;
+    }
+    Ok(())
+}
+
+/// The attributes of an element that are kept.
+pub(crate) fn kept_attributes(
+    alloc: Global,
+    policy: &Policy,
+    element: &LocalName,
+    attributes: &[Attribute],
+) -> Result<Attributes, ParseFault>
+    ensures ok { IfOk result (λ kept. kept ≡ kept_attributes policy.now element.now attributes.now) }
+    ensures err { IfErr result (λ fault. fault ≡ Memory) }
+{
+    let mut kept = Attributes::new(alloc);
+    for attribute in attributes {
+        add(alloc, policy, element, &mut kept, attribute)?;
+    }
+    Ok(kept)
+}

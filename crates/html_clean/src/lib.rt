@@ -1,0 +1,22 @@
+//! A sanitizer: what a policy keeps of a document, written so that every tokenizer reads just that.
+#![tactic(auto)]
+
+mod attributes;
+mod checked;
+mod counts;
+mod elements;
+mod filter;
+pub mod laws;
+mod names;
+mod policy;
+mod ready;
+pub mod rows;
+mod texts;
+mod url;
+mod write;
+
+pub use counts::Cleaned;
+pub use filter::Filter;
+pub use policy::{Policy, Rule};
+pub use url::{UrlKind, url_kind};
+pub use write::{serialize_clean, write_clean};

@@ -1,0 +1,208 @@
+//! A policy that is ready.
+ghost use Rattle.std.specs.Prelude.{◌≡◌, ◌++◌, [], map, OnOk, IfOk, IfErr};
+ghost use Rattle.std.specs.Str.{chars};
+ghost use Rattle.html_clean.specs.Ready.{IsTextAndLinks, ready_rules, rule_names};
+ghost use Rattle.markup.specs.declared.fault.ParseFault.TheVariants.{Memory};
+
+use crate::policy::{Policy, Rule, names_of};
+use markup::{ParseFault, Text};
+use std::alloc::Global;
+
+/// Elements that are kept without attributes of their own.
+const PLAIN_ELEMENTS: [&str; 58] = [
+    "abbr",
+    "acronym",
+    "area",
+    "article",
+    "aside",
+    "b",
+    "bdi",
+    "br",
+    "caption",
+    "center",
+    "cite",
+    "code",
+    "data",
+    "dd",
+    "details",
+    "dfn",
+    "div",
+    "dl",
+    "dt",
+    "em",
+    "figcaption",
+    "figure",
+    "footer",
+    "h1",
+    "h2",
+    "h3",
+    "h4",
+    "h5",
+    "h6",
+    "header",
+    "hgroup",
+    "i",
+    "kbd",
+    "li",
+    "map",
+    "mark",
+    "nav",
+    "p",
+    "pre",
+    "rp",
+    "rt",
+    "rtc",
+    "ruby",
+    "s",
+    "samp",
+    "small",
+    "span",
+    "strike",
+    "strong",
+    "sub",
+    "summary",
+    "sup",
+    "time",
+    "tt",
+    "u",
+    "ul",
+    "var",
+    "wbr",
+];
+
+/// Elements that are kept with attributes of their own.
+const ELEMENTS: [(&str, &[&str]); 18] = [
+    ("a", &["href", "hreflang"]),
+    ("bdo", &["dir"]),
+    ("blockquote", &["cite"]),
+    ("col", &["align", "char", "charoff", "span"]),
+    ("colgroup", &["align", "char", "charoff", "span"]),
+    ("del", &["cite", "datetime"]),
+    ("hr", &["align", "size", "width"]),
+    ("img", &["align", "alt", "height", "src", "width"]),
+    ("ins", &["cite", "datetime"]),
+    ("ol", &["start"]),
+    ("q", &["cite"]),
+    ("table", &["align", "char", "charoff", "summary"]),
+    ("tbody", &["align", "char", "charoff"]),
+    (
+        "td",
+        &["align", "char", "charoff", "colspan", "headers", "rowspan"],
+    ),
+    ("tfoot", &["align", "char", "charoff"]),
+    (
+        "th",
+        &[
+            "align", "char", "charoff", "colspan", "headers", "rowspan", "scope",
+        ],
+    ),
+    ("thead", &["align", "char", "charoff"]),
+    ("tr", &["align", "char", "charoff"]),
+];
+
+/// Elements that are dropped with what stands in them.
+const DROPPED: [&str; 9] = [
+    "head", "iframe", "noembed", "noframes", "noscript", "script", "style", "template", "title",
+];
+
+/// Attributes that each element may have.
+const EVERYWHERE: [&str; 2] = ["lang", "title"];
+
+/// Schemes of URLs.
+const SCHEMES: [&str; 25] = [
+    "bitcoin",
+    "ftp",
+    "ftps",
+    "geo",
+    "http",
+    "https",
+    "im",
+    "irc",
+    "ircs",
+    "magnet",
+    "mailto",
+    "mms",
+    "mx",
+    "news",
+    "nntp",
+    "openpgp4fpr",
+    "sip",
+    "sms",
+    "smsto",
+    "ssh",
+    "tel",
+    "url",
+    "webcal",
+    "wtai",
+    "xmpp",
+];
+
+/// The texts of these.
+fn texts_of(alloc: Global, list: &[&str]) -> Result<Vec<Text>, ParseFault>
+    ensures ok { IfOk result (λ texts. texts.items ≡ map (λ text. chars text.now) list.now) }
+    ensures err { IfErr result (λ fault. fault ≡ Memory) }
+{
+    let mut texts = Vec::with_capacity(alloc, list.len())?;
+    for text in list {
+        texts.push(Text::from_str(alloc, text)?)?;
+    }
+    Ok(texts)
+}
+
+/// Adds rules for elements without attributes of their own.
+fn push_plain(alloc: Global, list: &[&str], rules: &mut Vec<Rule>) -> Result<(), ParseFault>
+    ensures ok { OnOk result (map rule_names rules.new.items ≡ map rule_names rules.old.items ++ map (λ name. (chars name.now, [])) list.now) }
+    ensures err { IfErr result (λ fault. fault ≡ Memory) }
+{
+    for name in list {
+        rules.push(Rule::new(alloc, name, &[])?)?;
+    }
+    Ok(())
+}
+
+/// Adds rules for elements with attributes of their own.
+fn push_rules(
+    alloc: Global,
+    list: &[(&str, &[&str])],
+    rules: &mut Vec<Rule>,
+) -> Result<(), ParseFault>
+    ensures ok { OnOk result (map rule_names rules.new.items ≡ map rule_names rules.old.items ++ map (λ row. (chars row.0.now, map (λ name. chars name.now) row.1.now)) list.now) }
+    ensures err { IfErr result (λ fault. fault ≡ Memory) }
+{
+    for (name, attributes) in list {
+        rules.push(Rule::new(alloc, name, attributes)?)?;
+    }
+    Ok(())
+}
+
+/// The rules of the policy.
+fn rules(alloc: Global) -> Result<Vec<Rule>, ParseFault>
+    ensures ok { IfOk result (λ rules. map rule_names rules.items ≡ ready_rules) }
+    ensures err { IfErr result (λ fault. fault ≡ Memory) }
+{
+    let mut rules = Vec::new(alloc);
+    push_plain(alloc, &PLAIN_ELEMENTS, &mut rules)?;
+    push_rules(alloc, &ELEMENTS, &mut rules)?;
+    Ok(rules)
+}
+
+impl Policy {
+    /// What [ammonia](https://docs.rs/ammonia) keeps by default, as far as it can be had here: the elements of texts, lists, tables, links
+    /// and images, with URLs of its schemes, relative ones and those that begin with a host.
+    ///
+    /// Dropped with what they have are scripts, styles, the head of a document, templates, frames and what is shown without scripts.
+    pub fn text_and_links(alloc: Global) -> Result<Policy, ParseFault>
+        ensures ok { IfOk result IsTextAndLinks }
+        ensures err { IfErr result (λ fault. fault ≡ Memory) }
+    {
+        Ok(Policy {
+            kept: rules(alloc)?,
+            dropped: names_of(alloc, &DROPPED)?,
+            everywhere: names_of(alloc, &EVERYWHERE)?,
+            urls: Vec::new(alloc),
+            schemes: texts_of(alloc, &SCHEMES)?,
+            allows_relative: true,
+            allows_hosts: true,
+        })
+    }
+}

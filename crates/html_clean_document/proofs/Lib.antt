@@ -1,0 +1,3 @@
+mod SafeTags
+mod GoOn
+pub mod Meanings

@@ -1,0 +1,7 @@
+//! From the bytes of an HTML document to what a policy keeps of it.
+#![tactic(auto)]
+
+pub mod laws;
+mod whole;
+
+pub use whole::{clean, clean_fragment, clean_fragment_in};

@@ -1,0 +1,148 @@
+//! Policies of one's own, what is counted, and faults.
+
+use devices::{MemReader, MemWriter, VecWriter};
+use html_clean::{Cleaned, Policy};
+use html_clean_document::{clean, clean_fragment, clean_fragment_in};
+use html_normal::{Exact, NormalFault, References};
+use markup::{KnownNamespace, LocalName, Namespace, ParseFault, QualName, Text};
+use std::alloc::{AllocError, Global};
+use std::test::Fail;
+
+/// Links by `https` and marks, with a class, and no other attribute; no relative links.
+fn links_alone(alloc: Global) -> Result<Policy, ParseFault> {
+    let mut policy = Policy::text_alone(alloc);
+    policy.keep(alloc, "a", &["href"])?;
+    policy.keep(alloc, "mark", &[])?;
+    policy
+        .everywhere
+        .push(LocalName::from_str(alloc, "class")?)?;
+    policy.schemes.push(Text::from_str(alloc, "https")?)?;
+    policy.dropped.push(LocalName::from_str(alloc, "aside")?)?;
+    Ok(policy)
+}
+
+/// What stands in names that are never kept.
+fn unsafe_policy(alloc: Global) -> Result<Policy, ParseFault> {
+    let mut policy = Policy::text_alone(alloc);
+    for element in ["p", "script", "style", "image", "svg", "x-y", "title"] {
+        policy.keep(alloc, element, &["onclick", "style", "srcset", "title"])?;
+    }
+    Ok(policy)
+}
+
+fn reader_of(alloc: Global, page: &str) -> Result<MemReader, AllocError> {
+    Ok(MemReader::new(Vec::from_slice(alloc, page.as_bytes())?, 4096, None))
+}
+
+/// Whether a policy leaves this of a fragment, and counts so.
+fn leaves(alloc: Global, policy: &Policy, page: &str, left: &str, counts: Cleaned) -> bool {
+    let (Ok(mut reader), Ok(five)) = (reader_of(alloc, page), References::five(alloc)) else {
+        return false;
+    };
+    let mut writer = VecWriter::new(alloc);
+    let answer = clean_fragment(
+        alloc,
+        &mut reader,
+        &mut writer,
+        five,
+        Exact::default(),
+        policy,
+    );
+    answer == Ok(counts) && writer.written() == left.as_bytes()
+}
+
+#[test]
+fn a_policy_of_ones_own(rt: HostRuntime) -> Result<(), Fail> {
+    let alloc = rt.alloc();
+    let policy = links_alone(alloc)?;
+    assert!(rt; policy.checked().is_ok());
+    let page =
+        "<p class=a>x<a href=https://b id=c class=d>y</a><a href=e>z</a></p><aside>u<b>v</b></aside><!-- w --><mark class=a class=b>";
+    let left = "x<a href=\"https://b\" class=\"d\">y</a><a>z</a><mark class=\"a\"></mark>";
+    let counts = Cleaned {
+        unwrapped: 1,
+        dropped: 1,
+        attributes: 2,
+        comments: 1,
+    };
+    assert!(rt; leaves(alloc, &policy, page, left, counts));
+    Ok(())
+}
+
+#[test]
+fn some_names_are_never_kept(rt: HostRuntime) -> Result<(), Fail> {
+    let alloc = rt.alloc();
+    let policy = unsafe_policy(alloc)?;
+    let first = policy.checked().err();
+    assert!(rt; first.is_some_and(|name| name.as_str() == "script"));
+    let page = "<p onclick=a style=b srcset=c title=d><script>e</script><x-y>f</x-y><svg>g</svg>";
+    let left = "<p title=\"d\">efg</p>";
+    let counts = Cleaned {
+        unwrapped: 3,
+        dropped: 0,
+        attributes: 3,
+        comments: 0,
+    };
+    assert!(rt; leaves(alloc, &policy, page, left, counts));
+    Ok(())
+}
+
+#[test]
+fn a_fragment_stands_in_its_context(rt: HostRuntime) -> Result<(), Fail> {
+    let alloc = rt.alloc();
+    let policy = Policy::text_and_links(alloc)?;
+    let context = QualName::new(
+        None,
+        Namespace::from_known(KnownNamespace::Html),
+        LocalName::from_str(alloc, "table")?,
+    );
+    let mut reader = reader_of(alloc, "<td>a")?;
+    let mut writer = VecWriter::new(alloc);
+    let five = References::five(alloc)?;
+    let answer = clean_fragment_in(
+        alloc,
+        &mut reader,
+        &mut writer,
+        five,
+        Exact::default(),
+        context,
+        &policy,
+    );
+    assert!(rt; answer == Ok(Cleaned::default()));
+    assert!(rt; writer.written() == "<tbody><tr><td>a</td></tr></tbody>".as_bytes());
+    Ok(())
+}
+
+/// What cleaning answers and writes of some bytes, with a reader and a writer that may fail.
+fn outcome(
+    alloc: Global,
+    bytes: &[u8],
+    read_fails: Option<u64>,
+    write_fails: Option<u64>,
+) -> Result<(Result<Cleaned, NormalFault>, usize), AllocError> {
+    let (Ok(policy), Ok(five)) = (Policy::text_and_links(alloc), References::five(alloc)) else {
+        return Err(AllocError);
+    };
+    let mut reader = MemReader::new(Vec::from_slice(alloc, bytes)?, 4, read_fails);
+    let mut writer = MemWriter::new(alloc, 100, 100, write_fails, false)?;
+    let answer = clean(
+        alloc,
+        &mut reader,
+        &mut writer,
+        five,
+        Exact::default(),
+        &policy,
+    );
+    Ok((answer, writer.written().len()))
+}
+
+#[test]
+fn faults_are_told(rt: HostRuntime) -> Result<(), Fail> {
+    let alloc = rt.alloc();
+    let refused = outcome(alloc, b"<p>a\xFF", None, None)?;
+    assert!(rt; refused == (Err(NormalFault::NotUtf8 { at: 4 }), 0));
+    assert!(rt; outcome(alloc, b"<p>a</p>", Some(1), None)? == (Err(NormalFault::Read), 0));
+    let broke = outcome(alloc, b"<p>a</p>", None, Some(2))?;
+    assert!(rt; broke.0 == Err(NormalFault::Write) && broke.1 < 8);
+    Ok(())
+}

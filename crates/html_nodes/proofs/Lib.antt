@@ -1,0 +1,4 @@
+mod Levels
+pub mod Walking
+mod Distinct
+mod Keeping

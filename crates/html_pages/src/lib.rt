@@ -1,0 +1,11 @@
+//! Pages to trees: whole or as fragments, and with their parse errors; and whether they are read back.
+#![tactic(auto)]
+
+mod noted;
+mod read_back;
+mod reading;
+
+pub use html_normal::{Exact, NormalFault, References, read_document};
+pub use noted::{Noted, NotedForest};
+pub use read_back::is_read_back;
+pub use reading::{document, document_lossy, fragment, noted_document};

@@ -1,0 +1,127 @@
+//! Texts to documents and to fragments.
+ghost use Rattle.std.specs.Prelude.{◌≡◌, IfErr, IfOk, IsTrue, false, length, true};
+ghost use Rattle.std.specs.Str.{chars};
+ghost use Rattle.std.specs.Str.Lossy.{utf8_lossy};
+ghost use Rattle.std.specs.String.{string_bytes};
+ghost use Rattle.html_normal.specs.declared.fault.NormalFault.TheVariants.{Memory};
+ghost use Rattle.html_parser.specs.Documents.{Begins, IsBuilt, builder};
+ghost use Rattle.html_parser.specs.Read.{Beginning, stopped_by};
+ghost use Rattle.html_rules.specs.State.{State};
+ghost use Rattle.html_tokenizer.specs.Calls.{IsReadyIf, refusal_of};
+ghost use Rattle.html_pages.specs.Pages.{IsFragment, IsPage, html_name};
+
+use crate::noted::NotedForest;
+use html_forest::Forest;
+use html_normal::{Exact, NormalFault, References, options};
+use html_parser::{Parser, parse_document, parse_fragment};
+use markup::{Attributes, KnownNamespace, LocalName, Namespace, QualName, TreeSink};
+use std::alloc::Global;
+
+// Nobody looks at the errors.
+const FEW_ERRORS: Exact = Exact {
+    tokenizer: false,
+    tree_builder: false,
+};
+
+// Somebody does.
+const ALL_ERRORS: Exact = Exact {
+    tokenizer: true,
+    tree_builder: true,
+};
+
+// What a parser that has begun makes of a whole text.
+fn whole<Sink: TreeSink + Drop>(
+    parser: Parser<Sink>,
+    text: String,
+) -> Result<Sink::Output, NormalFault>
+    requires { IsReadyIf (builder Sink.TreeSink) (stopped_by parser.has_failed (refusal_of parser.tokenizer)) parser.tokenizer }
+    ensures ok { IfOk result (λ out. (begin : Beginning State) → Begins Sink.TreeSink begin parser.has_failed parser.tokenizer parser.input_buffer → IsBuilt Sink.TreeSink begin (chars (string_bytes text)) out) }
+    ensures fault { IfErr result (λ fault. (begin : Beginning State) → Begins Sink.TreeSink begin parser.has_failed parser.tokenizer parser.input_buffer → fault ≡ Memory) }
+{
+    Ok(parser.one(text)?)
+}
+
+/// The document of a text.
+///
+/// Errors: [`NormalFault::Memory`].
+pub fn document(alloc: Global, references: References, page: String) -> Result<Forest, NormalFault>
+    ensures ok { IfOk result (IsPage references false (string_bytes page)) }
+    ensures fault { IfErr result (λ fault. fault ≡ Memory) }
+{
+    let forest = Forest::new(alloc)?;
+    let parser = parse_document(alloc, forest, options(FEW_ERRORS), references)?;
+    whole(parser, page)
+}
+
+/// The document of bytes that are to be UTF-8: what isn't stands as U+FFFD, as in a page that is decoded (Encoding Standard, section
+/// 4.1). [`read_document`](html_normal::read_document) refuses such bytes, and tells where they are.
+///
+/// Errors: [`NormalFault::Memory`].
+pub fn document_lossy(
+    alloc: Global,
+    references: References,
+    bytes: &[u8],
+) -> Result<Forest, NormalFault>
+    ensures ok { IfOk result (IsPage references false (utf8_lossy bytes.now)) }
+    ensures fault { IfErr result (λ fault. fault ≡ Memory) }
+{
+    let page = String::from_utf8_lossy(alloc, bytes)?;
+    document(alloc, references, page)
+}
+
+/// What a text makes in an element of HTML of that name, as `td`, as where `innerHTML` is set: it stands in the only child of the
+/// document (HTML Standard, section 13.4). Scripts don't run in it.
+///
+/// Errors: [`NormalFault::Memory`].
+pub fn fragment(
+    alloc: Global,
+    references: References,
+    context: &str,
+    text: String,
+) -> Result<Forest, NormalFault>
+    ensures ok { IfOk result (IsFragment references (html_name (chars context.now)) (chars (string_bytes text))) }
+    ensures fault { IfErr result (λ fault. fault ≡ Memory) }
+{
+    let local = LocalName::from_str(alloc, context)?;
+    let html = Namespace::from_known(KnownNamespace::Html);
+    let name = QualName::new(None, html, local);
+    let forest = Forest::new(alloc)?;
+    let parser = parse_fragment(
+        alloc,
+        forest,
+        options(FEW_ERRORS),
+        name,
+        Attributes::new(alloc),
+        false,
+        references,
+    )?;
+    whole(parser, text)
+}
+
+// Whether each error was kept that was counted.
+fn is_complete(page: &NotedForest) -> bool
+    ensures { IsTrue result → length page.now.errors.items ≡ page.now.forest.errors }
+{
+    page.errors.len() as u64 == page.forest.error_count()
+}
+
+/// The document of a text with all its parse errors, in the order in which they were told.
+///
+/// Errors: [`NormalFault::Memory`].
+pub fn noted_document(
+    alloc: Global,
+    references: References,
+    page: String,
+) -> Result<NotedForest, NormalFault>
+    ensures ok { IfOk result (λ made. IsPage references true (string_bytes page) made.forest) }
+    ensures all { IfOk result (λ made. length made.errors.items ≡ made.forest.errors) }
+    ensures fault { IfErr result (λ fault. fault ≡ Memory) }
+{
+    let forest = NotedForest::new(alloc)?;
+    let parser = parse_document(alloc, forest, options(ALL_ERRORS), references)?;
+    let made = whole(parser, page)?;
+    if !is_complete(&made) {
+        return Err(NormalFault::Memory);
+    }
+    Ok(made)
+}
