@@ -66,7 +66,7 @@ fn each_read_fails_once(rt: HostRuntime) {
 /// Whether the write behind so many bytes fails, and just these are written, where there is such a write.
 fn is_written_up_to(alloc: Global, count: usize, zero: bool) -> Result<bool, AllocError> {
     let on = Devices {
-        write_fails: Some(count as u64 + 1),
+        write_fails: Some((count as u64).saturating_add(1)),
         zero,
         ..BYTES
     };
