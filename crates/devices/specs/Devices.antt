@@ -1,5 +1,5 @@
 -- What a device tells of its bytes and of its failures.
-use Rattle.std.specs.Prelude.{ℕ, ◌+◌, ◌-◌, ◌^◌, Bool, true, false, ◌&&◌, ◌==◌, nat_lt, if◌then◌else◌, List, length, Option, Result, Ok, Err}
+use Rattle.std.specs.Prelude.{ℕ, ◌+◌, ◌-◌, ◌^◌, Bool, true, false, ◌&&◌, ◌==◌, nat_lt, if◌then◌else◌, List, length, Option, Some, None, Result, Ok, Err}
 use Rattle.std.specs.Option.{option_map}
 
 -- a count of failures after one more: at u64::MAX it stays
@@ -10,6 +10,11 @@ one_more n = if nat_lt n (2 ^ 64 - 1) then n + 1 else n
 abbrev pub count_after : Bool → Option ℕ → Option ℕ
 count_after true count = option_map one_more count
 count_after false count = count
+
+-- of a source: who tells how often it failed tells its bytes too
+abbrev pub TellsBytes : Option (List ℕ) → Option ℕ → Type 0
+TellsBytes None (Some n) = ⊥
+TellsBytes left failures = Unit {0}
 
 -- whether a write of these bytes failed: by an error, or by taking nothing of something
 abbrev pub write_failed : {E : Type 0} → List ℕ → Result ℕ E → Bool

@@ -1,7 +1,7 @@
 //! The traits of the devices.
 ghost use Rattle.std.specs.Prelude.{◌≡◌, ◌<◌, ◌≤◌, ℕ, List, [], ◌∷◌, Option, length, take, drop, is_err, IfOk, OnErr, OnSome};
 ghost use Rattle.std.specs.Io.KnownBytes.{IsAtEnd, append_known, prepend_known};
-ghost use Rattle.devices.specs.Devices.{count_after, write_failed};
+ghost use Rattle.devices.specs.Devices.{TellsBytes, count_after, write_failed};
 
 use thiserror::Error;
 
@@ -16,7 +16,7 @@ pub enum DeviceFault {
 ///
 /// Contracts see the bytes that are `left` and the count of `failures`. Each is told or not told, and
 /// stays so: a source that tells neither, as one of the operating system, is still bound by the numbers
-/// that it answers.
+/// that it answers. One that tells its failures tells its bytes too.
 pub trait Source {
     // The bytes that reads will give from here on, where they are told.
     ghost left: { Self → Option (List ℕ) };
@@ -39,6 +39,7 @@ pub trait Source {
         ensures end { IfOk result (λ n. n ≡ 0 → 0 < length buffer.old → IsAtEnd (left self.old)) }
         ensures kept { OnErr result (left self.new ≡ left self.old) }
         ensures untouched { OnErr result (OnSome (left self.old) (buffer.new ≡ buffer.old)) }
+        ensures tells { TellsBytes (left self.old) (failures self.old) }
         ensures counted { failures self.new ≡ count_after (is_err result) (failures self.old) }
         ensures same_references { references self.new ≡ references self.old };
 }

@@ -1,5 +1,5 @@
 -- A parser that takes what a reader has, read by read.
-use Rattle.std.proofs.Common.{◌≡◌, ◌==◌, ◌∙◌, true, false, ℕ, ◌+◌, ◌<◌, ◌≤◌, ◌^◌, Bool, List, [], ◌∷◌, ◌++◌, length, take, refl, sym, ap, subst, arith, Option, Some, None, IsUtf8, append_assoc, length-append}
+use Rattle.std.proofs.Common.{◌≡◌, ◌==◌, ◌∙◌, true, false, ℕ, ◌+◌, ◌<◌, ◌≤◌, ◌^◌, Bool, List, [], ◌∷◌, ◌++◌, length, take, refl, sym, ap, subst, arith, Option, Some, None, IsUtf8, append_assoc, length-append, inl, inr, ◌⊎◌}
 use Rattle.std.specs.Prelude.{IsErr}
 use Rattle.std.specs.Io.KnownBytes.{IsAtEnd, prepend_known}
 use Rattle.std.specs.Str.{chars}
@@ -19,7 +19,8 @@ use Rattle.html_parser.specs.Read.{FailsBehind, HasRead, ReadsOn, read_whole}
 use Rattle.html_tokenizer.specs.declared.tokenizer.Tokenizer.{Tokenizer}
 use Rattle.html_tree_builder.specs.declared.builder.TreeBuilder.{TreeBuilder}
 use Rattle.html_normal.specs.Faults.{fault_of, input_fault_of}
-use Rattle.html_normal.specs.Normal.{IsInputFault, IsTooLong}
+use Rattle.devices.specs.Devices.{TellsBytes, count_after}
+use Rattle.html_normal.specs.Normal.{HasTooMany, IsInputFault, IsTooLong}
 use Rattle.html_normal.specs.Parsing.{HasReadAll, MayRefuse}
 
 -- BYTES
@@ -68,6 +69,15 @@ module _ (old mid new : Option (List ℕ)) (decoded held piece : List ℕ) (take
     moved = known_split old new ((decoded ++ held) ++ piece) whole left moved-piece told rest;
     long = omega (arith, so_far.counted, ap length is, length-append held piece, length-append decoded held, length-append (decoded ++ held) piece);
   }
+
+  -- so a reader that tells how often it failed has told these bytes
+  pub too-many : (bytes : List ℕ) → bytes ≡ held ++ piece → 2 ^ 64 ≤ taken + length bytes → (failures now : Option ℕ) → TellsBytes mid failures → now ≡ failures → (now ≡ count_after true failures) ⊎ ((now ≡ failures) × HasTooMany old new)
+  too-many bytes is long None now tells same = inl same
+  too-many bytes is long (Some n) now tells same = inr (same, by mid new tells moved moved-piece (too-long bytes is long)) where
+    by : (mid new : Option (List ℕ)) → TellsBytes mid (Some n) → mid ≡ prepend_known piece new → old ≡ prepend_known ((decoded ++ held) ++ piece) new → ((whole left : List ℕ) → old ≡ Some whole → new ≡ Some left → IsTooLong whole left) → HasTooMany old new
+    by None new tells e f long = absurd tells
+    by (Some m) None tells e f long = absurd (cc)
+    by (Some m) (Some r) tells e f long = record { whole = ((decoded ++ held) ++ piece) ++ r; rest = r; before = f; after = refl; long = long (((decoded ++ held) ++ piece) ++ r) r f refl }
 
 -- a read that failed
 pub begun : (old mid new : Option (List ℕ)) (decoded held : List ℕ) (taken : ℕ) → IsDecoded old mid decoded held taken → new ≡ mid → (whole left : List ℕ) → old ≡ Some whole → new ≡ Some left → HasBegun whole left

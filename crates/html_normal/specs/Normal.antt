@@ -64,10 +64,17 @@ IsFailed table left left' old new Write = (whole : List ℕ) → left ≡ Some w
 IsFailed table left left' old new Memory = (new ≡ old) ⊎ ((whole : List ℕ) → left ≡ Some whole → IsBegun table whole old new)
 IsFailed table left left' old new Refused = ⊥
 
--- How often a reader has failed, by how often it had: once more where it is told that reading failed, unless the input is too long.
+-- A reader that tells its bytes told more than can be counted.
+pub record HasTooMany (left left' : Option (List ℕ)) : Type 0 where
+  pub whole : List ℕ
+  pub rest : List ℕ
+  pub before : left ≡ Some whole
+  pub after : left' ≡ Some rest
+  pub long : IsTooLong whole rest
+
+-- How often a reader has failed, by how often it had: once more where it is told that reading failed, unless it tells too many bytes.
 abbrev pub CountsReads : {T : Type 0} → Result T NormalFault → (left left' : Option (List ℕ)) (failures failures' : Option ℕ) → Type 0
-CountsReads (Err Read) left left' failures failures' =
-    (failures' ≡ count_after true failures) ⊎ ((failures' ≡ failures) × ((whole rest : List ℕ) → left ≡ Some whole → left' ≡ Some rest → IsTooLong whole rest))
+CountsReads (Err Read) left left' failures failures' = (failures' ≡ count_after true failures) ⊎ ((failures' ≡ failures) × HasTooMany left left')
 CountsReads result left left' failures failures' = failures' ≡ failures
 
 -- Whether the writer failed.

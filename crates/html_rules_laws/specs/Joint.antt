@@ -12,7 +12,7 @@ use Rattle.html_rules.specs.Documents.{Setting, before_document, before_fragment
 use Rattle.html_rules.specs.ForeignContent.{asks_cdata, is_end_tag}
 use Rattle.html_rules.specs.Names.{Html, element_name_of}
 use Rattle.html_rules.specs.Shape.{is_fit}
-use Rattle.html_rules.specs.State.{Open, State, hushed}
+use Rattle.html_rules.specs.State.{Open, State, current_is, hushed, is_named}
 use Rattle.html_rules.specs.Step.{step}
 use Rattle.html_rules.specs.declared.insertion_mode.InsertionMode.TheVariants.{Text}
 use Rattle.html_rules_laws.specs.Soundness.{IsOwn}
@@ -32,11 +32,18 @@ pub data Met (table : List Row) : Stand → State → Type 0 where
   behind : (st : Stand) (s r : State) (c : ℕ) (t : List ℕ) (breaks : ℕ) (reply : Reply) → Met table st s
       → said step (λ fault s. s) (item table (asks_cdata s) st c t).fault (item table (asks_cdata s) st c t).token breaks s ≡ Ok (r, reply) → Met table (next_stand (item table (asks_cdata s) st c t).next reply) r
 
--- Up to the end of the input the state fits its mode, and the mode is "text" only where raw text is read, or an end tag in it.
+-- the current node is HTML's of the name of the last start tag
+abbrev pub is_last_opened : Option (List ℕ) → List Open → Bool
+is_last_opened None xs = false
+is_last_opened (Some name) xs = current_is (is_named name) xs
+
+-- Up to the end of the input the state fits its mode, and the mode is "text" only where raw text is read, or an end tag in it, and the last
+-- start tag is that of the current node.
 pub record IsJoint (st : Stand) (s : State) : Type 0 where
   pub going : s.has_ended ≡ false
   pub fits : is_fit s ≡ true
   pub raw : s.mode ≡ Text → is_raw_place st.place ≡ true
+  pub named : s.mode ≡ Text → is_last_opened st.last_start_tag s.open_elems ≡ true
 
 abbrev pub AreJoint : Type 0
 AreJoint = (table : List Row) (st : Stand) (s : State) → Met table st s → IsJoint st s

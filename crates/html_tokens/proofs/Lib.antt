@@ -1,6 +1,7 @@
 pub mod CleanComments
 pub mod CleanItems
 pub mod CleanTags
+pub mod Declarations
 pub mod Lengths
 pub mod ListingLaws
 pub mod NewlineLaws

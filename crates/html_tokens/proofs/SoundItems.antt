@@ -1,6 +1,6 @@
 -- What holds of each token that a reading tells: text without U+0000, lowered names, distinct attributes.
-use Rattle.std.proofs.Common.{◌≡◌, ◌∙◌, ℕ, zero, suc, ◌≤◌, Bool, true, false, nat_eq, List, [], ◌∷◌, ◌++◌, map, take, drop, Option, Some, None, refl, sym, arith, true≢false}
-use Rattle.std.specs.Prelude.{◌||◌, ◌&&◌, not, if◌then◌else◌, codes, IfSome}
+use Rattle.std.proofs.Common.{◌≡◌, ◌∙◌, ℕ, suc, ◌≤◌, Bool, true, false, nat_eq, List, [], ◌∷◌, ◌++◌, map, take, drop, Option, Some, None, refl, sym, arith, true≢false}
+use Rattle.std.specs.Prelude.{◌||◌, ◌&&◌, not, if◌then◌else◌, IfSome}
 use Rattle.std.specs.Bool.{one_answer}
 use Rattle.std.specs.Char.{to_ascii_lowercase, is_ascii_alphabetic}
 use Rattle.std.specs.List.{list_all, list_any}
@@ -15,7 +15,8 @@ use Rattle.html_tokens.specs.declared.tags.Tag.{Tag}
 use Rattle.html_tokens.specs.declared.tags.TagKind.{TagKind}
 use Rattle.html_tokens.specs.declared.tags.TagKind.TheVariants.{StartTag, EndTag}
 use Rattle.html_tokens.specs.declared.token.Doctype.{Doctype}
-use Rattle.html_tokens.specs.declared.token.Token.TheVariants.{TagToken}
+use Rattle.html_tokens.specs.declared.token.Token.{Token}
+use Rattle.html_tokens.specs.declared.token.Token.TheVariants.{TagToken, CommentToken, DoctypeToken}
 use Rattle.html_tokens.specs.Characters
 use Rattle.html_tokens.specs.Comments
 use Rattle.html_tokens.specs.Doctypes
@@ -26,135 +27,25 @@ use Rattle.html_tokens.specs.RawText
 use Rattle.html_tokens.specs.Reference
 use Rattle.html_tokens.specs.Table.{Row, values, longest, longer_of, fitting}
 use Rattle.html_tokens.specs.Tags
+use Rattle.html_tokens.proofs.Declarations.{all as every, bogus, doctype_at, empty_by}
+
+-- COMMENTS AND DOCTYPES
+
+abbrev IsSound : Option Token → Stand → Type 0
+IsSound o st = IfSome o IsSoundToken × IsSoundPlace st.place
+
+abbrev StandsWell : Stand → Type 0
+StandsWell st = IsSoundPlace st.place
+
+comment-sound : (st : Stand) (text : List ℕ) → StandsWell st → IsSound (Some (CommentToken text)) st
+comment-sound st text p = (tt, p)
+
+doctype-sound : (st : Stand) (d : Doctype) → StandsWell st → IsSound (Some (DoctypeToken d)) st
+doctype-sound st d p = (tt, p)
 
 -- an item behind n characters more
 all : (n : ℕ) (i : Item) → IsSoundItem i → IsSoundItem (behind_all n i)
-all zero i h = h
-all (suc n) i h = all n i h
-
--- COMMENTS
-
-comment_by : (o : Option ℕ) (faulty odd : Bool) (st : Stand) (front : List ℕ) (go : Unit {0} → Item) → IsSoundPlace st.place → IsSoundItem (go tt) → IsSoundItem (Comments.comment_by o faulty odd st front go)
-comment_by (Some n) faulty odd st front go p h = (tt, p)
-comment_by None faulty odd st front go p h = h
-
-comment_after : (st : Stand) (p : IsSoundPlace st.place) (t front : List ℕ) → IsSoundItem (Comments.comment_after st front t)
-comment_after st p [] front = (tt, p)
-comment_after st p (c ∷ t) front = comment_by (Comments.comment_end (c ∷ t)) _ _ st front (λ _. Comments.comment_after st (front ++ Characters.shown c ∷ []) t) p (comment_after st p t (front ++ Characters.shown c ∷ []))
-
-empty_by : (a b : Bool) (st : Stand) (t : List ℕ) → IsSoundPlace st.place → IsSoundItem (Comments.empty_by a b st t)
-empty_by true b st t p = (tt, p)
-empty_by false true st t p = (tt, p)
-empty_by false false st t p = comment_after st p t []
-
-bogus_by : (b : Bool) (st : Stand) (front : List ℕ) (go : Unit {0} → Item) → IsSoundPlace st.place → IsSoundItem (go tt) → IsSoundItem (Comments.bogus_by b st front go)
-bogus_by true st front go p h = (tt, p)
-bogus_by false st front go p h = h
-
-bogus : (st : Stand) (p : IsSoundPlace st.place) (t front : List ℕ) → IsSoundItem (Comments.bogus_comment_after st front t)
-bogus st p [] front = (tt, p)
-bogus st p (c ∷ t) front = bogus_by (nat_eq c 62) st front (λ _. Comments.bogus_comment_after st (front ++ Characters.shown c ∷ []) t) p (bogus st p t (front ++ Characters.shown c ∷ []))
-
--- DOCTYPES
-
-junk_by : (b : Bool) (st : Stand) (d : Doctype) (go : Unit {0} → Item) → IsSoundPlace st.place → IsSoundItem (go tt) → IsSoundItem (Doctypes.junk_by b st d go)
-junk_by true st d go p h = (tt, p)
-junk_by false st d go p h = h
-
-junk : (st : Stand) (p : IsSoundPlace st.place) (d : Doctype) (t : List ℕ) → IsSoundItem (Doctypes.junk_after st d t)
-junk st p d [] = (tt, p)
-junk st p d (c ∷ t) = junk_by (nat_eq c 62) st d (λ _. Doctypes.junk_after st d t) p (junk st p d t)
-
-behind_system : (st : Stand) (p : IsSoundPlace st.place) (d : Doctype) (t : List ℕ) → IsSoundItem (Doctypes.behind_system st d t)
-behind_system st p d [] = (tt, p)
-behind_system st p d (c ∷ t) = junk st p d (c ∷ t)
-
-after_system : (st : Stand) (p : IsSoundPlace st.place) (d : Doctype) (t : List ℕ) → IsSoundItem (Doctypes.after_system st d t)
-after_system st p d t = all (Characters.white t) (Doctypes.behind_system st d (drop (Characters.white t) t)) (behind_system st p d (drop (Characters.white t) t))
-
-closed_by : (b : Bool) (st : Stand) (d : Doctype) (t : List ℕ) (go : Doctype → List ℕ → Item) → IsSoundPlace st.place → IsSoundItem (go d t) → IsSoundItem (Doctypes.closed_by b st d t go)
-closed_by true st d t go p h = h
-closed_by false st d t go p h = (tt, p)
-
-identifier_end : (q : ℕ) (st : Stand) (p : IsSoundPlace st.place) (d : Doctype) (t : List ℕ) (go : Doctype → List ℕ → Item) → ((d : Doctype) (t : List ℕ) → IsSoundItem (go d t)) → IsSoundItem (Doctypes.identifier_end q st d t go)
-identifier_end q st p d [] go h = (tt, p)
-identifier_end q st p d (c ∷ t) go h = closed_by (nat_eq c q) st d t go p (h d t)
-
-system_after : (q : ℕ) (st : Stand) (p : IsSoundPlace st.place) (d : Doctype) (t : List ℕ) → IsSoundItem (Doctypes.system_after q st d [] t)
-system_after q st p d t =
-    let n = Doctypes.identifier q t in
-    let d' : Doctype = record d { system_id = Some (Doctypes.shown_all (take n t)) } in
-    all n (Doctypes.identifier_end q st d' (drop n t) (Doctypes.after_system st)) (identifier_end q st p d' (drop n t) (Doctypes.after_system st) (after_system st p))
-
-system_by : (o : Doctypes.Opening) (st : Stand) (p : IsSoundPlace st.place) (d : Doctype) (c : ℕ) (t : List ℕ) → IsSoundItem (Doctypes.system_by o st d c t)
-system_by Doctypes.Quote st p d c t = system_after c st p d t
-system_by Doctypes.Close st p d c t = (tt, p)
-system_by Doctypes.Junk st p d c t = junk st p (Doctypes.forced d) (c ∷ t)
-
-system_at : (st : Stand) (p : IsSoundPlace st.place) (d : Doctype) (t : List ℕ) → IsSoundItem (Doctypes.system_at st d t)
-system_at st p d [] = (tt, p)
-system_at st p d (c ∷ t) = system_by (Doctypes.opening c) st p d c t
-
-second_by : (o : Doctypes.Opening) (st : Stand) (p : IsSoundPlace st.place) (d : Doctype) (c : ℕ) (t : List ℕ) → IsSoundItem (Doctypes.second_by o st d c t)
-second_by Doctypes.Quote st p d c t = system_after c st p d t
-second_by Doctypes.Close st p d c t = (tt, p)
-second_by Doctypes.Junk st p d c t = junk st p (Doctypes.forced d) (c ∷ t)
-
-behind_public : (st : Stand) (p : IsSoundPlace st.place) (d : Doctype) (t : List ℕ) → IsSoundItem (Doctypes.behind_public st d t)
-behind_public st p d [] = (tt, p)
-behind_public st p d (c ∷ t) = second_by (Doctypes.opening c) st p d c t
-
-after_public : (st : Stand) (p : IsSoundPlace st.place) (d : Doctype) (t : List ℕ) → IsSoundItem (Doctypes.after_public st d t)
-after_public st p d t = all (Characters.white t) (Doctypes.behind_public st d (drop (Characters.white t) t)) (behind_public st p d (drop (Characters.white t) t))
-
-public_after : (q : ℕ) (st : Stand) (p : IsSoundPlace st.place) (d : Doctype) (t : List ℕ) → IsSoundItem (Doctypes.public_after q st d [] t)
-public_after q st p d t =
-    let n = Doctypes.identifier q t in
-    let d' : Doctype = record d { public_id = Some (Doctypes.shown_all (take n t)) } in
-    all n (Doctypes.identifier_end q st d' (drop n t) (Doctypes.after_public st)) (identifier_end q st p d' (drop n t) (Doctypes.after_public st) (after_public st p))
-
-public_by : (o : Doctypes.Opening) (st : Stand) (p : IsSoundPlace st.place) (d : Doctype) (c : ℕ) (t : List ℕ) → IsSoundItem (Doctypes.public_by o st d c t)
-public_by Doctypes.Quote st p d c t = public_after c st p d t
-public_by Doctypes.Close st p d c t = (tt, p)
-public_by Doctypes.Junk st p d c t = junk st p (Doctypes.forced d) (c ∷ t)
-
-public_at : (st : Stand) (p : IsSoundPlace st.place) (d : Doctype) (t : List ℕ) → IsSoundItem (Doctypes.public_at st d t)
-public_at st p d [] = (tt, p)
-public_at st p d (c ∷ t) = public_by (Doctypes.opening c) st p d c t
-
-keyword_by : (a b e : Bool) (st : Stand) (p : IsSoundPlace st.place) (d : Doctype) (t : List ℕ) → IsSoundItem (Doctypes.keyword_by a b e st d t)
-keyword_by true b e st p d t = (tt, p)
-keyword_by false true e st p d t =
-    let u = drop 6 t in
-    all 6 (Doctypes.after_public_keyword st d u) (all (Characters.white u) (Doctypes.public_at st d (drop (Characters.white u) u)) (public_at st p d (drop (Characters.white u) u)))
-keyword_by false false true st p d t =
-    let u = drop 6 t in
-    all 6 (Doctypes.after_system_keyword st d u) (all (Characters.white u) (Doctypes.system_at st d (drop (Characters.white u) u)) (system_at st p d (drop (Characters.white u) u)))
-keyword_by false false false st p d t = junk st p (Doctypes.forced d) t
-
-keyword_at : (st : Stand) (p : IsSoundPlace st.place) (d : Doctype) (t : List ℕ) → IsSoundItem (Doctypes.keyword_at st d t)
-keyword_at st p d [] = (tt, p)
-keyword_at st p d (c ∷ t) = keyword_by (nat_eq c 62) (Characters.begins_any_case (codes "public") (c ∷ t)) (Characters.begins_any_case (codes "system") (c ∷ t)) st p d (c ∷ t)
-
-after_name : (st : Stand) (p : IsSoundPlace st.place) (d : Doctype) (t : List ℕ) → IsSoundItem (Doctypes.after_name st d t)
-after_name st p d t = all (Characters.white t) (Doctypes.keyword_at st d (drop (Characters.white t) t)) (keyword_at st p d (drop (Characters.white t) t))
-
-doctype_name : (st : Stand) (p : IsSoundPlace st.place) (t : List ℕ) → IsSoundItem (Doctypes.doctype_name_after st [] t)
-doctype_name st p t =
-    let n = Characters.run Characters.ends_word t in
-    let d : Doctype = record Doctypes.no_doctype { name = Some (Characters.all_lowered (take n t)) } in
-    all n (Doctypes.after_name st d (drop n t)) (after_name st p d (drop n t))
-
-name_by : (b : Bool) (st : Stand) (p : IsSoundPlace st.place) (t : List ℕ) → IsSoundItem (Doctypes.name_by b st t)
-name_by true st p t = (tt, p)
-name_by false st p t = doctype_name st p t
-
-doctype_name_at : (st : Stand) (p : IsSoundPlace st.place) (t : List ℕ) → IsSoundItem (Doctypes.doctype_name_at st t)
-doctype_name_at st p [] = (tt, p)
-doctype_name_at st p (c ∷ t) = name_by (nat_eq c 62) st p (c ∷ t)
-
-doctype_at : (st : Stand) (p : IsSoundPlace st.place) (t : List ℕ) → IsSoundItem (Doctypes.doctype_at st t)
-doctype_at st p t = all (Characters.white t) (Doctypes.doctype_name_at st (drop (Characters.white t) t)) (doctype_name_at st p (drop (Characters.white t) t))
+all n i h = every IsSound n i h
 
 -- REFERENCES
 
@@ -388,10 +279,10 @@ raw_by false true rows st kind c t f h p = reference-item _ _ st p (reference fa
 raw_by false false rows st kind c t f h p = (shown c, tt)
 
 declaration_by : (a b e : Bool) (st : Stand) (t : List ℕ) → IsSoundPlace st.place → IsSoundItem (Items.declaration_by a b e st t)
-declaration_by true b e st t p = all 4 (Comments.comment_at st (drop 2 t)) (empty_by _ _ st (drop 2 t) p)
-declaration_by false true e st t p = all 9 (Doctypes.doctype_at st (drop 7 t)) (doctype_at st p (drop 7 t))
+declaration_by true b e st t p = all 4 (Comments.comment_at st (drop 2 t)) (empty_by IsSound StandsWell comment-sound doctype-sound _ _ st (drop 2 t) p)
+declaration_by false true e st t p = all 9 (Doctypes.doctype_at st (drop 7 t)) (doctype_at IsSound StandsWell comment-sound doctype-sound st p (drop 7 t))
 declaration_by false false true st t p = (tt, tt)
-declaration_by false false false st t p = bogus st p t []
+declaration_by false false false st t p = bogus IsSound StandsWell comment-sound doctype-sound st p t []
 
 opens : (a b d e f : Bool) → (if a then Items.Letter else if b then Items.Slash else if d then Items.Mark else if e then Items.Question else if f then Items.Close else Items.Other) ≡ Items.Letter → a ≡ true
 opens true b d e f h = refl
@@ -407,10 +298,10 @@ opening-letter c h = letter-goes_on c (letter_from c (opens _ _ _ _ _ h))
 end_by : (o : Items.Opening) (st : Stand) (c : ℕ) (t : List ℕ) → Items.opening c ≡ o → IsSoundPlace st.place → IsSoundItem (Items.end_by o st c t)
 end_by Items.Letter st c t e p = named st EndTag c t (opening-letter c e)
 end_by Items.Close st c t e p = (tt, p)
-end_by Items.Slash st c t e p = bogus st p (c ∷ t) []
-end_by Items.Mark st c t e p = bogus st p (c ∷ t) []
-end_by Items.Question st c t e p = bogus st p (c ∷ t) []
-end_by Items.Other st c t e p = bogus st p (c ∷ t) []
+end_by Items.Slash st c t e p = bogus IsSound StandsWell comment-sound doctype-sound st p (c ∷ t) []
+end_by Items.Mark st c t e p = bogus IsSound StandsWell comment-sound doctype-sound st p (c ∷ t) []
+end_by Items.Question st c t e p = bogus IsSound StandsWell comment-sound doctype-sound st p (c ∷ t) []
+end_by Items.Other st c t e p = bogus IsSound StandsWell comment-sound doctype-sound st p (c ∷ t) []
 
 end_at : (st : Stand) (t : List ℕ) → IsSoundPlace st.place → IsSoundItem (Items.end_at st t)
 end_at st [] p = (refl, p)
@@ -420,7 +311,7 @@ open_by : (o : Items.Opening) (cdata : Bool) (st : Stand) (c : ℕ) (t : List �
 open_by Items.Letter cdata st c t e p = named st StartTag c t (opening-letter c e)
 open_by Items.Slash cdata st c t e p = end_at st t p
 open_by Items.Mark cdata st c t e p = declaration_by _ _ _ st t p
-open_by Items.Question cdata st c t e p = bogus st p (c ∷ t) []
+open_by Items.Question cdata st c t e p = bogus IsSound StandsWell comment-sound doctype-sound st p (c ∷ t) []
 open_by Items.Close cdata st c t e p = (refl, p)
 open_by Items.Other cdata st c t e p = (refl, p)
 

@@ -2,6 +2,8 @@
 use Rattle.std.proofs.Common.{◌≡◌, ◌∙◌, ℕ, suc, ◌+◌, Bool, true, false, List, [], ◌∷◌, Option, Some, None, refl, sym, ap, subst, true≢false, codes}
 use Rattle.std.specs.Prelude.{◌||◌, ◌&&◌, IfSome, nat_eq, is_some}
 use Rattle.std.proofs.lemmas.Bool.{and_parts, eqb-true}
+use Rattle.std.specs.Str.{bytes_eq}
+use Rattle.std.proofs.lemmas.Slice.Eq.{bytes_eq-Decides}
 use Rattle.markup.specs.Forest.{Forest, data_of, element_name, node_count}
 use Rattle.markup.specs.declared.names.QualName.{QualName}
 use Rattle.html_tokens.specs.declared.tags.Tag.{Tag}
@@ -18,7 +20,7 @@ use Rattle.html_rules.specs.Rules.{Turn, concluded}
 use Rattle.html_rules.specs.Sets.{is_among, names_of}
 use Rattle.html_rules.specs.Shape.{one_if}
 use Rattle.html_rules.specs.Stack.{open_templates, remove_from_stack, without_number}
-use Rattle.html_rules.specs.State.{Open, State, is_in}
+use Rattle.html_rules.specs.State.{Open, State, current_is, is_in, is_named}
 use Rattle.html_rules.specs.Table.{Action, Then, ParseError, InsertElement, KeepMode, SwitchTo, InsertMarker, FramesetNotOk, PushTemplateMode, InsertTemplate, PushHeadElem, RemoveHeadElem, Conclusion, Done, RawText, TellEncoding}
 use Rattle.html_rules.specs.Templates.{insert_template}
 use Rattle.html_rules.specs.declared.insertion_mode.InsertionMode.{InsertionMode}
@@ -76,8 +78,16 @@ head-among : is_among (codes "head") (names_of set.Head) ≡ true
 unfolding names_of
 head-among = refl
 
+-- the current node is HTML's of the name of a tag
+abbrev pub IsOnTop : Token → List Open → Type 0
+IsOnTop (TagToken tag) xs = current_is (is_named tag.name) xs ≡ true
+IsOnTop t xs = ⊥
+
+pub same-name : (name : List ℕ) → bytes_eq name name ≡ true
+same-name name = (bytes_eq-Decides name name).1 refl
+
 -- what the rows find: the head, over the root
-record IsAgain (n : ℕ) (q : State) : Type 0 where
+pub record IsAgain (n : ℕ) (q : State) : Type 0 where
   at : q.mode ≡ mode.AfterHead
   poised : Poised q
   pushed : Poised (push_head (Some n) q)
@@ -99,17 +109,27 @@ calm-again a h kind t k n q w =
     let elements : without_number n r.open_elems ≡ q.open_elems = ap (without_number n) (quiet-same a tests.0 t p) ∙ alone n q.open_elems in
     like-nested q (remove_from_stack n r) (record { context = like.context; modes = like.modes; framed = like.framed; form = like.form; names = like.names }) (ap open_templates elements) (rw (aside.mode, aside.original, elements) w.is.fits) w.is
 
+-- what is opened for a tag that is none of the head's stands where the head stood
+abbrev opened_for : Tag → State → Open
+opened_for tag q = record { number = node_count q.forest; namespace = Html; name = tag.name }
+
+text-elements : (tag : Tag) → is_loose_name tag.name parts ≡ true → (n : ℕ) (q : State) → IsAgain n q → without_number n (set_mode mode.Text (keep_mode (insert_element_for tag (push_head (Some n) q)))).open_elems ≡ opened_for tag q ∷ q.open_elems
+unfolding set_mode keep_mode insert_element
+text-elements tag l n q w =
+    let p : State = push_head (Some n) q in
+    let r : State = set_mode mode.Text (keep_mode (insert_element_for tag p)) in
+    let opened = (insert_element-Standing Html tag.name tag.attrs tag.had_duplicate_attributes tt p w.pushed.upright.standing).opened in
+    taken-out n (opened_for tag q) q.open_elems (apart-number r.forest (node_count q.forest) n tag.name (codes "head") opened.0.named opened.1.0.named (loose-head tag.name l))
+
 -- the text of an element
 text-again : (tag : Tag) → is_loose_name tag.name parts ≡ true → (n : ℕ) (q : State) → IsAgain n q → IsNested (remove_from_stack n (set_mode mode.Text (keep_mode (insert_element_for tag (push_head (Some n) q)))))
 unfolding remove_from_stack set_mode keep_mode insert_element
 text-again tag l n q w =
     let p : State = push_head (Some n) q in
     let r : State = set_mode mode.Text (keep_mode (insert_element_for tag p)) in
-    let x : Open = record { number = node_count q.forest; namespace = Html; name = tag.name } in
+    let x : Open = opened_for tag q in
     let loose = name-loose tag.name l (node_count q.forest) in
-    let opened = (insert_element-Standing Html tag.name tag.attrs tag.had_duplicate_attributes tt p w.pushed.upright.standing).opened in
-    let apart = apart-number r.forest (node_count q.forest) n tag.name (codes "head") opened.0.named opened.1.0.named (loose-head tag.name l) in
-    let elements : without_number n r.open_elems ≡ x ∷ q.open_elems = taken-out n x q.open_elems apart in
+    let elements : without_number n r.open_elems ≡ x ∷ q.open_elems = text-elements tag l n q w in
     let fits = parts-direct q.mode (ap is_text_mode w.at) (ground_of q.context_elem) (context_is set.Template q.context_elem) q.orig_mode q.open_elems w.is.fits in
     let some = direct-nonempty q.mode (ap is_first w.at) (ground_of q.context_elem) (context_is set.Template q.context_elem) q.open_elems fits in
     let like = like-after q p (insert_element_for tag p) (like-pushed n q) (like-insert tag.name tag.attrs tag.had_duplicate_attributes p w.pushed.upright.standing) in
@@ -122,6 +142,17 @@ raw-again kind a h t k n q w = let tests = and_parts (raw_text_only a) (loose_ta
   by : (a : Action) → raw_text_only a ≡ true → IsNested (remove_from_stack n (act a t (push_head (Some n) q)))
   by (Then InsertElement (Then KeepMode (SwitchTo mode.Text))) r =
       loosened kind (and_parts (raw_text_only a) (loose_tags kind) h).1 t k (λ t. IsNested (remove_from_stack n (act (Then InsertElement (Then KeepMode (SwitchTo mode.Text))) t (push_head (Some n) q)))) (λ tag l. text-again tag l n q w)
+  by (Then InsertElement b) r = no r
+  by a r = no r
+
+-- the current node is then the element of the tag's name
+pub raw-on-top : (kind : Kind) (a : Action) → raw_row kind a ≡ true → (t : Token) → is_of kind t ≡ true → (n : ℕ) (q : State) → IsAgain n q → IsOnTop t (remove_from_stack n (act a t (push_head (Some n) q))).open_elems
+unfolding remove_from_stack
+raw-on-top kind a h t k n q w = let tests = and_parts (raw_text_only a) (loose_tags kind) h in by a tests.0 where
+  by : (a : Action) → raw_text_only a ≡ true → IsOnTop t (without_number n (act a t (push_head (Some n) q)).open_elems)
+  by (Then InsertElement (Then KeepMode (SwitchTo mode.Text))) r =
+      loosened kind (and_parts (raw_text_only a) (loose_tags kind) h).1 t k (λ t. IsOnTop t (without_number n (act (Then InsertElement (Then KeepMode (SwitchTo mode.Text))) t (push_head (Some n) q)).open_elems))
+      (λ tag l. subst (λ xs. current_is (is_named tag.name) xs ≡ true) (sym (text-elements tag l n q w)) (same-name tag.name))
   by (Then InsertElement b) r = no r
   by a r = no r
 
@@ -205,11 +236,12 @@ same-head kind a (RawText raw) h using t script s = raw-same a (and_parts (raw_t
 same-head kind a Done h using t script s = or_by (calm a) _ h (λ c. calm-head kind a c t s) (λ o. opens-same a (and_parts (opens a) (starts_template kind) o).0 t s)
 same-head kind a e h using t script s = no h
 
--- one of these rows, behind an error and the head, which then leaves
-pub again-nested : (s : State) → s.mode ≡ mode.AfterHead → Poised s → is_some s.head_elem ≡ true → are_template_modes s.template_modes ≡ true → IsNested s → (before kind : Kind) (a : Action) (e : Conclusion) → again_row kind a e ≡ true → (using : InsertionMode → Token → State → Turn) (t : Token)
-    → is_of before t ≡ true → is_of kind t ≡ true → (script : ℕ) → IsNested (act RemoveHeadElem t (concluded using e t script (act a t (act (Then ParseError PushHeadElem) t s))).state)
+-- one of these rows, behind an error and the head, which then leaves: what holds where the head leaves holds of what is left
+pub again-by : (P : State → Type 0) (s : State) → s.mode ≡ mode.AfterHead → Poised s → is_some s.head_elem ≡ true → are_template_modes s.template_modes ≡ true → IsNested s → (before kind : Kind) (a : Action) (e : Conclusion) → again_row kind a e ≡ true → (using : InsertionMode → Token → State → Turn) (t : Token)
+    → is_of before t ≡ true → (script : ℕ) → ((n : ℕ) (q : State) → IsAgain n q → P (remove_from_stack n (concluded using e t script (act a t (push_head (Some n) q))).state))
+    → P (act RemoveHeadElem t (concluded using e t script (act a t (act (Then ParseError PushHeadElem) t s))).state)
 unfolding push_head_elem remove_head_elem
-again-nested s at poised some modes n before kind a e h using t g k script =
+again-by P s at poised some modes n before kind a e h using t g script left =
     let q : State = act ParseError t s in
     let aside = act-aside before ParseError refl t s in
     let same : (concluded using e t script (act a t (push_head q.head_elem q))).state.head_elem ≡ q.head_elem = same-head kind a e h using t script (push_head q.head_elem q) ∙ push-head-same q.head_elem q in
@@ -218,11 +250,11 @@ again-nested s at poised some modes n before kind a e h using t g k script =
     rw same (by q aside.mode erred nest (rw aside.modes modes) q.head_elem erred.upright.head (ap is_some aside.head ∙ some))
   where
     by : (q : State) → q.mode ≡ s.mode → Poised q → IsNested q → are_template_modes q.template_modes ≡ true → (o : Option ℕ) → IfSome o (λ n. element_name (data_of q.forest n) ≡ Some (element_name_of Html (codes "head"))) → is_some o ≡ true
-        → IsNested (remove_from_stack_if o (concluded using e t script (act a t (push_head o q))).state)
+        → P (remove_from_stack_if o (concluded using e t script (act a t (push_head o q))).state)
     by q same erred nest modes None named some = no some
     by q same erred nest modes (Some n) named some =
         let over = over-root (ground_of q.context_elem) q.open_elems (rw (same ∙ at) at nest.fits) in
-        row-again kind a e h using t k script n q (record {
+        left n q (record {
           at = same ∙ at;
           poised = erred;
           pushed = pushed (Some n) q named (sym (at-root q.open_elems) ∙ ap is_root over.root) erred;
@@ -230,3 +262,8 @@ again-nested s at poised some modes n before kind a e h using t g k script =
           modes = modes;
           is = nest;
         })
+
+pub again-nested : (s : State) → s.mode ≡ mode.AfterHead → Poised s → is_some s.head_elem ≡ true → are_template_modes s.template_modes ≡ true → IsNested s → (before kind : Kind) (a : Action) (e : Conclusion) → again_row kind a e ≡ true → (using : InsertionMode → Token → State → Turn) (t : Token)
+    → is_of before t ≡ true → is_of kind t ≡ true → (script : ℕ) → IsNested (act RemoveHeadElem t (concluded using e t script (act a t (act (Then ParseError PushHeadElem) t s))).state)
+again-nested s at poised some modes n before kind a e h using t g k script =
+    again-by IsNested s at poised some modes n before kind a e h using t g script (λ n q w. row-again kind a e h using t k script n q w)

@@ -68,7 +68,7 @@ abbrev is_done : Conclusion → Bool
 is_done Done = true
 is_done e = false
 
-abbrev opens_head : Action → Conclusion → Bool
+abbrev pub opens_head : Action → Conclusion → Bool
 opens_head (Then ParseError PushHeadElem) (UsingThen mode.InHead RemoveHeadElem) = true
 opens_head a e = false
 
@@ -115,14 +115,14 @@ modes_nested mode.AfterAfterFrameset h = refl
 modes_nested m h = no (sym h)
 
 -- what rows find
-record IsFound (m : InsertionMode) (s : State) : Type 0 where
-  at : s.mode ≡ m
-  listed : are_formatting s.active_formatting ≡ true
-  standing : Standing s
-  modes : are_template_modes s.template_modes ≡ true
-  head : has_its_head m s.head_elem s.context_elem ≡ true
-  poised : is_first m ≡ false → Poised s
-  is : IsNested s
+pub record IsFound (m : InsertionMode) (s : State) : Type 0 where
+  pub at : s.mode ≡ m
+  pub listed : are_formatting s.active_formatting ≡ true
+  pub standing : Standing s
+  pub modes : are_template_modes s.template_modes ≡ true
+  pub head : has_its_head m s.head_elem s.context_elem ≡ true
+  pub poised : is_first m ≡ false → Poised s
+  pub is : IsNested s
 
 ready-of : (m : InsertionMode) (s : State) → IsFound m s → nested (ground_of s.context_elem) s.open_elems ≡ true → Ready s
 ready-of m s f n = record { standing = f.standing; nested = n; modes = f.modes; count = f.is.count; framed = f.is.framed; form = f.is.form }
@@ -135,7 +135,7 @@ root-document (Some c) h = rw h refl
 HeadCase : (InsertionMode → Token → State → Turn) → Token → Type 0
 HeadCase using t = (before kind : Kind) → scan again_rows kind (rows mode.InHead) ≡ true → is_of before t ≡ true → is_of kind t ≡ true → (s : State) → IsFound mode.AfterHead s → IsNested (act RemoveHeadElem t (using mode.InHead t (act (Then ParseError PushHeadElem) t s)).state)
 
-has-head : (s : State) → IsFound mode.AfterHead s → is_some s.head_elem ≡ true
+pub has-head : (s : State) → IsFound mode.AfterHead s → is_some s.head_elem ≡ true
 has-head s f =
     let was : (is_document (ground_of s.context_elem) && (nested (ground_of s.context_elem) s.open_elems && is_root (top s.open_elems))) ≡ true = rw f.at at f.is.fits in
     or_some (is_some s.head_elem) (asks_root s.context_elem) f.head (document-asks s.context_elem (and_parts (is_document (ground_of s.context_elem)) _ was).0)
@@ -369,6 +369,17 @@ other-html m b t s may at h f = by m b at where
 
 -- a turn
 
+pub found-of : (t : Token) (s : State) → MayCome t s → IsNested s → IsFound s.mode s
+found-of t s may h = record {
+  at = refl;
+  listed = may.held.listed;
+  standing = may.upright.standing;
+  modes = may.held.modes;
+  head = may.held.head;
+  poised = λ e. poised-of s may.held may.upright e;
+  is = h;
+}
+
 other-turn : (t : Token) (s : State) → MayCome t s → IsNested s → is_bodily s.mode ≡ false → IsNested (turn t s).state
 unfolding turn mode_nested
 other-turn t s may h b = by (is_foreign s t) refl where
@@ -377,15 +388,7 @@ other-turn t s may h b = by (is_foreign s t) refl where
 
   by : (c : Bool) → is_foreign s t ≡ c → IsNested (choose c (λ _. turn_by_row (using_rules_for most_modes) (first_fit in_foreign_content t s) t s) (λ _. using_rules_for most_modes s.mode t s)).state
   by true f = absurd (other-html s.mode b t s may refl h f)
-  by false f = uses-nested 4 t s.mode kind.0 s.mode kind.1.0 kind.1.1 s (record {
-    at = refl;
-    listed = may.held.listed;
-    standing = may.upright.standing;
-    modes = may.held.modes;
-    head = may.held.head;
-    poised = λ e. poised-of s may.held may.upright e;
-    is = h;
-  })
+  by false f = uses-nested 4 t s.mode kind.0 s.mode kind.1.0 kind.1.1 s (found-of t s may h)
 
 pub turn-nested : (t : Token) (s : State) → MayCome t s → IsNested s → IsNested (turn t s).state
 turn-nested t s may h = by (is_bodily s.mode) refl where

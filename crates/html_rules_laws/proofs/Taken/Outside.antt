@@ -202,7 +202,7 @@ abbrev pub IsRaw : Reply → Type 0
 IsRaw (RawData kind) = Unit {0}
 IsRaw r = ⊥
 
-abbrev IsRawEnd : Ending → Type 0
+abbrev pub IsRawEnd : Ending → Type 0
 IsRawEnd (Finished acknowledged) = ⊥
 IsRawEnd Again = ⊥
 IsRawEnd (Replied r) = IsRaw r

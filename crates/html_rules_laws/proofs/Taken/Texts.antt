@@ -38,13 +38,13 @@ use Rattle.html_rules.specs.declared.insertion_mode.InsertionMode.{InsertionMode
 use Rattle.html_rules.specs.declared.insertion_mode.InsertionMode.TheVariants as mode
 use Rattle.html_rules.specs.declared.tag_set.TagSet.TheVariants as set
 use Rattle.html_rules_laws.specs.EachText.{IsEachTextTaken}
-use Rattle.html_rules_laws.specs.Joint.{AreJoint, Met, document, fragment, behind as item_behind, is_raw_place}
+use Rattle.html_rules_laws.specs.Joint.{AreJoint, Met, document, fragment, behind as item_behind, is_last_opened, is_raw_place}
 use Rattle.html_rules_laws.specs.Nesting.{Ground, IsNested, fits_nested, fits_under, ground_of, is_loose, part_of}
 use Rattle.html_rules_laws.specs.Settled.{are_template_modes}
 use Rattle.html_rules_laws.specs.Sound.{Sound}
 use Rattle.html_rules_laws.specs.Upright.{MayCome, Steady}
 use Rattle.html_rules_laws.proofs.Aside.{IsRest, rest-after, rest-same}
-use Rattle.html_rules_laws.proofs.Replies.{settle-well, taken-well}
+use Rattle.html_rules_laws.proofs.Replies.{settle-well, taken-well, text-continues}
 use Rattle.html_rules_laws.proofs.Settling.Settled.{settle-rest}
 use Rattle.html_rules_laws.proofs.Soundness.Sink.{context-template_modes}
 use Rattle.html_rules_laws.proofs.StepLaws.{idle-step, refusal_with, step-is}
@@ -53,7 +53,8 @@ use Rattle.html_rules_laws.proofs.Nesting.Begins.{nested-states}
 use Rattle.html_rules_laws.proofs.Nesting.Fits.{nested-fits}
 use Rattle.html_rules_laws.proofs.Nesting.Tokens.{hushed-nested, reached-states, settle-nested, unlined-nested}
 use Rattle.html_rules_laws.proofs.Nesting.Turns.{other-html}
-use Rattle.html_rules_laws.proofs.Taken.EndTags.{MayTell, item-fits}
+use Rattle.html_rules_laws.proofs.Taken.EndTags.{Fits, LeavesName, item-fits, item-leaves}
+use Rattle.html_rules_laws.proofs.Taken.Named.{IsMade, settle-named}
 use Rattle.html_rules_laws.proofs.Taken.Outside.{IsOutside, IsRaw, Outside, check-out, error-out, is_text, moved-out, reset-out, settle-out}
 use Rattle.html_rules_laws.proofs.Bools.{no}
 
@@ -154,9 +155,13 @@ first-of-text : (using : InsertionMode → Token → State → Turn) (text : Lis
 unfolding rows
 first-of-text using text s = refl
 
-appended-mode : (text : List ℕ) (s : State) → (append_text text s).mode ≡ s.mode
+-- the mode and the open elements stay
+abbrev Stays : State → State → Type 0
+Stays s r = (r.mode ≡ s.mode) × (r.open_elems ≡ s.open_elems)
+
+appended-stays : (text : List ℕ) (s : State) → Stays s (append_text text s)
 unfolding append_text
-appended-mode text s = refl
+appended-stays text s = (refl, refl)
 
 -- what holds of the turn by the rows of the mode holds of the turn
 own-turn : (P : Turn → Type 0) (t : Token) (s : State) → s.mode ≡ mode.Text → MayCome t s → IsNested s → P (turn_by_row (using_rules_for 3) (first_fit (rows mode.Text) t s) t s) → P (turn t s)
@@ -166,19 +171,21 @@ own-turn P t s at may is h = by (is_foreign s t) refl where
   by true f = absurd (other-html mode.Text refl t s may at is f)
   by false f = subst (λ m. P (using_rules_for 4 m t s)) (sym at) h
 
-character-settled : (c : ℕ) (s : State) → s.mode ≡ mode.Text → MayCome (CharacterTokens (c ∷ [])) s → IsNested s → (settle (CharacterTokens (c ∷ [])) s).state.mode ≡ mode.Text
+character-settled : (c : ℕ) (s : State) → s.mode ≡ mode.Text → MayCome (CharacterTokens (c ∷ [])) s → IsNested s → Stays s (settle (CharacterTokens (c ∷ [])) s).state
 unfolding settle within
 character-settled c s at may is =
     let t : Token = CharacterTokens (c ∷ []) in
-    own-turn (λ made. (settled_by (within 15 (four_for_each s.open_elems t) t) made.ends t made.state).state.mode ≡ mode.Text) t s at may is
-    (subst (λ made. (settled_by (within 15 (four_for_each s.open_elems t) t) made.ends t made.state).state.mode ≡ mode.Text) (sym (first-of-text (using_rules_for 3) (c ∷ []) s)) (appended-mode (c ∷ []) s ∙ at))
+    own-turn (λ made. Stays s (settled_by (within 15 (four_for_each s.open_elems t) t) made.ends t made.state).state) t s at may is
+    (subst (λ made. Stays s (settled_by (within 15 (four_for_each s.open_elems t) t) made.ends t made.state).state) (sym (first-of-text (using_rules_for 3) (c ∷ []) s)) (appended-stays (c ∷ []) s))
 
-characters-settled : (text : List ℕ) (before : Settled) → IsKept before.state → IsNested before.state → before.state.mode ≡ mode.Text → (text_taken text before).state.mode ≡ mode.Text
-characters-settled [] before kept is at = at
+characters-settled : (text : List ℕ) (before : Settled) → IsKept before.state → IsNested before.state → before.state.mode ≡ mode.Text → Stays before.state (text_taken text before).state
+characters-settled [] before kept is at = (refl, refl)
 characters-settled (c ∷ cs) before kept is at =
     let t : Token = CharacterTokens (c ∷ []) in
     let may = other-come t before.state refl kept in
-    characters-settled cs (behind before (settle t before.state)) (settle-kept t before.state may) (settle-nested t before.state may is) (character-settled c before.state at may is)
+    let one = character-settled c before.state at may is in
+    let rest = characters-settled cs (behind before (settle t before.state)) (settle-kept t before.state may) (settle-nested t before.state may is) (one.0 ∙ at) in
+    (rest.0 ∙ one.0, rest.1 ∙ one.1)
 
 -- the end tag
 
@@ -222,12 +229,17 @@ start-end EndTag e = refl
 
 -- a reading and the rules
 
+record InText (st : Stand) (s : State) : Type 0 where
+  at : s.mode ≡ mode.Text
+  place : is_raw_place st.place ≡ true
+  named : is_last_opened st.last_start_tag s.open_elems ≡ true
+
 record Joint (st : Stand) (s : State) : Type 0 where
   steady : Steady s
   is : IsNested s
   going : s.has_ended ≡ false
-  -- where the mode is "text", the reading is in raw text
-  text : Outside s ⊎ ((s.mode ≡ mode.Text) × (is_raw_place st.place ≡ true))
+  -- where the mode is "text", the reading is in raw text, of the current node
+  text : Outside s ⊎ InText st s
 
 fit-of : (st : Stand) (s : State) → Joint st s → is_fit s ≡ true
 fit-of st s j = nested-fits s j.steady.sound.head j.is
@@ -252,7 +264,7 @@ follow st s j t line b Q one other = by (is_idle t) refl where
   by false i = record { state = hushed (taken t (hushed s)).state; reply = (taken t (hushed s)).reply; is = taken-step s t line j.going i (fit-of st s j) b; going = taken-ended t (hushed s) ∙ j.going; holds = other }
 
 abbrev Held : Stand → State → Reply → Type 0
-Held next r reply = Outside r ⊎ ((r.mode ≡ mode.Text) × (is_raw_place (next_stand next reply).place ≡ true))
+Held next r reply = Outside r ⊎ InText (next_stand next reply) r
 
 joined : (next : Stand) (s : State) (t : Token) (line : ℕ) → Steady s → IsNested s → (f : IsFollowed s t line (Held next)) → Joint (next_stand next f.reply) f.state
 joined next s t line steady is f = record {
@@ -262,43 +274,64 @@ joined next s t line steady is f = record {
   text = f.holds;
 }
 
-raw-next : (next : Stand) (r : Reply) → IsRaw r → is_raw_place (next_stand next r).place ≡ true
-raw-next next (RawData kind) h = refl
-raw-next next Continue h = absurd h
-raw-next next Plaintext h = absurd h
-raw-next next (Script n) h = absurd h
-raw-next next (EncodingIndicator label) h = absurd h
+-- where raw text follows a start tag, it is that of the current node
+in-text : (next : Stand) (r : State) (reply : Reply) (t : Token) → r.mode ≡ mode.Text → IsRaw reply → LeavesName (Some t) next → IsMade t r.open_elems → InText (next_stand next reply) (hushed r)
+in-text next r (RawData kind) (TagToken tag) at raw leaves made = record { at = at; place = refl; named = rw (leaves made.0) made.1 }
+in-text next r (RawData kind) t at raw leaves made = absurd made
+in-text next r Continue t at raw leaves made = absurd raw
+in-text next r Plaintext t at raw leaves made = absurd raw
+in-text next r (Script n) t at raw leaves made = absurd raw
+in-text next r (EncodingIndicator label) t at raw leaves made = absurd raw
+
+taken_by-named : (t : Token) (b : Bool) (s : State) → MayCome t s → IsNested s → IsRaw (taken_by b t s).reply → IsMade t (taken_by b t s).state.open_elems
+taken_by-named (CharacterTokens text) b s may is raw = absurd (no_raw _ raw (text-continues (behind_line_feed b text) (untouched s) refl))
+taken_by-named (DoctypeToken d) b s may is raw = absurd raw
+taken_by-named (TagToken tag) b s may is raw = settle-named (TagToken tag) s may is raw
+taken_by-named (CommentToken text) b s may is raw = settle-named (CommentToken text) s may is raw
+taken_by-named NullCharacterToken b s may is raw = settle-named NullCharacterToken s may is raw
+taken_by-named EOFToken b s may is raw = settle-named EOFToken s may is raw
+taken_by-named (ErrorToken message) b s may is raw = settle-named (ErrorToken message) s may is raw
+
+taken-named : (t : Token) (s : State) → MayCome t (set_ignore_lf false s) → IsNested (set_ignore_lf false s) → IsRaw (taken t s).reply → IsMade t (taken t s).state.open_elems
+unfolding taken
+taken-named t s may is raw = taken_by-named t s.ignore_lf (set_ignore_lf false s) may is raw
 
 hushed-out : (s : State) → Outside s → Outside (hushed s)
 hushed-out s o = record { mode = o.mode; original = o.original; modes = o.modes }
 
+-- a token may come to the state without its errors and its line feed
+may-come : (st : Stand) (s : State) → Joint st s → (t : Token) → MayCome t (set_ignore_lf false (hushed s))
+may-come st s j t = unlined t (hushed s) (hushed-come t s (begins s j.steady j.going (fit-of st s j) t))
+
+still-nested : (st : Stand) (s : State) → Joint st s → IsNested (set_ignore_lf false (hushed s))
+still-nested st s j = unlined-nested (hushed s) (hushed-nested s j.steady.upright.standing j.is)
+
 -- a token outside of the text of elements
-outside-follow : (st next : Stand) (s : State) → Joint st s → Outside s → (t : Token) (line : ℕ) → IsFollowed s t line (Held next)
-outside-follow st next s j o t line =
+outside-follow : (st next : Stand) (s : State) → Joint st s → Outside s → (t : Token) (line : ℕ) → LeavesName (Some t) next → IsFollowed s t line (Held next)
+outside-follow st next s j o t line leaves =
     let made : Settled = taken t (hushed s) in
     follow st s j t line (out-barred s.mode o.mode t) (Held next) (λ i. inl o)
-    (elim (taken-out t (hushed s) (hushed-out s o)) [ inl out ↦ inl (hushed-out made.state out) | inr raw ↦ inr (raw.0, raw-next next made.reply raw.1) ])
+    (elim (taken-out t (hushed s) (hushed-out s o))
+    [ inl out ↦ inl (hushed-out made.state out) | inr raw ↦ inr (in-text next made.state made.reply t raw.0 raw.1 leaves (taken-named t (hushed s) (may-come st s j t) (still-nested st s j) raw.1)) ])
 
 -- a token in it
-text-follow : (st next : Stand) (s : State) → Joint st s → s.mode ≡ mode.Text → (t : Token) (line : ℕ) → MayTell (Some t) next.place → IsFollowed s t line (Held next)
+text-follow : (st next : Stand) (s : State) → Joint st s → InText st s → (t : Token) (line : ℕ) → Fits st.last_start_tag (Some t) next → IsFollowed s t line (Held next)
 unfolding taken set_ignore_lf
-text-follow st next s j at (CharacterTokens text) line tell =
-    let t : Token = CharacterTokens text in
-    let may = unlined t (hushed s) (hushed-come t s (begins s j.steady j.going (fit-of st s j) t)) in
-    let is = unlined-nested (hushed s) (hushed-nested s j.steady.upright.standing j.is) in
-    follow st s j t line (rw at refl) (Held next) (λ i. inr (at, tell))
-    (inr (characters-settled (behind_line_feed s.ignore_lf text) (untouched (set_ignore_lf false (hushed s))) (come-kept t (set_ignore_lf false (hushed s)) may) is at, rw (taken-well t (hushed s)) tell))
-text-follow st next s j at (TagToken tag) line tell =
+text-follow st next s j text (CharacterTokens cs) line tell =
+    let t : Token = CharacterTokens cs in
+    let may = may-come st s j t in
+    let stays = characters-settled (behind_line_feed s.ignore_lf cs) (untouched (set_ignore_lf false (hushed s))) (come-kept t (set_ignore_lf false (hushed s)) may) (still-nested st s j) text.at in
+    follow st s j t line (rw text.at refl) (Held next) (λ i. inr (record { at = text.at; place = tell.0; named = rw tell.1 text.named }))
+    (inr (rw (taken-well t (hushed s)) (record { at = stays.0 ∙ text.at; place = tell.0; named = rw (tell.1, stays.1) text.named })))
+text-follow st next s j text (TagToken tag) line tell =
     let t : Token = TagToken tag in
-    let may = unlined t (hushed s) (hushed-come t s (begins s j.steady j.going (fit-of st s j) t)) in
-    let is = unlined-nested (hushed s) (hushed-nested s j.steady.upright.standing j.is) in
-    let out = end-settled tag (set_ignore_lf false (hushed s)) tell at may is in
-    follow st s j t line (rw at (start-end tag.kind tell)) (Held next) (λ i. no i) (inl (hushed-out (settle t (set_ignore_lf false (hushed s))).state out))
-text-follow st next s j at (CommentToken text) line tell = absurd tell
-text-follow st next s j at (DoctypeToken d) line tell = absurd tell
-text-follow st next s j at NullCharacterToken line tell = absurd tell
-text-follow st next s j at EOFToken line tell = absurd tell
-text-follow st next s j at (ErrorToken message) line tell = absurd tell
+    let out = end-settled tag (set_ignore_lf false (hushed s)) tell.0 text.at (may-come st s j t) (still-nested st s j) in
+    follow st s j t line (rw text.at (start-end tag.kind tell.0)) (Held next) (λ i. no i) (inl (hushed-out (settle t (set_ignore_lf false (hushed s))).state out))
+text-follow st next s j text (CommentToken cs) line tell = absurd tell.0
+text-follow st next s j text (DoctypeToken d) line tell = absurd tell.0
+text-follow st next s j text NullCharacterToken line tell = absurd tell.0
+text-follow st next s j text EOFToken line tell = absurd tell.0
+text-follow st next s j text (ErrorToken message) line tell = absurd tell.0
 
 -- a reading
 
@@ -307,14 +340,23 @@ erred-same None s = refl
 erred-same (Some fault) s = refl
 
 -- what no token is told of
-silent-joint : (st next : Stand) (s : State) → Joint st s → (is_raw_place st.place ≡ true → is_raw_place next.place ≡ true) → Joint next s
-silent-joint st next s j tell = record { steady = j.steady; is = j.is; going = j.going; text = elim j.text [ inl o ↦ inl o | inr raw ↦ inr (raw.0, tell raw.1) ] }
+silent-joint : (st next : Stand) (s : State) → Joint st s → (is_raw_place st.place ≡ true → Fits st.last_start_tag None next) → Joint next s
+silent-joint st next s j tell = record {
+  steady = j.steady;
+  is = j.is;
+  going = j.going;
+  text = elim j.text [ inl o ↦ inl o | inr text ↦ inr (record { at = text.at; place = (tell text.place).0; named = rw (tell text.place).1 text.named }) ];
+}
 
-item-taken : (st next : Stand) (fault : Option Fault) (o : Option Token) (read : ℕ) (s : State) → Joint st s → (is_raw_place st.place ≡ true → MayTell o next.place) → (k : State × Reply → Result State Refusal) → ((r : State) (reply : Reply) → Joint (next_stand next reply) r → IsOk (k (r, reply)))
+-- what a token that may be told there makes of the state
+item-follow : (st next : Stand) (s : State) → Joint st s → (t : Token) (line : ℕ) → (is_raw_place st.place ≡ true → Fits st.last_start_tag (Some t) next) → LeavesName (Some t) next → IsFollowed s t line (Held next)
+item-follow st next s j t line tell leaves = elim j.text [ inl o ↦ outside-follow st next s j o t line leaves | inr text ↦ text-follow st next s j text t line (tell text.place) ]
+
+item-taken : (st next : Stand) (fault : Option Fault) (o : Option Token) (read : ℕ) (s : State) → Joint st s → (is_raw_place st.place ≡ true → Fits st.last_start_tag o next) → LeavesName o next → (k : State × Reply → Result State Refusal) → ((r : State) (reply : Reply) → Joint (next_stand next reply) r → IsOk (k (r, reply)))
     → IsOk (said step (λ fault s. s) fault o read s >>= k)
-item-taken st next fault None read s j tell k go = rw (erred-same fault s) (go s Continue (silent-joint st next s j tell))
-item-taken st next fault (Some t) read s j tell k go =
-    let f : IsFollowed s t (line_number read) (Held next) = elim j.text [ inl o ↦ outside-follow st next s j o t (line_number read) | inr text ↦ text-follow st next s j text.0 t (line_number read) (tell text.1) ] in
+item-taken st next fault None read s j tell leaves k go = rw (erred-same fault s) (go s Continue (silent-joint st next s j tell))
+item-taken st next fault (Some t) read s j tell leaves k go =
+    let f : IsFollowed s t (line_number read) (Held next) = item-follow st next s j t (line_number read) tell leaves in
     rw (erred-same fault s, f.is) (go f.state f.reply (joined next s t (line_number read) j.steady j.is f))
 
 end-barred : (m : InsertionMode) → is_barred m EOFToken ≡ false
@@ -331,7 +373,7 @@ unfolding reading_from
 reading-taken table n st breaks s [] j = end-taken st (fault_at_end st.place) breaks s j
 reading-taken table zero st breaks s (c ∷ t) j =
     let i : Item = item table (asks_cdata s) st c t in
-    item-taken st i.next i.fault i.token (breaks + line_breaks (take i.len (c ∷ t))) s j (λ raw. (item-fits table (asks_cdata s) st c t raw).tells) _
+    item-taken st i.next i.fault i.token (breaks + line_breaks (take i.len (c ∷ t))) s j (item-fits table (asks_cdata s) st c t) (item-leaves table (asks_cdata s) st c t) _
     (λ r reply after. reading-taken table (i.len - 1) (next_stand i.next reply) (breaks + line_breaks (take i.len (c ∷ t))) r t after)
 reading-taken table (suc n) st breaks s (c ∷ t) j = reading-taken table n st breaks s t j
 
@@ -376,13 +418,13 @@ given-or other (Ok x) = x
 given-or other (Err e) = other
 
 -- an item leads from one joint state to another
-item-joint : (st next : Stand) (fault : Option Fault) (o : Option Token) (read : ℕ) (s r : State) (reply : Reply) → Joint st s → (is_raw_place st.place ≡ true → MayTell o next.place) → said step (λ fault s. s) fault o read s ≡ Ok (r, reply) → Joint (next_stand next reply) r
+item-joint : (st next : Stand) (fault : Option Fault) (o : Option Token) (read : ℕ) (s r : State) (reply : Reply) → Joint st s → (is_raw_place st.place ≡ true → Fits st.last_start_tag o next) → LeavesName o next → said step (λ fault s. s) fault o read s ≡ Ok (r, reply) → Joint (next_stand next reply) r
 unfolding given-or
-item-joint st next fault None read s r reply j tell e =
+item-joint st next fault None read s r reply j tell leaves e =
     let same = ap (given-or (r, reply)) e in
     subst (λ (p : State × Reply). Joint (next_stand next p.1) p.0) same (rw (erred-same fault s) (silent-joint st next s j tell))
-item-joint st next fault (Some t) read s r reply j tell e =
-    let f : IsFollowed s t (line_number read) (Held next) = elim j.text [ inl o ↦ outside-follow st next s j o t (line_number read) | inr text ↦ text-follow st next s j text.0 t (line_number read) (tell text.1) ] in
+item-joint st next fault (Some t) read s r reply j tell leaves e =
+    let f : IsFollowed s t (line_number read) (Held next) = item-follow st next s j t (line_number read) tell leaves in
     let same = ap (given-or (r, reply)) (sym f.is ∙ (ap (λ (x : State). step x t (line_number read)) (sym (erred-same fault s)) ∙ e)) in
     subst (λ (p : State × Reply). Joint (next_stand next p.1) p.0) same (joined next s t (line_number read) j.steady j.is f)
 
@@ -394,10 +436,11 @@ met-joint table st s (fragment opts setting context form scripting f tree top ow
     (states-steady.fragment setting context form f tree top own) (nested-states.fragment setting context form f tree named) (fragment-going setting context form f) (fragment-out setting context form f)
 met-joint table st s (item_behind st' s' r c t breaks reply before e) =
     let i : Item = item table (asks_cdata s') st' c t in
-    item-joint st' i.next i.fault i.token breaks s' r reply (met-joint table st' s' before) (λ raw. (item-fits table (asks_cdata s') st' c t raw).tells) e
+    item-joint st' i.next i.fault i.token breaks s' r reply (met-joint table st' s' before) (item-fits table (asks_cdata s') st' c t) (item-leaves table (asks_cdata s') st' c t) e
 
-outside-raw : (st : Stand) (s : State) → Outside s → s.mode ≡ mode.Text → is_raw_place st.place ≡ true
-outside-raw st s o at = absurd (true≢false (ap is_text (sym at) ∙ o.mode))
+-- outside of the text of elements the mode is another
+outside-text : (s : State) → Outside s → s.mode ≡ mode.Text → ⊥
+outside-text s o at = true≢false (ap is_text (sym at) ∙ o.mode)
 
 pub joint-states : AreJoint
 joint-states table st s met =
@@ -405,5 +448,6 @@ joint-states table st s met =
     record {
       going = j.going;
       fits = fit-of st s j;
-      raw = λ at. elim j.text [ inl o ↦ outside-raw st s o at | inr text ↦ text.1 ];
+      raw = λ at. elim j.text [ inl o ↦ absurd (outside-text s o at) | inr text ↦ text.place ];
+      named = λ at. elim j.text [ inl o ↦ absurd (outside-text s o at) | inr text ↦ text.named ];
     }

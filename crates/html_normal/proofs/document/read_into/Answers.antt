@@ -3,8 +3,9 @@ use Rattle.std.specs.String.{string_bytes}
 use Rattle.std.proofs.lemmas.Grind.{common_steps}
 use Rattle.std.proofs.lemmas.List.{length-take}
 use Rattle.std.proofs.lemmas.Result.{err_from_is_err_and}
+use Rattle.devices.specs.Devices.{TellsBytes}
 use Rattle.html_normal.specs.Parsing.{MayRefuse}
-use Rattle.html_normal.proofs.Decoding.{IsDecoded, IsDecoded-more, IsDecoded-none, ReadsOn-alone, ReadsOn-more, ReadsOn-none, begun, cut-shown, empty-is, fault-shown, parse-fault, read-all, some-is, too-long}
+use Rattle.html_normal.proofs.Decoding.{IsDecoded, IsDecoded-more, IsDecoded-none, ReadsOn-alone, ReadsOn-more, ReadsOn-none, begun, cut-shown, empty-is, fault-shown, parse-fault, read-all, some-is, too-long, too-many}
 use Rattle.html_normal.proofs.document.read_into.Goals as goal
 
 pub loop-count-init : goal.loop-count-init
@@ -39,10 +40,9 @@ returns-then-len-taken-clause-counted g c =
     let bytes = c.extend_from_slice.new.self.items in
     let is : bytes ≡ c.loop-count.held.items ++ piece = grind (arith, common_steps) in
     let long : 2 ^ 64 ≤ c.loop-count.taken + length bytes = omega (arith, c.len.ensures, c.if-len-taken.true) in
-    inr (
-      c.in-Ok.ensures.counted ∙ c.loop-count.invariant.counted,
-      too-long _ _ _ so_far.0 c.loop-count.held.items piece c.loop-count.taken so_far.1.0 c.in-Ok.ensures.moved bytes is long,
-    )
+    let left = g.R.Source.left c.loop-count.reader in
+    too-many _ _ _ so_far.0 c.loop-count.held.items piece c.loop-count.taken so_far.1.0 c.in-Ok.ensures.moved bytes is long _ _
+    (subst (TellsBytes left) c.loop-count.invariant.counted c.in-Ok.ensures.tells) (c.in-Ok.ensures.counted ∙ c.loop-count.invariant.counted)
 
 pub returns-in_err-text-clause-err : goal.returns-in_err-text-clause-err
 returns-in_err-text-clause-err g c =
