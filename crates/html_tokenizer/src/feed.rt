@@ -159,6 +159,7 @@ impl<Sink: TokenSink> Tokenizer<Sink> {
     }
 
     /// Takes the beginning of a tag from the front of the input at once, or else what comes next.
+    #[inline(always)]
     fn move_by_tag(
         &mut self,
         input: &mut BufferQueue,
@@ -179,6 +180,7 @@ impl<Sink: TokenSink> Tokenizer<Sink> {
     }
 
     /// Takes what comes next of the input in a tag where `>` ends it.
+    #[inline(always)]
     fn move_in_tag(
         &mut self,
         input: &mut BufferQueue,
@@ -197,6 +199,7 @@ impl<Sink: TokenSink> Tokenizer<Sink> {
     }
 
     /// Takes what comes next of the input.
+    #[inline(always)]
     fn move_on(
         &mut self,
         input: &mut BufferQueue,

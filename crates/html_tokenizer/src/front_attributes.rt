@@ -95,6 +95,7 @@ impl<Sink: TokenSink> Tokenizer<Sink> {
     }
 
     /// Ends the tag at its `>`.
+    #[inline(always)]
     pub(crate) fn close_tag(&mut self) -> Result<ProcessResult<Sink::Handle>, ParseFault>
         requires at { IsInTag self.old }
         requires sound { Sink.is_sound (Sink.view self.old.sink) }
