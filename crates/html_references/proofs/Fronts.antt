@@ -94,7 +94,8 @@ named-place [] place l = absurd (omega arith)
 named-place (row ∷ rows) zero l = or-true _ _ (bytes_eq-itself row.name)
 named-place (row ∷ rows) (suc place) l = or-last _ _ (named-place rows place (omega arith))
 
-front-named : (rows : List ReferenceRow) (place : ℕ) (text : List ℕ) → place < length rows → name_at rows place ≡ text → is_front rows text ≡ true
+-- the name of a row is a front
+pub front-named : (rows : List ReferenceRow) (place : ℕ) (text : List ℕ) → place < length rows → name_at rows place ≡ text → is_front rows text ≡ true
 front-named rows place text l e = front-or rows text ∙ or-true (is_named rows text) (goes_on rows text) (ap (is_named rows) (sym e) ∙ named-place rows place l)
 
 -- a name of the order is a front

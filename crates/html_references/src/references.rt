@@ -7,12 +7,14 @@ ghost use Rattle.html_references.specs.Order.{IsTable};
 ghost use Rattle.html_references.specs.References.{IsCheckedTable, IsFirstFault, MatchesLongest, fault_of, five_rows, goes_on, is_front, longest, row_of};
 ghost use Rattle.html_tokens.specs.declared.table.TableFault.TheVariants.{Memory};
 
+use hints::Hints;
 pub use html_tokens::table::{ReferenceRow, TableFault};
 use std::alloc::{AllocError, Global};
 use std::marker::Model;
 
 mod arranging;
 mod check;
+mod hints;
 mod order;
 
 // The row of a name of ASCII alone, which stands for one character.
@@ -85,6 +87,8 @@ pub struct References {
     rows: Vec<ReferenceRow>,
     // The places of the rows in the order of their names.
     order: Vec<usize>,
+    // Where rows may stand by their names, to be tried before a search.
+    hints: Hints,
 }
 
 impl Model for References {
@@ -112,7 +116,8 @@ impl References {
         ensures first { IfErr result (λ fault. fault ≢ Memory → IsFirstFault rows.items fault) }
     {
         let order = order_of(alloc, &rows)?;
-        Ok(References { rows, order })
+        let hints = Hints::new(alloc, &rows)?;
+        Ok(References { rows, order, hints })
     }
 
     /// The table of the five names that a written text needs: `amp;`, `lt;`, `gt;`, `quot;` and `nbsp;`.
@@ -132,7 +137,8 @@ impl References {
     {
         let rows = copy_rows(alloc, &self.rows)?;
         let order = Vec::from_slice(alloc, &self.order)?;
-        Ok(References { rows, order })
+        let hints = self.hints.copy(alloc)?;
+        Ok(References { rows, order, hints })
     }
 
     /// The rows, lent, as they were handed in.
@@ -156,7 +162,7 @@ impl References {
     pub fn is_front(&self, held: &str) -> bool
         ensures { result ≡ is_front self.now (chars held.now) }
     {
-        order::is_front(&self.rows, &self.order, held.as_bytes())
+        order::is_front(&self.rows, &self.order, &self.hints, held.as_bytes())
     }
 
     /// The row with the longest name that a text begins with (HTML Standard, section 13.2.5.73).
@@ -164,7 +170,7 @@ impl References {
         ensures row { option_copied result ≡ longest self.now (chars text.now) }
         ensures longest { MatchesLongest self.now (chars text.now) (option_copied result) }
     {
-        match order::longest(&self.rows, &self.order, text.as_bytes()) {
+        match order::longest(&self.rows, &self.order, &self.hints, text.as_bytes()) {
             None => None,
             Some(place) => Some(&self.rows[place]),
         }

@@ -159,6 +159,7 @@ impl<Sink: TokenSink> Tokenizer<Sink> {
     }
 
     /// Takes the beginning of a tag from the front of the input at once, or else what comes next.
+    #[inline(always)]
     fn move_by_tag(
         &mut self,
         input: &mut BufferQueue,
@@ -179,6 +180,7 @@ impl<Sink: TokenSink> Tokenizer<Sink> {
     }
 
     /// Takes what comes next of the input in a tag where `>` ends it.
+    #[inline(always)]
     fn move_in_tag(
         &mut self,
         input: &mut BufferQueue,
@@ -196,7 +198,28 @@ impl<Sink: TokenSink> Tokenizer<Sink> {
         self.take(c)
     }
 
+    /// Takes an attribute at the front of the input in a tag at once, or else what comes next.
+    fn move_by_attribute(
+        &mut self,
+        input: &mut BufferQueue,
+    ) -> Result<ProcessResult<Sink::Handle>, ParseFault>
+        requires ready { IsReady Sink.TokenSink self.old }
+        ensures { Moves Sink.TokenSink self.old self.new input.old input.new result }
+    {
+        let text = input.as_str();
+        let Some((name, after)) = self.name_ahead(text) else {
+            return self.move_by_piece(input);
+        };
+        self.stream.ignore_lf = false;
+        self.begin_attribute(name)?;
+        let rest = self.take_equals(after)?;
+        let width = text.len() - rest.len();
+        input.skip(width);
+        Ok(ProcessResult::Continue)
+    }
+
     /// Takes what comes next of the input.
+    #[inline(always)]
     fn move_on(
         &mut self,
         input: &mut BufferQueue,
@@ -207,8 +230,12 @@ impl<Sink: TokenSink> Tokenizer<Sink> {
         if self.reads_tags() {
             return self.move_by_tag(input);
         }
-        if self.is_in_tag() && input.peek() == Some('>') {
-            return self.move_in_tag(input);
+        if self.is_in_tag() {
+            match input.peek() {
+                Some('>') => return self.move_in_tag(input),
+                Some(' ') => return self.move_by_attribute(input),
+                _ => {}
+            }
         }
         match self.value_read() {
             Some(kind) => self.move_in_value(kind, input),

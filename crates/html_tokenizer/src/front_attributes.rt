@@ -1,6 +1,6 @@
 //! Attributes at the front of the input, which are taken at once behind one space each (HTML Standard, sections 13.2.5.32 to
 //! 13.2.5.39): the name, and a value as far as its characters stand for themselves.
-ghost use Rattle.std.specs.Prelude.{◌≡◌, ◌<◌, ◌∷◌, true, Some, IfErr, IfOk, IfSome, OnOk};
+ghost use Rattle.std.specs.Prelude.{◌≡◌, ◌<◌, ◌∷◌, true, false, Some, IfErr, IfOk, IfSome, OnOk};
 ghost use Rattle.std.specs.Str.{IsUtf8, chars};
 ghost use Rattle.html_tokens.specs.declared.states.State.TheVariants as state;
 ghost use Rattle.markup.specs.declared.fault.ParseFault.TheVariants.{Memory};
@@ -95,6 +95,7 @@ impl<Sink: TokenSink> Tokenizer<Sink> {
     }
 
     /// Ends the tag at its `>`.
+    #[inline(always)]
     pub(crate) fn close_tag(&mut self) -> Result<ProcessResult<Sink::Handle>, ParseFault>
         requires at { IsInTag self.old }
         requires sound { Sink.is_sound (Sink.view self.old.sink) }
@@ -105,7 +106,7 @@ impl<Sink: TokenSink> Tokenizer<Sink> {
     }
 
     /// Begins an attribute of this name.
-    fn begin_attribute(&mut self, name: &str) -> Result<(), ParseFault>
+    pub(crate) fn begin_attribute(&mut self, name: &str) -> Result<(), ParseFault>
         ensures ok { OnOk result (self.new ≡ naming (ended self.old) (chars name.now)) }
         ensures fault { IfErr result (λ fault. fault ≡ Memory) }
         ensures sink { self.new.sink ≡ self.old.sink }
@@ -184,7 +185,7 @@ impl<Sink: TokenSink> Tokenizer<Sink> {
     }
 
     /// Takes what follows an attribute's name, if it is `=`, and the value behind it: what is left of the text.
-    fn take_equals<'a>(&mut self, text: &'a str) -> Result<&'a str, ParseFault>
+    pub(crate) fn take_equals<'a>(&mut self, text: &'a str) -> Result<&'a str, ParseFault>
         requires at { IsAt self.old state.AttributeName }
         requires sound { Sink.is_sound (Sink.view self.old.sink) }
         ensures ok { IfOk result (λ rest. TakesFront Sink.TokenSink self.old self.new text.now rest.now) }
@@ -208,6 +209,20 @@ impl<Sink: TokenSink> Tokenizer<Sink> {
             return None;
         }
         name_of(text)
+    }
+
+    /// The same where errors of single characters are not told.
+    pub(crate) fn name_ahead<'a>(&self, text: &'a str) -> Option<(&'a str, &'a str)>
+        ensures at { IfSome result (λ r. IsInTag self.now) }
+        ensures plain { IfSome result (λ r. self.now.stream.exact_errors ≡ false) }
+        ensures unmarked { IfSome result (λ r. self.now.stream.discard_bom ≡ false) }
+        ensures name { IfSome result (λ r. IsNameAt r.0.now r.1.now text.now) }
+    {
+        if self.stream.exact_errors || self.stream.discard_bom {
+            return None;
+        }
+        let (name, after) = self.next_name(text)?;
+        Some((name, after))
     }
 
     /// Takes the attributes at the front of a text, as far as they can be taken at once: what is left of the text.

@@ -9,13 +9,12 @@ ghost use Rattle.html_tokenizer.specs.Fronts.{BeginsWithLetter, IsNamed, IsOpeni
 ghost use Rattle.html_tokenizer.specs.Steps.{IsAt};
 
 use crate::char_bits::{BREAKS, FORM_FEED, GREATER_THAN, SOLIDUS, SPACE, TAB};
-use crate::tag_states::nameless;
 use crate::tokenizer::Tokenizer;
 use html_queue::SmallCharSet;
 use html_tokens::TagKind;
 use html_tokens::sink::TokenSink;
 use html_tokens::states::State;
-use markup::{LocalName, ParseFault, Text};
+use markup::{Attributes, LocalName, ParseFault, Text};
 
 /// NUL, what ends a tag's name, and a carriage return.
 fn name_stops() -> SmallCharSet
@@ -101,9 +100,13 @@ impl<Sink: TokenSink> Tokenizer<Sink> {
     {
         let mut text = Text::empty(self.stream.alloc);
         text.push_lowered(name)?;
-        self.tag = nameless(self.stream.alloc);
         self.tag.kind = kind;
         self.tag.name = LocalName::from_text(text);
+        self.tag.self_closing = false;
+        self.tag.had_duplicate_attributes = false;
+        if !self.tag.attrs.is_empty() {
+            self.tag.attrs = Attributes::new(self.stream.alloc);
+        }
         self.state = State::TagName;
         Ok(())
     }

@@ -41,6 +41,7 @@ fn has_attributes(tag: &Tag) -> bool
 
 impl<Sink: TokenSink> Tokenizer<Sink> {
     /// The name that the tag that is read leaves as that of the last start tag: a start tag its own.
+    #[inline(always)]
     fn own_name(&self) -> Result<Option<Text>, ParseFault>
         ensures ok { IfOk result (λ name. name ≡ own_name self.now.tag.kind self.now.tag.name) }
         ensures err { IfErr result (λ fault. fault ≡ Memory) }
@@ -109,6 +110,7 @@ impl<Sink: TokenSink> Tokenizer<Sink> {
     }
 
     /// Goes where the reply to a tag has it.
+    #[inline(always)]
     fn follow(&mut self, reply: TokenSinkResult<Sink::Handle>) -> ProcessResult<Sink::Handle>
         ensures moved { self.new ≡ record self.old { state = state_behind reply } }
         ensures answer { result ≡ answer_to reply }

@@ -5,6 +5,7 @@ ghost use Rattle.html_references.specs.References.{goes_on, is_front, is_named, 
 ghost use Rattle.html_references.specs.Order.{IsBefore, IsOrder, IsOrdered, IsPlaceOf, name_at, ordered_name};
 
 use crate::references::ReferenceRow;
+use crate::references::hints::Hints;
 use std::cmp::Ordering;
 
 // The bytes of a row's name, which are its characters.
@@ -86,14 +87,50 @@ fn find(rows: &[ReferenceRow], order: &[usize], name: &[u8]) -> Option<usize>
     }
 }
 
-// Whether some name begins with a text.
-pub fn is_front(rows: &[ReferenceRow], order: &[usize], text: &[u8]) -> bool
+// The place of the row of a name, if the hints have it.
+fn hinted(rows: &[ReferenceRow], order: &[usize], hints: &Hints, name: &[u8]) -> Option<usize>
+    requires { IsOrder rows.now order.now }
+    ensures { IfSome result (λ place. (place < length rows.now) × (name_at rows.now place ≡ name.now)) }
+{
+    let _order = order;
+    let place = hints.place_of(name);
+    if place < rows.len() && name_bytes(&rows[place]) == name {
+        return Some(place);
+    }
+    None
+}
+
+// The place of the row of a name, by the hints or else by a search.
+fn find_hinted(rows: &[ReferenceRow], order: &[usize], hints: &Hints, name: &[u8]) -> Option<usize>
+    requires { IsOrder rows.now order.now }
+    ensures found { IfSome result (λ place. (place < length rows.now) × (name_at rows.now place ≡ name.now)) }
+    ensures absent { IfNone result (is_named rows.now name.now ≡ false) }
+{
+    match hinted(rows, order, hints, name) {
+        Some(place) => Some(place),
+        None => find(rows, order, name),
+    }
+}
+
+// Whether some name begins with a text, by a search.
+fn is_searched_front(rows: &[ReferenceRow], order: &[usize], text: &[u8]) -> bool
     requires { IsOrder rows.now order.now }
     ensures { result ≡ is_front rows.now text.now }
 {
     match search(rows, order, text) {
         Ok(_) => true,
         Err(index) => goes_on_at(rows, order, index, text),
+    }
+}
+
+// Whether some name begins with a text.
+pub fn is_front(rows: &[ReferenceRow], order: &[usize], hints: &Hints, text: &[u8]) -> bool
+    requires { IsOrder rows.now order.now }
+    ensures { result ≡ is_front rows.now text.now }
+{
+    match hinted(rows, order, hints, text) {
+        Some(_) => true,
+        None => is_searched_front(rows, order, text),
     }
 }
 
@@ -113,12 +150,12 @@ fn longest_front(rows: &[ReferenceRow], order: &[usize], text: &[u8]) -> Option<
 }
 
 // The place of the row with the longest name that a text begins with, be it all of the text.
-pub fn longest(rows: &[ReferenceRow], order: &[usize], text: &[u8]) -> Option<usize>
+pub fn longest(rows: &[ReferenceRow], order: &[usize], hints: &Hints, text: &[u8]) -> Option<usize>
     requires { IsOrder rows.now order.now }
     ensures within { IfSome result (λ place. place < length rows.now) }
     ensures longest { option_and_then (slice_get rows.now) result ≡ longest rows.now text.now }
 {
-    match find(rows, order, text) {
+    match find_hinted(rows, order, hints, text) {
         Some(place) => Some(place),
         None => longest_front(rows, order, text),
     }

@@ -1,5 +1,5 @@
 -- Attributes that are taken from the front of a text at once: what is taken is what the states would have taken, character by character.
-use Rattle.std.proofs.Common.{◌≡◌, ◌≢◌, ℕ, ◌<◌, true, false, nat_eq, List, [], ◌∷◌, ◌++◌, Some, None, Result, Ok, Err, refl, sym, ap, subst, arith}
+use Rattle.std.proofs.Common.{◌≡◌, ◌≢◌, ℕ, ◌<◌, true, false, nat_eq, List, [], ◌∷◌, ◌++◌, length, Some, None, Result, Ok, Err, refl, sym, ap, subst, arith, length-append}
 use Rattle.std.specs.Prelude.{map}
 use Rattle.std.specs.Char.{to_ascii_lowercase}
 use Rattle.std.specs.Str.{IsUtf8, chars}
@@ -18,7 +18,7 @@ use Rattle.html_tokens.specs.Characters.{ends_word}
 use Rattle.html_tokenizer.specs.Calls.{TookRun}
 use Rattle.html_tokenizer_parts.specs.CharRefs.{fits_in}
 use Rattle.html_tokenizer.specs.declared.tokenizer.Tokenizer.{Tokenizer}
-use Rattle.html_tokenizer.specs.Fronts.{IsFilled, IsInTag, IsNameAt, Lacks, TakesFront, after_name, after_value, attribute_stops, ended, ended_in, in_name, in_value, naming, plain_stops, with_value}
+use Rattle.html_tokenizer.specs.Fronts.{IsFilled, IsInTag, IsNameAt, Lacks, ReadsAhead, TakesFront, after_name, after_value, attribute_stops, ended, ended_in, in_name, in_value, naming, plain_stops, with_value}
 use Rattle.html_tokenizer_parts.specs.Input.{IsUnbroken}
 use Rattle.html_tokenizer.specs.Quotes.{quote_of}
 use Rattle.html_tokenizer.specs.Rest.{rows_of}
@@ -258,3 +258,19 @@ module _ {K H : Type 0} (Sink : Ghosts K H) where
   pub attributes-more : (old mid named new : Tokenizer K) (name after rest from text : List ℕ) → IsInTag mid → TakesFront Sink old mid text from → IsNameAt name after from → named ≡ naming (ended mid) (chars name) → TakesFront Sink named new after rest → TakesFront Sink old new text rest
   attributes-more old mid named new name after rest from text at front is e more =
       fronts-then Sink old mid new text from rest front (fronts-then Sink mid named new from after rest (name-front mid named name after from at front.took.sound is e) more)
+
+  -- the one at the front was taken
+  pub attribute-taken : (old named new : Tokenizer K) (name after rest text : List ℕ) → IsInTag old → Sink.is_sound (Sink.view old.sink) → IsNameAt name after text → named ≡ naming (ended old) (chars name) → TakesFront Sink named new after rest → TakesFront Sink old new text rest
+  attribute-taken old named new name after rest text at sound is e front = attributes-more old old named new name after rest text text at (attributes-begin old text at sound) is e front
+
+  -- and what is left of the text is shorter
+  pub attribute-shorter : (named new : Tokenizer K) (name after rest text : List ℕ) → IsNameAt name after text → TakesFront Sink named new after rest → length rest < length text
+  attribute-shorter named new name after rest text is front =
+      omega (arith, ap length is.whole, length-append name after, ap length front.whole, length-append front.front rest)
+
+-- in a tag where errors of single characters are not told, what comes may be taken at once
+pub in-tag-ahead : {K : Type 0} (k : Tokenizer K) → IsInTag k → k.stream.exact_errors ≡ false → k.stream.discard_bom ≡ false → ReadsAhead k k.state
+in-tag-ahead k (after_name from) plain unmarked = record { at = record { state = refl; fresh = from.fresh }; plain = plain; unmarked = unmarked }
+in-tag-ahead k (after_value from) plain unmarked = record { at = record { state = refl; fresh = from.fresh }; plain = plain; unmarked = unmarked }
+in-tag-ahead k (in_name from) plain unmarked = record { at = record { state = refl; fresh = from.fresh }; plain = plain; unmarked = unmarked }
+in-tag-ahead k (in_value from) plain unmarked = record { at = record { state = refl; fresh = from.fresh }; plain = plain; unmarked = unmarked }

@@ -1,13 +1,6 @@
-use Rattle.std.proofs.Common.{◌∙◌}
-use Rattle.html_references.proofs.Fronts.{front-found, front-unnamed}
-use Rattle.html_references.proofs.Matches.{absent, behind_place}
+use Rattle.std.proofs.Common.{sym}
+use Rattle.html_references.proofs.Fronts.{front-named}
 use Rattle.html_references.proofs.references.order.is_front.Goals as goal
 
-pub returns-in-Ok : goal.returns-in-Ok
-returns-in-Ok c = front-found c.args.rows.now c.args.order.now c.args.text.now _ c.requires c.in-Ok.ensures.found.0 c.in-Ok.ensures.found.1
-
-pub goes_on_at-requires-clause-first : goal.goes_on_at-requires-clause-first
-goes_on_at-requires-clause-first c = λ i _ b. behind_place _ _ _ _ c.in-Err.ensures.absent i b
-
-pub returns-in-Err : goal.returns-in-Err
-returns-in-Err c = c.goes_on_at.ensures ∙ front-unnamed c.args.rows.now c.args.text.now (absent _ c.args.order.now _ _ c.requires c.in-Err.ensures.absent)
+pub returns-in-Some : goal.returns-in-Some
+returns-in-Some c = sym (front-named c.args.rows.now _ c.args.text.now c.in-Some.ensures.0 c.in-Some.ensures.1)
