@@ -10,7 +10,7 @@ ghost use Rattle.html_rules.specs.Names.{Html, is_html, namespace_of};
 ghost use Rattle.html_names.specs.declared.element_class.ElementNamespace.TheVariants as kind;
 ghost use Rattle.html_rules.specs.Sets.{is_among, names_in};
 ghost use Rattle.html_rules.specs.State.{named_in};
-ghost use Rattle.html_names.specs.Classes.{IsClassOf, kind_of};
+ghost use Rattle.html_names.specs.Classes.{IsClassOf, IsRowOf, kind_of};
 ghost use Rattle.html_names.specs.ElementNames.{FitsForm, Holds, IsRareForm, named_by, space_of};
 
 use crate::any_case::are_same_any_case;
@@ -151,6 +151,13 @@ impl ElementName {
         self.sets >> (set as u32) & 1 == 1
     }
 
+    /// A bit for each set of names, as in [`ElementClass`].
+    pub fn sets(&self) -> u128
+        ensures { IsRowOf self.now.namespace self.now.name result }
+    {
+        self.sets
+    }
+
     /// The kind of the namespace.
     pub fn kind(&self) -> ElementNamespace
         ensures { kind_of self.now.namespace ≡ result }
@@ -209,7 +216,7 @@ impl ElementName {
         }
     }
     /// The name, lent.
-    fn as_str(&self) -> &str
+    pub fn as_str(&self) -> &str
         ensures { chars result.now ≡ self.now.name }
     {
         match &self.form {

@@ -5,6 +5,7 @@ pub mod ModesAsked
 pub mod Points
 pub mod Results
 pub mod Newest
+pub mod Noted
 pub mod ListEdits
 pub mod StackEdits
 pub mod Restacked

@@ -2,6 +2,7 @@ pub mod Stacks
 pub mod Wanted
 pub mod Entries
 pub mod Modes
+pub mod Noted
 pub mod Inserting
 pub mod Found
 pub mod Reopening

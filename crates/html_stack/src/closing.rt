@@ -9,6 +9,7 @@ ghost use Rattle.html_stack.specs.Stacks.{joined};
 ghost use Rattle.html_stack.specs.Wanted.{IsOfHtml, IsWanted, passes};
 
 use crate::entries::OpenElement;
+use crate::signs::Sign;
 use crate::stack::Stack;
 use crate::walks;
 use crate::wanted::Wanted;
@@ -67,7 +68,7 @@ impl<Sink: TreeSink> Stack<Sink> {
         requires opened { AreOpened (Sink.forest sink.old) self.old.open_elems }
         ensures { (s : State) → joined s self.new (Sink.forest sink.new) ≡ close_item items (joined s self.old (Sink.forest sink.old)) }
     {
-        if let Some(item) = walks::item(self.open_elems(), items) {
+        if let Some(item) = walks::item(self.reached(Sign::In(items), Sign::BarsItems), items) {
             self.close_implied(sink, TagSet::CursoryImpliedEnd, Wanted::Known(item));
             self.close_wanted(sink, Wanted::Known(item));
         }

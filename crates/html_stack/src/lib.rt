@@ -3,6 +3,7 @@
 
 pub mod active_formatting_iter;
 mod closing;
+mod depths;
 pub mod dispatching;
 pub mod entries;
 mod foreign;
@@ -10,8 +11,10 @@ mod foreign_end;
 mod formatting;
 pub mod inserting;
 mod resetting;
+mod signs;
 pub mod stack;
 mod telling;
+mod tops;
 mod walks;
 mod wanted;
 

@@ -1,9 +1,11 @@
 //! The stack of open elements, the list of active formatting elements and the stack of template insertion modes.
-ghost use Rattle.std.specs.Prelude.{◌≡◌, [], ◌∷◌, IfErr, OnOk, OnErr, MatchOption, ◌<◌, length, reverse, take};
+ghost use Rattle.std.specs.Prelude.{◌≡◌, ◌||◌, [], ◌∷◌, IfErr, OnOk, OnErr, MatchOption, ◌<◌, length, reverse, take};
 ghost use Rattle.markup.specs.declared.fault.ParseFault.TheVariants.{Memory};
 
 use crate::active_formatting_iter::ActiveFormattingIter;
+use crate::depths::Depths;
 use crate::entries::{FormatEntry, OpenElement};
+use crate::signs::Sign;
 use crate::wanted::Wanted;
 use crate::{resetting, walks};
 use html_names::{ElementClass, ElementName};
@@ -20,15 +22,20 @@ pub struct Stack<Sink: TreeSink> {
     pub(crate) open_elems: Vec<OpenElement<Sink::Handle>>,
     pub(crate) active_formatting: Vec<FormatEntry<Sink::Handle>>,
     template_modes: Vec<InsertionMode>,
+    // What is noted of the open elements, where they are many.
+    pub(crate) depths: Depths,
 }
 
 impl<Sink: TreeSink> Model for Stack<Sink> {
     ghost use Rattle.std.specs.Prelude.{reverse};
     ghost use Rattle.html_stack.specs.Stacks.{Stacked, opens_of, entries_of};
+    ghost use Rattle.html_stack.specs.Noted.{IsNoted, named};
 
     ghost Value = { Stacked };
 
     ghost view = { λ s. record { open_elems = opens_of Sink.node s.open_elems.items; active_formatting = entries_of Sink.node s.active_formatting.items; template_modes = reverse s.template_modes.items } };
+
+    ghost invariant = { λ s. IsNoted (named s.open_elems.items) s.depths };
 }
 
 impl<Sink: TreeSink> Stack<Sink> {
@@ -45,8 +52,9 @@ impl<Sink: TreeSink> Stack<Sink> {
     ghost use Rattle.html_stack.specs.Wanted.{IsWanted, closes, passes};
     ghost use Rattle.html_rules.specs.declared.tag_set.TagSet.TheVariants.{BodyEnd, CursoryImpliedEnd};
     ghost use Rattle.std.specs.List.{list_all};
-    ghost use Rattle.html_rules.specs.State.{Element, Marker as Mark, current_is, current_number, is_in, is_named};
+    ghost use Rattle.html_rules.specs.State.{Element, Marker as Mark, current_is, current_number, is_in, is_named, named_in};
     ghost use Rattle.html_names.specs.Classes.{IsClassOf};
+    ghost use Rattle.html_stack.specs.Noted.{IsBeyond, bears};
 
     /// Nothing is open or listed. The lists grow in the memory of `alloc`.
     pub fn new(alloc: Global) -> Stack<Sink>
@@ -56,6 +64,7 @@ impl<Sink: TreeSink> Stack<Sink> {
             open_elems: Vec::new(alloc),
             active_formatting: Vec::new(alloc),
             template_modes: Vec::new(alloc),
+            depths: Depths::new(alloc),
         }
     }
 
@@ -93,6 +102,8 @@ impl<Sink: TreeSink> Stack<Sink> {
         ensures fault { IfErr result (λ fault. fault ≡ Memory) }
     {
         self.open_elems.push(element)?;
+        let alloc = *self.open_elems.allocator();
+        self.depths.follow(alloc, self.open_elems.as_slice());
         Ok(())
     }
 
@@ -136,12 +147,33 @@ impl<Sink: TreeSink> Stack<Sink> {
         self.template_modes.pop()
     }
 
+    /// The open elements up to the last that passes one of two tests, or more.
+    pub(crate) fn reached(&self, one: Sign, other: Sign) -> &[OpenElement<Sink::Handle>]
+        ensures { IsBeyond (λ x. bears one x || bears other x) (opens_of Sink.node result.now) self.now.open_elems }
+    {
+        let open = self.open_elems.as_slice();
+        let reach = self.depths.reach(open.len(), one, other);
+        &open[..reach]
+    }
+
+    /// The open elements up to the last that passes a test or is HTML's of a name, or more.
+    fn reached_named(&self, sign: Sign, name: &LocalName) -> &[OpenElement<Sink::Handle>]
+        ensures { IsBeyond (λ x. bears sign x || named_in x.namespace x.name name.now) (opens_of Sink.node result.now) self.now.open_elems }
+    {
+        let open = self.open_elems.as_slice();
+        let reach = self
+            .depths
+            .reach_named(self.allocator(), open.len(), sign, name);
+        &open[..reach]
+    }
+
     /// Whether an element of a set is open, up to and with the first of a scope's bounds ("has an element in the specific scope", HTML
     /// Standard, section 13.2.4.2). Time grows with the number of elements up to there.
     pub fn in_scope(&self, scope: TagSet, set: TagSet) -> bool
         ensures { result ≡ in_scope scope (is_in set) self.now.open_elems }
     {
-        walks::is_in_scope(self.open_elems.as_slice(), scope, Wanted::In(set))
+        let open = self.reached(Sign::In(scope), Sign::In(set));
+        walks::is_in_scope(open, scope, Wanted::In(set))
     }
 
     /// The same for HTML elements of a name, which comes with its class.
@@ -149,11 +181,8 @@ impl<Sink: TreeSink> Stack<Sink> {
         requires { IsClassOf Html name.now class }
         ensures { result ≡ in_scope scope (is_named name.now) self.now.open_elems }
     {
-        walks::is_in_scope(
-            self.open_elems.as_slice(),
-            scope,
-            Wanted::Named(class, name),
-        )
+        let open = self.reached_named(Sign::In(scope), name);
+        walks::is_in_scope(open, scope, Wanted::Named(class, name))
     }
 
     /// Elements are popped until one of a set was popped. The sink is not told.
@@ -161,6 +190,7 @@ impl<Sink: TreeSink> Stack<Sink> {
         ensures { self.new ≡ record self.old { open_elems = left_below (is_in set) self.old.open_elems } }
     {
         let left = walks::count_below(self.open_elems.as_slice(), Wanted::In(set));
+        self.depths.cut(left);
         self.open_elems.truncate(left);
     }
 
@@ -170,6 +200,7 @@ impl<Sink: TreeSink> Stack<Sink> {
         ensures { self.new ≡ record self.old { open_elems = left_below (is_named name.now) self.old.open_elems } }
     {
         let left = walks::count_below(self.open_elems.as_slice(), Wanted::Named(class, name));
+        self.depths.cut(left);
         self.open_elems.truncate(left);
     }
 
@@ -179,6 +210,7 @@ impl<Sink: TreeSink> Stack<Sink> {
         ensures { self.new ≡ record self.old { open_elems = left_from (is_in set) self.old.open_elems } }
     {
         let left = walks::count_from(self.open_elems.as_slice(), Wanted::In(set));
+        self.depths.cut(left);
         self.open_elems.truncate(left);
     }
 
@@ -198,6 +230,7 @@ impl<Sink: TreeSink> Stack<Sink> {
     pub fn truncate(&mut self, count: usize)
         ensures { self.new ≡ record self.old { open_elems = reverse (take count (reverse self.old.open_elems)) } }
     {
+        self.depths.cut(count);
         self.open_elems.truncate(count);
     }
 
@@ -233,6 +266,7 @@ impl<Sink: TreeSink> Stack<Sink> {
         ensures same { Sink.forest sink.new ≡ Sink.forest sink.old }
     {
         let element = self.open_elems.pop()?;
+        self.depths.cut(self.open_elems.len());
         sink.pop(&element.handle);
         Some(element)
     }
@@ -308,6 +342,7 @@ impl<Sink: TreeSink> Stack<Sink> {
         ensures { self.new ≡ record self.old { open_elems = left_below (passes wanted.entry) self.old.open_elems } }
     {
         let left = walks::count_below(self.open_elems.as_slice(), wanted);
+        self.depths.cut(left);
         self.open_elems.truncate(left);
     }
 
@@ -316,14 +351,16 @@ impl<Sink: TreeSink> Stack<Sink> {
         requires { IsClassOf Html name.now class }
         ensures { result ≡ finds_generic (is_named name.now) self.now.open_elems }
     {
-        walks::finds_generic(self.open_elems.as_slice(), Wanted::Named(class, name))
+        let open = self.reached_named(Sign::In(TagSet::SpecialTag), name);
+        walks::finds_generic(open, Wanted::Named(class, name))
     }
 
     /// Whether all open elements may be open where the body ends.
     pub(crate) fn all_end_with_body(&self) -> bool
         ensures { result ≡ list_all (is_in BodyEnd) self.now.open_elems }
     {
-        walks::are_all_in(self.open_elems.as_slice(), TagSet::BodyEnd)
+        let open = self.reached(Sign::BarsBodyEnd, Sign::BarsBodyEnd);
+        walks::are_all_in(open, TagSet::BodyEnd)
     }
 
     /// The mode that the open elements ask for ("reset the insertion mode appropriately", HTML Standard, section 13.2.4.1): with the current
@@ -336,7 +373,8 @@ impl<Sink: TreeSink> Stack<Sink> {
         ensures { (s : State) → s.open_elems ≡ self.now.open_elems → s.template_modes ≡ self.now.template_modes → is_some s.head_elem ≡ has_head → IsContext s.context_elem context.entry → result ≡ (reset_insertion_mode s).mode }
     {
         let template_mode = self.current_template_mode();
-        resetting::mode_of_open(self.open_elems.as_slice(), template_mode, has_head, context)
+        let open = self.reached(Sign::AsksMode, Sign::AsksMode);
+        resetting::mode_of_open(open, template_mode, has_head, context)
     }
 
     /// The current template insertion mode; "in body" where there is none.

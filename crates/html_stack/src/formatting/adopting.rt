@@ -1,5 +1,5 @@
 //! One turn of the adoption agency, where there is a furthest block (HTML Standard, section 13.2.6.4.7).
-ghost use Rattle.std.specs.Prelude.{◌≡◌, ◌<◌, ◌≤◌, ◌∷◌, [], List, length, slice_index_or, IfErr, MatchOption, OnErr, OnOk};
+ghost use Rattle.std.specs.Prelude.{◌≡◌, ◌<◌, ◌≤◌, ◌∷◌, [], List, length, slice_index_or, take, IfErr, MatchOption, OnErr, OnOk};
 ghost use Rattle.markup.specs.Forest.{node_count};
 ghost use Rattle.markup.specs.declared.fault.ParseFault.TheVariants.{Memory};
 ghost use Rattle.html_rules.specs.State.{State};
@@ -48,6 +48,7 @@ pub(crate) fn adopt<Sink: TreeSink>(
     ensures ok { OnOk result ((s : State) (d : OpenElement Sink.Handle) → s.foster_parenting ≡ foster → with_all s (Sink.forest sink.new) (opens_of Sink.node elements.new.items) (entries_of Sink.node entries.new.items) ≡ turned (with_all s (Sink.forest sink.old) (opens_of Sink.node elements.old.items) (entries_of Sink.node entries.old.items)) (record { number = Sink.node (slice_index_or elements.old.items from d).handle; tag = tag }) (open_of Sink.node (slice_index_or elements.old.items to d))) }
     ensures kept { OnErr result (IsStanding (Sink.forest sink.new) (opens_of Sink.node elements.new.items) (entries_of Sink.node entries.new.items)) }
     ensures grows { node_count (Sink.forest sink.old) ≤ node_count (Sink.forest sink.new) }
+    ensures below { take from elements.new.items ≡ take from elements.old.items }
     ensures fault { IfErr result (λ fault. fault ≡ Memory) }
 {
     let formatting_element = elements[from].handle;

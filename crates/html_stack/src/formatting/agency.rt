@@ -57,6 +57,7 @@ impl<Sink: TreeSink> Stack<Sink> {
             self.allocator(),
             sink,
             &mut self.open_elems,
+            &mut self.depths,
             &mut self.active_formatting,
             formatting,
             foster,

@@ -3,27 +3,34 @@ ghost use Rattle.std.specs.Prelude.{◌≡◌};
 ghost use Rattle.html_rules.specs.Formatting.{with_room, without_entry};
 ghost use Rattle.html_rules.specs.Stack.{is_open, without_number};
 ghost use Rattle.html_rules_laws.specs.Soundness.{AreOpened};
+ghost use Rattle.html_stack.specs.Noted.{IsNoted, named};
 ghost use Rattle.html_stack.specs.Stacks.{opens_of};
 
+use crate::depths::Depths;
 use crate::entries::OpenElement;
 use crate::formatting::{listing, positions};
 use crate::stack::Stack;
 use html_tokens::Tag;
 use markup::TreeSink;
 
-/// An element leaves the open elements; whether it was among them.
+/// An element leaves the open elements, of which notes are kept; whether it was among them.
 fn unstack<Sink: TreeSink>(
     sink: &Sink,
     elements: &mut Vec<OpenElement<Sink::Handle>>,
+    depths: &mut Depths,
     node: &Sink::Handle,
 ) -> bool
+    requires { IsNoted (named elements.old.items) depths.old }
     ensures left { opens_of Sink.node elements.new.items ≡ without_number (Sink.node node.now) (opens_of Sink.node elements.old.items) }
     ensures found { result ≡ is_open (Sink.node node.now) (opens_of Sink.node elements.old.items) }
+    ensures noted { IsNoted (named elements.new.items) depths.new }
 {
     match positions::on_stack(sink, elements.as_slice(), node) {
         None => false,
         Some(i) => {
+            depths.cut(i);
             drop(elements.remove(i));
+            depths.follow(*elements.allocator(), elements.as_slice());
             true
         }
     }
@@ -37,7 +44,7 @@ impl<Sink: TreeSink> Stack<Sink> {
         ensures left { self.new ≡ record self.old { open_elems = without_number (Sink.node element.now) self.old.open_elems } }
         ensures same { Sink.forest sink.new ≡ Sink.forest sink.old }
     {
-        if unstack(sink, &mut self.open_elems, element) {
+        if unstack(sink, &mut self.open_elems, &mut self.depths, element) {
             sink.pop(element);
         }
     }

@@ -1,19 +1,21 @@
 //! One turn of the adoption agency, with a formatting element (HTML Standard, section 13.2.6.4.7).
-ghost use Rattle.std.specs.Prelude.{◌≡◌, ◌<◌, ◌≤◌, None, length, slice_index_or, true, IfErr, IfOk, MatchOption, OnErr};
+ghost use Rattle.std.specs.Prelude.{◌≡◌, ◌<◌, ◌≤◌, None, false, length, slice_index_or, take, true, IfErr, IfOk, MatchOption, OnErr};
 ghost use Rattle.markup.specs.Forest.{node_count};
 ghost use Rattle.markup.specs.declared.fault.ParseFault.TheVariants.{Memory};
 ghost use Rattle.html_tokens.specs.declared.tags.Tag.{Tag};
 ghost use Rattle.html_rules.specs.Adoption.{is_number};
 ghost use Rattle.html_rules.specs.Formatting.{last_named};
-ghost use Rattle.html_rules.specs.Stack.{in_scope};
+ghost use Rattle.html_rules.specs.Stack.{in_scope, is_open};
 ghost use Rattle.html_rules.specs.State.{current_is};
 ghost use Rattle.html_rules.specs.declared.tag_set.TagSet.TheVariants.{DefaultScope};
 ghost use Rattle.html_rules_laws.specs.Soundness.{IsStanding};
 ghost use Rattle.html_stack.specs.Adopting.{IsFormatting, IsListedAt, IsTurnOf, told};
 ghost use Rattle.html_stack.specs.Found.{IsNewest};
+ghost use Rattle.html_stack.specs.Noted.{IsNoted, named};
 ghost use Rattle.html_stack.specs.Stacks.{entries_of, open_of, opens_of};
 ghost use Rattle.html_stack.specs.declared.entries.FormatEntry.TheVariants.{Element, Marker};
 
+use crate::depths::Depths;
 use crate::entries::{FormatEntry, OpenElement};
 use crate::formatting::adopting::adopt;
 use crate::formatting::listing::unlist;
@@ -105,6 +107,7 @@ fn turn_open<Sink: TreeSink>(
     ensures ok { IfOk result (λ goes_on. IsTurnOf foster (Sink.node formatting.node) goes_on (Sink.forest sink.old) (opens_of Sink.node elements.old.items) (entries_of Sink.node entries.old.items) (Sink.forest sink.new) (opens_of Sink.node elements.new.items) (entries_of Sink.node entries.new.items)) }
     ensures kept { OnErr result (IsStanding (Sink.forest sink.new) (opens_of Sink.node elements.new.items) (entries_of Sink.node entries.new.items)) }
     ensures grows { node_count (Sink.forest sink.old) ≤ node_count (Sink.forest sink.new) }
+    ensures below { take from elements.new.items ≡ take from elements.old.items }
     ensures fault { IfErr result (λ fault. fault ≡ Memory) }
 {
     tell_unless_current(sink, elements.as_slice(), &formatting.node);
@@ -130,24 +133,27 @@ fn turn_open<Sink: TreeSink>(
     Ok(true)
 }
 
-/// A turn with a formatting element; whether another turn follows. Where the element is not open, its entry leaves the list; where it is
-/// not in scope, nothing is done. The stack is gone through from the current node back up to the element, and once more between the two.
-pub(crate) fn turn_listed<Sink: TreeSink>(
+/// A turn with a formatting element, which stands at a place of the stack, if it is open; whether another turn follows. Where the element is
+/// not open, its entry leaves the list; where it is not in scope, nothing is done.
+fn turn_placed<Sink: TreeSink>(
     alloc: Global,
     sink: &mut Sink,
     elements: &mut Vec<OpenElement<Sink::Handle>>,
     entries: &mut Vec<FormatEntry<Sink::Handle>>,
     formatting: FormattingElement<Sink::Handle>,
+    place: Option<usize>,
     foster: bool,
 ) -> Result<bool, ParseFault>
     requires listed { (tag : Tag) × IsListedAt Sink.node entries.old.items formatting.place formatting.node tag }
+    requires place { MatchOption place (is_open (Sink.node formatting.node) (opens_of Sink.node elements.old.items) ≡ false) (IsNewest (open_of Sink.node) (is_number (Sink.node formatting.node)) elements.old.items) }
     requires standing { IsStanding (Sink.forest sink.old) (opens_of Sink.node elements.old.items) (entries_of Sink.node entries.old.items) }
     ensures ok { IfOk result (λ goes_on. IsTurnOf foster (Sink.node formatting.node) goes_on (Sink.forest sink.old) (opens_of Sink.node elements.old.items) (entries_of Sink.node entries.old.items) (Sink.forest sink.new) (opens_of Sink.node elements.new.items) (entries_of Sink.node entries.new.items)) }
     ensures kept { OnErr result (IsStanding (Sink.forest sink.new) (opens_of Sink.node elements.new.items) (entries_of Sink.node entries.new.items)) }
     ensures grows { node_count (Sink.forest sink.old) ≤ node_count (Sink.forest sink.new) }
+    ensures below { MatchOption place (elements.new.items ≡ elements.old.items) (λ from. take from elements.new.items ≡ take from elements.old.items) }
     ensures fault { IfErr result (λ fault. fault ≡ Memory) }
 {
-    let Some(from) = on_stack(sink, elements.as_slice(), &formatting.node) else {
+    let Some(from) = place else {
         sink.parse_error(CowStr::Borrowed("the formatting element that ends is not open"));
         unlist(sink, entries, &formatting.node);
         return Ok(false);
@@ -157,4 +163,31 @@ pub(crate) fn turn_listed<Sink: TreeSink>(
         return Ok(false);
     }
     turn_open(alloc, sink, elements, entries, formatting, from, foster)
+}
+
+/// A turn with a formatting element; whether another turn follows. Where the element is not open, its entry leaves the list; where it is
+/// not in scope, nothing is done. The stack is gone through from the current node back up to the element, and once more between the two.
+pub(crate) fn turn_listed<Sink: TreeSink>(
+    alloc: Global,
+    sink: &mut Sink,
+    elements: &mut Vec<OpenElement<Sink::Handle>>,
+    depths: &mut Depths,
+    entries: &mut Vec<FormatEntry<Sink::Handle>>,
+    formatting: FormattingElement<Sink::Handle>,
+    foster: bool,
+) -> Result<bool, ParseFault>
+    requires listed { (tag : Tag) × IsListedAt Sink.node entries.old.items formatting.place formatting.node tag }
+    requires noted { IsNoted (named elements.old.items) depths.old }
+    requires standing { IsStanding (Sink.forest sink.old) (opens_of Sink.node elements.old.items) (entries_of Sink.node entries.old.items) }
+    ensures ok { IfOk result (λ goes_on. IsTurnOf foster (Sink.node formatting.node) goes_on (Sink.forest sink.old) (opens_of Sink.node elements.old.items) (entries_of Sink.node entries.old.items) (Sink.forest sink.new) (opens_of Sink.node elements.new.items) (entries_of Sink.node entries.new.items)) }
+    ensures kept { OnErr result (IsStanding (Sink.forest sink.new) (opens_of Sink.node elements.new.items) (entries_of Sink.node entries.new.items)) }
+    ensures grows { node_count (Sink.forest sink.old) ≤ node_count (Sink.forest sink.new) }
+    ensures noted { IsNoted (named elements.new.items) depths.new }
+    ensures fault { IfErr result (λ fault. fault ≡ Memory) }
+{
+    let place = on_stack(sink, elements.as_slice(), &formatting.node);
+    depths.cut_to(place);
+    let goes_on = turn_placed(alloc, sink, elements, entries, formatting, place, foster);
+    depths.follow(alloc, elements.as_slice());
+    goes_on
 }

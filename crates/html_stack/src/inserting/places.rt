@@ -13,6 +13,7 @@ ghost use Rattle.html_stack.specs.Stacks.{open_of, opens_of};
 
 use crate::entries::{InsertionPoint, OpenElement};
 use crate::inserting::walks;
+use crate::signs::Sign;
 use crate::stack::Stack;
 use html_rules::TagSet;
 use markup::{NodeOrText, ParseFault, TreeSink};
@@ -184,6 +185,6 @@ impl<Sink: TreeSink> Stack<Sink> {
     pub fn has_open(&self, set: TagSet) -> bool
         ensures { result ≡ has_open set self.now.open_elems }
     {
-        walks::has_open(self.open_elems(), set)
+        walks::has_open(self.reached(Sign::In(set), Sign::In(set)), set)
     }
 }

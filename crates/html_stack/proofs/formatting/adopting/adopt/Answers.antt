@@ -16,6 +16,7 @@ use Rattle.html_stack.proofs.Results.{on-err}
 use Rattle.html_stack.proofs.Adopted.{grown, no-less, walk-count, walk-keeps}
 use Rattle.html_stack.proofs.Turned.{IsAdoption, adoption, block-movable, block-parent, copies-new, handle_of, is-placed, last-loose, none-between, rebuilt, relisted-is, turned-is, opens-count, opened-index, placed-stands, removed-opened, removed-stands, removed-tree, still-opened}
 use Rattle.html_stack.proofs.Walked.{opened-Walked}
+use Rattle.html_stack.proofs.Noted.{front-kept}
 use Rattle.html_stack.proofs.formatting.adopting.adopt.Goals as goal
 
 pub copy_between-requires-clause-block : goal.copy_between-requires-clause-block
@@ -234,3 +235,8 @@ returns-clause-grows g c = grown _ _ _ _ _ c.in_ok-copies.ensures.grows (ap node
 
 pub restack-requires-clause-within : goal.restack-requires-clause-within
 restack-requires-clause-within g c = c.requires.within
+
+pub returns-clause-below : goal.returns-clause-below
+returns-clause-below g c =
+    let d = c.index-3.result.now in
+    front-kept c.args.elements.now.items c.restack.new.items.items _ c.args.from (omega (arith, c.requires.order, c.requires.within)) (c.restack.ensures d)

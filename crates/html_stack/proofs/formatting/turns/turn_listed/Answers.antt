@@ -1,43 +1,7 @@
-use Rattle.std.proofs.Common.{◌≡◌, ◌∙◌, ◌+◌, false, length, sym, ap}
-use Rattle.std.specs.Prelude.{not, slice_range}
-use Rattle.html_rules.specs.Adoption.{is_number}
-use Rattle.html_rules.specs.Formatting.{Listed}
-use Rattle.html_rules.specs.Stack.{in_scope, is_open}
-use Rattle.html_rules.specs.declared.tag_set.TagSet.TheVariants.{DefaultScope}
-use Rattle.html_stack.specs.Found.{IsNewest}
-use Rattle.html_stack.specs.Stacks.{entries_of, open_of, opens_of}
-use Rattle.html_stack.proofs.Agencies.{any-of, rest-is, scope-place, turn-bounded, turn-closed}
-use Rattle.html_stack.proofs.StackEdits.{newest-open}
+use Rattle.html_stack.specs.Noted.{named}
+use Rattle.html_stack.proofs.Noted.{turned-noted}
 use Rattle.html_stack.proofs.formatting.turns.turn_listed.Goals as goal
 
-pub returns-in_default-clause-ok : goal.returns-in_default-clause-ok
-returns-in_default-clause-ok g c name s on =
-    let node = g.Sink.TreeSink.node in
-    let n = node c.args.formatting.node in
-    let xs = c.args.elements.now.items in
-    let es = entries_of node c.args.entries.now.items in
-    let fe : Listed = record { number = n; tag = c.requires.listed.0 } in
-    let closed : is_open n (opens_of node xs) ≡ false = rw c.as_slice.ensures.value at c.in_default.ensures in
-    rw (c.parse_error.ensures, c.unlist.ensures) (turn-closed c.args.foster (g.Sink.TreeSink.forest c.args.sink.now) (opens_of node xs) es fe c.requires.listed.1.newest closed name s on)
-
-pub returns-then-has_open-clause-ok : goal.returns-then-has_open-clause-ok
-returns-then-has_open-clause-ok g c name s on =
-    let node = g.Sink.TreeSink.node in
-    let n = node c.args.formatting.node in
-    let xs = c.args.elements.now.items in
-    let es = entries_of node c.args.entries.now.items in
-    let fe : Listed = record { number = n; tag = c.requires.listed.0 } in
-    let is : IsNewest (open_of node) (is_number n) xs c.in-Some.from = rw c.as_slice.ensures.value at c.in-Some.ensures in
-    let later = slice_range c.as_slice-2.result.now (c.in-Some.from + 1) (length c.as_slice-2.result.now) in
-    let scope : in_scope DefaultScope (is_number n) (opens_of node xs) ≡ false =
-    scope-place node n xs later c.in-Some.from (any-of xs c.in-Some.from is.within) is (rest-is xs c.as_slice-2.result.now (c.in-Some.from + 1) c.as_slice-2.ensures.value) ∙ ap not (sym (c.if-has_open.ensures node)) in
-    rw c.parse_error-then-has_open.ensures (turn-bounded c.args.foster (g.Sink.TreeSink.forest c.args.sink.now) (opens_of node xs) es fe c.requires.listed.1.newest (newest-open node n xs c.in-Some.from is) scope name s on)
-
-pub turn_open-requires-clause-scope : goal.turn_open-requires-clause-scope
-turn_open-requires-clause-scope g c =
-    let node = g.Sink.TreeSink.node in
-    let n = node c.args.formatting.node in
-    let xs = c.args.elements.now.items in
-    let is : IsNewest (open_of node) (is_number n) xs c.in-Some.from = rw c.as_slice.ensures.value at c.in-Some.ensures in
-    let later = slice_range c.as_slice-2.result.now (c.in-Some.from + 1) (length c.as_slice-2.result.now) in
-    scope-place node n xs later c.in-Some.from (any-of xs c.in-Some.from is.within) is (rest-is xs c.as_slice-2.result.now (c.in-Some.from + 1) c.as_slice-2.ensures.value) ∙ ap not (sym (c.if-has_open.ensures node))
+pub follow-requires : goal.follow-requires
+follow-requires g c =
+    rw c.as_slice-2.ensures.value (turned-noted c.on_stack-place.result c.args.elements.now.items c.turn_placed-goes_on.new.elements.items c.cut_to.new.self c.cut_to.ensures.within c.turn_placed-goes_on.ensures.below (c.cut_to.ensures.noted (named c.args.elements.now.items) c.requires.noted))

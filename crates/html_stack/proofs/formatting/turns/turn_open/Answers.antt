@@ -13,6 +13,7 @@ use Rattle.html_stack.proofs.Agencies.{after-is, any-of, block-place, number-pla
 use Rattle.html_stack.proofs.ListEdits.{marker-apart}
 use Rattle.html_stack.proofs.Results.{on-err}
 use Rattle.html_stack.proofs.StackEdits.{newest-open, open-node}
+use Rattle.html_stack.proofs.Noted.{front-cut}
 use Rattle.html_stack.proofs.formatting.turns.turn_open.Goals as goal
 
 pub returns-in_default-clause-ok : goal.returns-in_default-clause-ok
@@ -163,3 +164,6 @@ returns-clause-grows g c =
     let xs = opens_of node c.args.elements.now.items in
     let told_is : g.Sink.TreeSink.forest c.tell_unless_current.new.sink ≡ told n xs f = rw c.as_slice.ensures.value at c.tell_unless_current.ensures in
     rw c.pop.ensures (told-grows-on n xs f (g.Sink.TreeSink.forest c.tell_unless_current.new.sink) (g.Sink.TreeSink.forest c.adopt.new.sink) told_is c.in_ok-adopt.ensures.grows)
+
+pub returns-in_default-clause-below : goal.returns-in_default-clause-below
+returns-in_default-clause-below g c = front-cut c.args.elements.now.items c.truncate.new.self.items c.args.from c.truncate.ensures.items

@@ -4,18 +4,12 @@ use Rattle.html_stack.proofs.stack.Stack.close_foreign.Goals as goal
 
 pub returns-in-Closed : goal.returns-in-Closed
 unfolding close_foreign foreign_end
-returns-in-Closed g c s f =
-    let found = rw c.as_slice.ensures.value at (c.in-Closed.ensures g.Sink.TreeSink.node) in
-    rw (← c.self.view_is, found, c.truncate.ensures.items) refl
+returns-in-Closed g c s f = rw (c.truncate.ensures, c.in-Closed.ensures) refl
 
 pub returns-in-Dropped : goal.returns-in-Dropped
 unfolding close_foreign foreign_end
-returns-in-Dropped g c s f =
-    let found = rw c.as_slice.ensures.value at (c.in-Dropped.ensures g.Sink.TreeSink.node) in
-    rw (← c.self.view_is, found) refl
+returns-in-Dropped g c s f = rw c.in-Dropped.ensures refl
 
 pub returns-in-AsInMode : goal.returns-in-AsInMode
 unfolding close_foreign foreign_end
-returns-in-AsInMode g c s f =
-    let found = rw c.as_slice.ensures.value at (c.in-AsInMode.ensures g.Sink.TreeSink.node) in
-    rw (← c.self.view_is, found) refl
+returns-in-AsInMode g c s f = rw c.in-AsInMode.ensures refl
