@@ -6,8 +6,8 @@ ghost use Rattle.html_forest.specs.Views.{data_view};
 use crate::Forest;
 use crate::node::{NodeData, NodeId};
 
-fn holds_children(about: &NodeData) -> bool
-    ensures { result ≡ holds_children (data_view about.now) }
+fn holds_children(about: NodeData<'_>) -> bool
+    ensures { result ≡ holds_children (data_view about) }
 {
     matches!(
         about,
@@ -30,8 +30,8 @@ pub fn is_parent(forest: &Forest, id: NodeId) -> bool
     }
 }
 
-fn is_contents(about: &NodeData) -> bool
-    ensures { result ≡ is_contents (data_view about.now) }
+fn is_contents(about: NodeData<'_>) -> bool
+    ensures { result ≡ is_contents (data_view about) }
 {
     matches!(about, NodeData::Contents)
 }
