@@ -3,7 +3,7 @@ use Rattle.std.proofs.Common.{◌≡◌, ◌==◌, ◌<◌, ℕ, List, [], ◌�
 use Rattle.std.proofs.lemmas.Bool.{cases_eq, cases_Bool, eq-eqb, ne_eqb}
 use Rattle.html_forest.specs.declared.node.Node.{Node}
 use Rattle.html_forest.specs.Links.{Links, adopted, link_at}
-use Rattle.html_forest.specs.Views.{IsWalk, abouts_of, links_of, walk_from}
+use Rattle.html_forest.specs.Views.{IsWalk, entries_of, links_of, walk_from}
 use Rattle.html_forest.proofs.Walks.{IsStep, IsStep-walk, step-IsNode, walk-none}
 
 -- some of the nodes from the first on have the parent, and those from `at` on are left
@@ -12,7 +12,7 @@ pub record IsAdopting (old : List Node) (first : Option ℕ) (parent : ℕ) (now
   pub all : walk_from old first ≡ done ++ walk_from old at
   pub walk : IsWalk old at
   pub links : (n : ℕ) → link_at (links_of now) n ≡ adopted parent done n (link_at (links_of old) n)
-  pub abouts : abouts_of now ≡ abouts_of old
+  pub entries : entries_of now ≡ entries_of old
   pub len : length now ≡ length old
 
 adopted-more : (parent c : ℕ) (done : List ℕ) (n : ℕ) (l : Links) → adopted parent (done ++ c ∷ []) n l ≡ cond (n == c) (record l { parent = Some parent }) (adopted parent done n l)
@@ -33,13 +33,13 @@ at-IsNode old first parent now c h = let there = step-IsNode old c h.walk in ome
 -- one node more
 pub IsAdopting-next : (old : List Node) (first : Option ℕ) (parent : ℕ) (now new : List Node) (c : ℕ) (at : Option ℕ) → IsAdopting old first parent now (Some c)
     → at ≡ (link_at (links_of now) c).next → ((n : ℕ) → link_at (links_of new) n ≡ cond (n == c) (record (link_at (links_of now) c) { parent = Some parent }) (link_at (links_of now) n))
-    → abouts_of new ≡ abouts_of now → length new ≡ length now → IsAdopting old first parent new at
-IsAdopting-next old first parent now new c at h next links abouts len = record {
+    → entries_of new ≡ entries_of now → length new ≡ length now → IsAdopting old first parent new at
+IsAdopting-next old first parent now new c at h next links entries len = record {
   done = h.done ++ c ∷ [];
   all = h.all ∙ (ap (λ (ns : List ℕ). h.done ++ ns) (step.goes ∙ ap (λ (o : Option ℕ). c ∷ walk_from old o) (sym here)) ∙ sym (append_assoc h.done (c ∷ []) (walk_from old at)));
   walk = subst (λ (o : Option ℕ). IsWalk old o) (sym here) step.rest;
   links = λ n. links n ∙ (same n ∙ sym (adopted-more parent c h.done n (link_at (links_of old) n)));
-  abouts = abouts ∙ h.abouts;
+  entries = entries ∙ h.entries;
   len = len ∙ h.len;
 }
   where

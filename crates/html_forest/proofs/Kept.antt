@@ -6,7 +6,7 @@ use Rattle.markup.specs.Names.{is_html_name}
 use Rattle.markup.specs.Named.{IsOrdinary}
 use Rattle.markup.specs.Forest.{Above, above_of, Forest, IsForest, IsLoose, IsPlace, NodeData, Place, add_attributes, children_of, contents_of, data_of, element_name, empty_forest, is_among, is_contents, last_of, children_with, node_count, parent_at, parent_of, previous_at, previous_in, put, remove, template_of, text_of, with_attributes, with_data, with_node, without}
 use Rattle.markup.specs.Forest.Above.{here}
-use Rattle.markup.specs.Forest.NodeData.{Contents, Element, Text}
+use Rattle.markup.specs.Forest.NodeData.{Contents, Document, Element, Text}
 use Rattle.markup.specs.declared.names.QualName.{QualName}
 use Rattle.markup.specs.declared.attributes.Attribute.{Attribute}
 use Rattle.markup.specs.declared.quirks.QuirksMode.{QuirksMode}
@@ -17,7 +17,7 @@ use Rattle.markup.proofs.Forests.{IsForest-empty, IsForest-same_nodes, IsForest-
 use Rattle.markup.proofs.PutTexts.{IsInPlace-add_attributes, IsInPlace-text, text-IsNode, text_of-is}
 use Rattle.markup.proofs.TemplateContents.{HasContents-empty, HasContents-same_data, HasContents-with_data, HasContents-with_node, HasContents-with_template, IsAlike, IsAlike-with_attributes}
 use Rattle.html_forest.specs.Links.{Links, after_in, before_in, first_of, link_at, links_at, next_in, next_under, no_links, placed, previous_under, unplaced}
-use Rattle.html_forest.specs.Views.{About, IsKept, about_at, about_with, no_about}
+use Rattle.html_forest.specs.Views.{IsKept, about_at, about_with}
 use Rattle.html_forest.proofs.Linked.{IsInserted, placed-links, same-links, unplaced-links}
 use Rattle.html_forest.proofs.Splits.{IsSplit, IsSplit-place, IsSplit-without}
 
@@ -32,16 +32,6 @@ links_at-same f g n parent lists = same-links (links_at g n) (links_at f n) pare
     next : (o : Option ℕ) → next_under g n o ≡ next_under f n o
     next None = refl
     next (Some p) = ap (after_in n) (lists p)
-
--- what a node is in a forest
-abbrev pub about_in : Forest → ℕ → About
-about_in f n = (data_of f n, contents_of f n)
-
-pub about_in-same : (f g : Forest) (n : ℕ) → data_of g n ≡ data_of f n → about_in g n ≡ about_in f n
-about_in-same f g n same = rw same refl
-
-about_in-past : (f : Forest) (n : ℕ) → node_count f ≤ n → about_in f n ≡ no_about
-about_in-past f n past = rw (data_of-past f n past) refl
 
 -- one item more at the end, which is what stands past it
 get_or-push_default : {A : Type 0} (xs : List A) (d : A) (n : ℕ) → get_or (xs ++ d ∷ []) n d ≡ get_or xs n d
@@ -66,39 +56,39 @@ get_or-pushed xs d x f g count long are old new past n =
 linked-with_node : (f : Forest) (ls : List Links) (about : NodeData) → ((n : ℕ) → link_at ls n ≡ links_at f n) → (n : ℕ) → link_at (ls ++ no_links ∷ []) n ≡ links_at (with_node f about) n
 linked-with_node f ls about are n = get_or-push_default ls no_links n ∙ (are n ∙ sym (links_at-same f (with_node f about) n (parent_of-with_node f about n) (children_of-with_node f about)))
 
-about-with_node : (f : Forest) (ss : List About) (about : NodeData) (contents : Option ℕ) → length ss ≡ node_count f → ((n : ℕ) → about_at ss n ≡ about_in f n) → cond (template_of about) (Some (node_count f + 1)) None ≡ contents → (n : ℕ) → about_at (ss ++ (about, contents) ∷ []) n ≡ about_in (with_node f about) n
-about-with_node f ss about contents long are is =
-    get_or-pushed ss no_about (about, contents) (about_in f) (about_in (with_node f about)) (node_count f) long are
-    (λ n less. about_in-same f (with_node f about) n (data_of-with_node_old f about n less))
-    (rw (data_of-with_node_new f about) (ap (λ (o : Option ℕ). (about, o)) is))
-    (λ n more. about_in-past (with_node f about) n (omega (arith, node_count-with_node f about)))
+about-with_node : (f : Forest) (ss : List NodeData) (about : NodeData) → length ss ≡ node_count f → ((n : ℕ) → about_at ss n ≡ data_of f n) → (n : ℕ) → about_at (ss ++ about ∷ []) n ≡ data_of (with_node f about) n
+about-with_node f ss about long are =
+    get_or-pushed ss Document about (data_of f) (data_of (with_node f about)) (node_count f) long are
+    (λ n less. data_of-with_node_old f about n less)
+    (data_of-with_node_new f about)
+    (λ n more. data_of-past (with_node f about) n (omega (arith, node_count-with_node f about)))
 
-pub IsKept-with_node : (f : Forest) (ss : List About) (ls : List Links) (about : NodeData) → IsKept f ss ls → IsOrdinary about → IsKept (with_node f about) (ss ++ (about, None) ∷ []) (ls ++ no_links ∷ [])
+pub IsKept-with_node : (f : Forest) (ss : List NodeData) (ls : List Links) (about : NodeData) → IsKept f ss ls → IsOrdinary about → IsKept (with_node f about) (ss ++ about ∷ []) (ls ++ no_links ∷ [])
 IsKept-with_node f ss ls about k plain = record {
   is_forest = IsForest-with_node f about k.is_forest;
   has_contents = HasContents-with_node f about k.has_contents plain;
-  count_abouts = omega (arith, length_push ss (about, None), k.count_abouts, node_count-with_node f about);
+  count_abouts = omega (arith, length_push ss about, k.count_abouts, node_count-with_node f about);
   count_links = omega (arith, length_push ls no_links, k.count_links, node_count-with_node f about);
-  is_about = about-with_node f ss about None k.count_abouts k.is_about (rw plain.template refl);
+  is_about = about-with_node f ss about k.count_abouts k.is_about;
   is_linked = linked-with_node f ls about k.is_linked;
 }
 
 -- a template, with the node of its contents
-pub IsKept-with_template : (f : Forest) (ss : List About) (ls : List Links) (name : QualName) (attributes : List Attribute) (point : Bool) → IsKept f ss ls → is_html_name (Some name) (codes "template") ≡ true → IsKept (with_node (with_node f (Element name attributes true point)) Contents) ((ss ++ (Element name attributes true point, Some (node_count f + 1)) ∷ []) ++ (Contents, None) ∷ []) ((ls ++ no_links ∷ []) ++ no_links ∷ [])
+pub IsKept-with_template : (f : Forest) (ss : List NodeData) (ls : List Links) (name : QualName) (attributes : List Attribute) (point : Bool) → IsKept f ss ls → is_html_name (Some name) (codes "template") ≡ true → IsKept (with_node (with_node f (Element name attributes true point)) Contents) ((ss ++ Element name attributes true point ∷ []) ++ Contents ∷ []) ((ls ++ no_links ∷ []) ++ no_links ∷ [])
 IsKept-with_template f ss ls name attributes point k named = record {
   is_forest = IsForest-with_node (with_node f about) Contents (IsForest-with_node f about k.is_forest);
   has_contents = HasContents-with_template f about k.has_contents refl refl named;
-  count_abouts = omega (arith, length_push (ss ++ (about, Some (node_count f + 1)) ∷ []) (Contents, None), more_abouts, node_count-with_node (with_node f about) Contents);
+  count_abouts = omega (arith, length_push (ss ++ about ∷ []) Contents, more_abouts, node_count-with_node (with_node f about) Contents);
   count_links = omega (arith, length_push (ls ++ no_links ∷ []) no_links, more_links, node_count-with_node (with_node f about) Contents);
-  is_about = about-with_node (with_node f about) (ss ++ (about, Some (node_count f + 1)) ∷ []) Contents None more_abouts (about-with_node f ss about (Some (node_count f + 1)) k.count_abouts k.is_about refl) refl;
+  is_about = about-with_node (with_node f about) (ss ++ about ∷ []) Contents more_abouts (about-with_node f ss about k.count_abouts k.is_about);
   is_linked = linked-with_node (with_node f about) (ls ++ no_links ∷ []) Contents (linked-with_node f ls about k.is_linked);
 }
   where
     about : NodeData
     about = Element name attributes true point
 
-    more_abouts : length (ss ++ (Element name attributes true point, Some (node_count f + 1)) ∷ []) ≡ node_count (with_node f (Element name attributes true point))
-    more_abouts = omega (arith, length_push ss (Element name attributes true point, Some (node_count f + 1)), k.count_abouts, node_count-with_node f (Element name attributes true point))
+    more_abouts : length (ss ++ Element name attributes true point ∷ []) ≡ node_count (with_node f (Element name attributes true point))
+    more_abouts = omega (arith, length_push ss (Element name attributes true point), k.count_abouts, node_count-with_node f (Element name attributes true point))
 
     more_links : length (ls ++ no_links ∷ []) ≡ node_count (with_node f (Element name attributes true point))
     more_links = omega (arith, length_push ls no_links, k.count_links, node_count-with_node f (Element name attributes true point))
@@ -116,14 +106,14 @@ above_of-child f is c p stands =
       | inr plain ↦ let above : above_of f c ≡ parent_of f c = rw plain refl in above ∙ stands
     ]
 
-pub IsKept-put : (f : Forest) (ss : List About) (ls new : List Links) (place : Place) (c : ℕ) → IsKept f ss ls → IsPlace f place → IsLoose f (parent_at place) c → length new ≡ length ls
+pub IsKept-put : (f : Forest) (ss : List NodeData) (ls new : List Links) (place : Place) (c : ℕ) → IsKept f ss ls → IsPlace f place → IsLoose f (parent_at place) c → length new ≡ length ls
     → ((n : ℕ) → link_at new n ≡ placed (parent_at place) (previous_at f place) (next_in place) c n (link_at ls n)) → IsKept (put f place c) ss new
 IsKept-put f ss ls new place c k at loose long links = record {
   is_forest = is_put.is;
   has_contents = HasContents-same_data f (put f place c) k.has_contents is_put.same_data;
   count_abouts = k.count_abouts ∙ sym is_put.count;
   count_links = long ∙ (k.count_links ∙ sym is_put.count);
-  is_about = λ n. k.is_about n ∙ sym (about_in-same f (put f place c) n (is_put.same_data n));
+  is_about = λ n. k.is_about n ∙ sym (is_put.same_data n);
   is_linked = λ n. links n ∙ (rw (k.is_linked n, split.is_previous, split.is_next) (placed-links f (put f place c) (parent_at place) c split.before split.after inserted n));
 }
   where
@@ -146,14 +136,14 @@ IsKept-put f ss ls new place c k at loose long links = record {
     }
 
 -- a node is taken out of its parent
-pub IsKept-removed : (f : Forest) (ss : List About) (ls new : List Links) (c p : ℕ) → IsKept f ss ls → parent_of f c ≡ Some p → length new ≡ length ls
+pub IsKept-removed : (f : Forest) (ss : List NodeData) (ls new : List Links) (c p : ℕ) → IsKept f ss ls → parent_of f c ≡ Some p → length new ≡ length ls
     → ((n : ℕ) → link_at new n ≡ unplaced p (link_at ls c).previous (link_at ls c).next c n (link_at ls n)) → IsKept (remove f c) ss new
 IsKept-removed f ss ls new c p k stands long links = record {
   is_forest = removed.is;
   has_contents = HasContents-same_data f (remove f c) k.has_contents removed.same_data;
   count_abouts = k.count_abouts ∙ sym removed.count;
   count_links = long ∙ (k.count_links ∙ sym removed.count);
-  is_about = λ n. k.is_about n ∙ sym (about_in-same f (remove f c) n (removed.same_data n));
+  is_about = λ n. k.is_about n ∙ sym (removed.same_data n);
   is_linked = λ n. links n ∙ (rw (previous, next, k.is_linked n) (unplaced-links (remove f c) f p c split.before split.after inserted n));
 }
   where
@@ -191,36 +181,34 @@ IsKept-removed f ss ls new c p k stands long links = record {
     }
 
 -- other data, alike as to templates
-IsKept-in_place : (f : Forest) (ss new : List About) (ls : List Links) (n : ℕ) (about : NodeData) → IsKept f ss ls → n < node_count f → IsInPlace f (with_data f n about) n → IsAlike about (data_of f n) → new ≡ about_with ss n about → IsKept (with_data f n about) new ls
+IsKept-in_place : (f : Forest) (ss new : List NodeData) (ls : List Links) (n : ℕ) (about : NodeData) → IsKept f ss ls → n < node_count f → IsInPlace f (with_data f n about) n → IsAlike about (data_of f n) → new ≡ about_with ss n about → IsKept (with_data f n about) new ls
 IsKept-in_place f ss new ls n about k there in_place alike is = record {
   is_forest = in_place.is;
   has_contents = HasContents-with_data f n about there k.has_contents alike;
-  count_abouts = rw is (length-set ss n (about, (about_at ss n).1) ∙ (k.count_abouts ∙ sym in_place.count));
+  count_abouts = rw is (length-set ss n about ∙ (k.count_abouts ∙ sym in_place.count));
   count_links = k.count_links ∙ sym in_place.count;
   is_about = λ m. elim (cases_eq m n) [
     | inl same ↦
-        rw (is, same)
-        (get_or-set_same ss n (about, (about_at ss n).1) no_about (omega (arith, k.count_abouts))
-        ∙ (ap₂ (λ (d : NodeData) (o : Option ℕ). (d, o)) (sym (data_of-with_data f n about there)) (ap (λ (a : About). a.1) (k.is_about n) ∙ sym (ap (λ (b : Bool). cond b (Some (n + 1)) None) (ap template_of (data_of-with_data f n about there) ∙ alike.template)))))
+        rw (is, same) (get_or-set_same ss n about Document (omega (arith, k.count_abouts)) ∙ sym (data_of-with_data f n about there))
     | inr other ↦
-        rw is (get_or-set_other ss n m (about, (about_at ss n).1) no_about other)
-        ∙ (k.is_about m ∙ sym (about_in-same f (with_data f n about) m (data_of-with_data_other f n about m other)))
+        rw is (get_or-set_other ss n m about Document other)
+        ∙ (k.is_about m ∙ sym (data_of-with_data_other f n about m other))
   ];
   is_linked = λ m. k.is_linked m ∙ sym (links_at-same f (with_data f n about) m (in_place.parents m) in_place.lists);
 }
 
-pub IsKept-text : (f : Forest) (ss new : List About) (ls : List Links) (n : ℕ) (old shown : List ℕ) → IsKept f ss ls → text_of (data_of f n) ≡ Some old → new ≡ about_with ss n (Text shown) → IsKept (with_data f n (Text shown)) new ls
+pub IsKept-text : (f : Forest) (ss new : List NodeData) (ls : List Links) (n : ℕ) (old shown : List ℕ) → IsKept f ss ls → text_of (data_of f n) ≡ Some old → new ≡ about_with ss n (Text shown) → IsKept (with_data f n (Text shown)) new ls
 IsKept-text f ss new ls n old shown k e is =
     IsKept-in_place f ss new ls n (Text shown) k (text-IsNode f n old e) (IsInPlace-text f n old shown k.is_forest e)
     (let same = text_of-is (data_of f n) old e in record { contents = ap is_contents (sym same); template = ap template_of (sym same); name = ap element_name (sym same) })
     is
 
-pub IsKept-attributes : (f : Forest) (ss new : List About) (ls : List Links) (n : ℕ) (others : List Attribute) → IsKept f ss ls → n < node_count f → new ≡ about_with ss n (with_attributes (data_of f n) others) → IsKept (add_attributes f n others) new ls
+pub IsKept-attributes : (f : Forest) (ss new : List NodeData) (ls : List Links) (n : ℕ) (others : List Attribute) → IsKept f ss ls → n < node_count f → new ≡ about_with ss n (with_attributes (data_of f n) others) → IsKept (add_attributes f n others) new ls
 IsKept-attributes f ss new ls n others k there is =
     IsKept-in_place f ss new ls n (with_attributes (data_of f n) others) k there (IsInPlace-add_attributes f n others k.is_forest there) (IsAlike-with_attributes (data_of f n) others) is
 
 -- another quirks mode or number of errors
-pub IsKept-same_nodes : (f : Forest) (ss : List About) (ls : List Links) (mode : QuirksMode) (errors : ℕ) → IsKept f ss ls → IsKept (record { nodes = f.nodes; quirks = mode; errors = errors }) ss ls
+pub IsKept-same_nodes : (f : Forest) (ss : List NodeData) (ls : List Links) (mode : QuirksMode) (errors : ℕ) → IsKept f ss ls → IsKept (record { nodes = f.nodes; quirks = mode; errors = errors }) ss ls
 IsKept-same_nodes f ss ls mode errors k = record {
   is_forest = IsForest-same_nodes f mode errors k.is_forest;
   has_contents = HasContents-same_data f (record { nodes = f.nodes; quirks = mode; errors = errors }) k.has_contents (λ n. refl);
@@ -231,7 +219,7 @@ IsKept-same_nodes f ss ls mode errors k = record {
 }
 
 -- a document with nothing in it
-pub IsKept-empty : IsKept empty_forest (no_about ∷ []) (no_links ∷ [])
+pub IsKept-empty : IsKept empty_forest (Document ∷ []) (no_links ∷ [])
 IsKept-empty = record {
   is_forest = IsForest-empty;
   has_contents = HasContents-empty;
@@ -245,7 +233,7 @@ IsKept-empty = record {
     none zero n = refl
     none (suc q) n = refl
 
-    about' : (n : ℕ) → about_at (no_about ∷ []) n ≡ about_in empty_forest n
+    about' : (n : ℕ) → about_at (Document ∷ []) n ≡ data_of empty_forest n
     about' zero = refl
     about' (suc n) = refl
 

@@ -1,10 +1,13 @@
 -- Lists of what nodes are and have, after a change of one of them.
-use Rattle.std.proofs.Common.{◌≡◌, ◌==◌, ◌<◌, ℕ, List, Option, cond, length, map, sym, ap, ◌∙◌, refl, inl, inr, get_or, set}
+use Rattle.std.proofs.Common.{◌≡◌, ◌==◌, ◌<◌, ℕ, List, Option, cond, length, map, sym, ap, ◌∙◌, refl, inl, inr, arith, get_or, set}
 use Rattle.std.proofs.lemmas.List.{map-set, set-get_or, get_or-set_same, get_or-set_other, get_or-map, length-map}
 use Rattle.std.proofs.lemmas.Bool.{cases_eq, eq-eqb, ne_eqb}
 use Rattle.html_forest.specs.declared.node.Node.{Node}
 use Rattle.html_forest.specs.Links.{Links, link_at, no_links}
-use Rattle.html_forest.specs.Views.{about_at, about_of, abouts_of, contents_in, data_view, links_of, no_about}
+use Rattle.html_forest.specs.Entries.{data_in, entry_at}
+use Rattle.html_forest.specs.Views.{about_at, abouts_of, entries_of, links_of}
+use Rattle.html_forest.specs.declared.entry.Entry.TheVariants.{Document}
+use Rattle.html_forest.specs.declared.store.Store.{Store}
 use Rattle.markup.specs.Forest as tree
 
 -- a write that f doesn't see
@@ -23,14 +26,14 @@ link_at-set ls at l n there =
       | inr other ↦ rw (ne_eqb n at other) (get_or-set_other ls at n l no_links other)
     ]
 
--- what the node at a place is, and the links that it has
-pub about_at-node : (nodes : List Node) (p : ℕ) (y : Node) → p < length nodes → y ≡ get_or nodes p y → about_at (abouts_of nodes) p ≡ about_of y.about
-about_at-node nodes p y there read = get_or-map (λ (node : Node). about_of node.about) nodes p y no_about there ∙ ap (λ (node : Node). about_of node.about) (sym read)
+-- the entry of the node at a place, and the links that it has
+pub entry_at-node : (nodes : List Node) (p : ℕ) (y : Node) → p < length nodes → y ≡ get_or nodes p y → entry_at (entries_of nodes) p ≡ y.entry
+entry_at-node nodes p y there read = get_or-map (λ (node : Node). node.entry) nodes p y Document there ∙ ap (λ (node : Node). node.entry) (sym read)
 
 pub link_at-node : (nodes : List Node) (p : ℕ) (y : Node) → p < length nodes → y ≡ get_or nodes p y → link_at (links_of nodes) p ≡ y.links
 link_at-node nodes p y there read = get_or-map (λ (node : Node). node.links) nodes p y no_links there ∙ ap (λ (node : Node). node.links) (sym read)
 
--- a write of what a node is
-pub abouts_of-set : (nodes : List Node) (p : ℕ) (x : Node) (shown : tree.NodeData) (contents : Option ℕ) → data_view x.about ≡ shown → contents_in x.about ≡ contents → abouts_of (set nodes p x) ≡ set (abouts_of nodes) p (shown, contents)
-abouts_of-set nodes p x shown contents is same =
-    map-set (λ (node : Node). about_of node.about) nodes p x ∙ ap (set (abouts_of nodes) p) (rw (is, same) refl)
+-- what it is
+pub about_at-node : (store : Store) (nodes : List Node) (p : ℕ) (y : Node) → p < length nodes → y ≡ get_or nodes p y → about_at (abouts_of store nodes) p ≡ data_in store y.entry
+about_at-node store nodes p y there read =
+    get_or-map (data_in store) (entries_of nodes) p Document tree.NodeData.Document (let l = length-map nodes (λ (node : Node). node.entry) in omega (arith, l)) ∙ ap (data_in store) (entry_at-node nodes p y there read)

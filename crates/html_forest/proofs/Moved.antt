@@ -1,13 +1,13 @@
 -- What nodes keep of their neighbours, when the children of one node move behind those of another one.
 use Rattle.std.proofs.Common.{◌≡◌, ◌≢◌, ◌==◌, ◌&&◌, ◌<◌, ℕ, List, [], ◌∷◌, ◌++◌, Option, Some, None, true, false, cond, is_none, length, sym, ap, ◌∙◌, refl, inl, inr, append-nil}
 use Rattle.std.proofs.lemmas.Bool.{cases_eq, cases_Bool, eq-eqb, ne_eqb}
-use Rattle.markup.specs.Forest.{Above, Forest, IsForest, IsParent, children_of, is_among, last_of, node_count, parent_of, reparent_children}
+use Rattle.markup.specs.Forest.{Above, Forest, IsForest, IsParent, NodeData, children_of, is_among, last_of, node_count, parent_of, reparent_children}
 use Rattle.markup.proofs.Parents.{is_among-parent}
 use Rattle.markup.proofs.Reparented.{IsReparented, IsReparented-reparent_children}
 use Rattle.markup.proofs.TemplateContents.{HasContents-same_data}
 use Rattle.html_forest.specs.Links.{Links, after_in, before_in, first_of, is_it, link_at, links_at, moved_behind, next_under, previous_under}
-use Rattle.html_forest.specs.Views.{About, IsKept}
-use Rattle.html_forest.proofs.Kept.{about_in-same, links_at-same}
+use Rattle.html_forest.specs.Views.{IsKept}
+use Rattle.html_forest.proofs.Kept.{links_at-same}
 use Rattle.html_forest.proofs.Linked.{first-behind, last_of-behind, same-links}
 use Rattle.html_forest.proofs.Neighbours.{absent-not_first, absent-not_last, after-left, after-right, before-first, before-left, before-right, last_from, last_from-none}
 
@@ -137,14 +137,14 @@ moved-links f g from to is moved apart n = by (children_of f from) refl where
   by [] e = nothing-moved f g from to is moved apart e n
   by (head ∷ rest) e = some-moved f g from to is moved apart head rest e n
 
-pub IsKept-reparented : (f : Forest) (ss : List About) (ls new : List Links) (from to : ℕ) → IsKept f ss ls → from < node_count f → IsParent f to → ((c : ℕ) → is_among c (children_of f from) ≡ true → Above f c to → ⊥) → from ≢ to → length new ≡ length ls
+pub IsKept-reparented : (f : Forest) (ss : List NodeData) (ls new : List Links) (from to : ℕ) → IsKept f ss ls → from < node_count f → IsParent f to → ((c : ℕ) → is_among c (children_of f from) ≡ true → Above f c to → ⊥) → from ≢ to → length new ≡ length ls
     → ((n : ℕ) → link_at new n ≡ moved_behind from to (link_at ls to).last (link_at ls from).first (link_at ls from).last (children_of f from) n (link_at ls n)) → IsKept (reparent_children f from to) ss new
 IsKept-reparented f ss ls new from to k there at loose apart long links = record {
   is_forest = moved.is;
   has_contents = HasContents-same_data f (reparent_children f from to) k.has_contents moved.same_data;
   count_abouts = k.count_abouts ∙ sym moved.count;
   count_links = long ∙ (k.count_links ∙ sym moved.count);
-  is_about = λ n. k.is_about n ∙ sym (about_in-same f (reparent_children f from to) n (moved.same_data n));
+  is_about = λ n. k.is_about n ∙ sym (moved.same_data n);
   is_linked = λ n. links n ∙ (rw (k.is_linked n, k.is_linked to, k.is_linked from) (moved-links f (reparent_children f from to) from to k.is_forest moved apart n));
 }
   where

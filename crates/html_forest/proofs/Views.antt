@@ -5,7 +5,7 @@ use Rattle.markup.specs.Forest as tree
 use Rattle.markup.specs.Forest.{Forest, IsDistinct, IsForest, children_of, is_among, no_node, node_count, without}
 use Rattle.markup.proofs.Children.{IsDistinct-without, is_among-append_right, is_among-without_same, is_among-without_other, without-absent}
 use Rattle.html_forest.specs.Links.{Follows, Links, after_in, first_of, link_at, links_at, next_under}
-use Rattle.html_forest.specs.Views.{About, IsKept, about_at, following, forest_of, nodes_from}
+use Rattle.html_forest.specs.Views.{IsHeld, IsKept, about_at, following, forest_of, nodes_from}
 use Rattle.html_forest.proofs.Neighbours.{after-here}
 
 -- distinct numbers below a bound are no more than the bound
@@ -78,8 +78,8 @@ children-shown f ls is count linked p =
     (subst (λ (o : Option ℕ). Follows ls o (children_of f p)) (sym (ap (λ (l : Links). l.first) (linked p))) (children-follow f ls is count linked p [] (children_of f p) refl))
 
 -- lists of nodes are equal where each is
-nodes_from-is : (all : List Links) (abouts : List About) (ls : List Links) (nodes : List tree.Node) → length abouts ≡ length nodes → length ls ≡ length nodes
-    → ((n : ℕ) → (about_at abouts n).0 ≡ (get_or nodes n no_node).about) → ((n : ℕ) → n < length nodes → following (length all) all (link_at ls n).first ≡ (get_or nodes n no_node).children)
+nodes_from-is : (all : List Links) (abouts : List tree.NodeData) (ls : List Links) (nodes : List tree.Node) → length abouts ≡ length nodes → length ls ≡ length nodes
+    → ((n : ℕ) → about_at abouts n ≡ (get_or nodes n no_node).about) → ((n : ℕ) → n < length nodes → following (length all) all (link_at ls n).first ≡ (get_or nodes n no_node).children)
     → nodes_from all abouts ls ≡ nodes
 nodes_from-is all [] [] [] count count' same lists = refl
 nodes_from-is all [] [] (node ∷ nodes) count count' same lists = absurd (omega (arith, count))
@@ -92,21 +92,21 @@ nodes_from-is all (a ∷ abouts) (l ∷ ls) (node ∷ nodes) count count' same l
     (nodes_from-is all abouts ls nodes (omega (arith, count)) (omega (arith, count')) (λ n. same (suc n)) (λ n less. lists (suc n) (omega arith)))
 
 -- nodes that keep what they have in a forest are seen as its nodes
-pub nodes-kept : (f : Forest) (abouts : List About) (ls : List Links) → IsKept f abouts ls → nodes_from ls abouts ls ≡ f.nodes
+pub nodes-kept : (f : Forest) (abouts : List tree.NodeData) (ls : List Links) → IsKept f abouts ls → nodes_from ls abouts ls ≡ f.nodes
 nodes-kept f abouts ls k =
     nodes_from-is ls abouts ls f.nodes k.count_abouts k.count_links
-    (λ n. ap (λ (a : About). a.0) (k.is_about n))
+    k.is_about
     (λ n less. children-shown f ls k.is_forest k.count_links k.is_linked n)
 
 -- so they are seen as the forest, and what is kept of it is kept of what is seen
-pub shown : (f : Forest) (abouts : List About) (ls : List Links) → IsKept f abouts ls → forest_of abouts ls f.quirks f.errors ≡ f
+pub shown : (f : Forest) (abouts : List tree.NodeData) (ls : List Links) → IsKept f abouts ls → forest_of abouts ls f.quirks f.errors ≡ f
 shown f abouts ls k = ap (λ (nodes : List tree.Node). record { nodes = nodes; quirks = f.quirks; errors = f.errors }) (nodes-kept f abouts ls k)
 
-pub IsKept-shown : (f : Forest) (abouts : List About) (ls : List Links) → IsKept f abouts ls → IsKept (forest_of abouts ls f.quirks f.errors) abouts ls
+pub IsKept-shown : (f : Forest) (abouts : List tree.NodeData) (ls : List Links) → IsKept f abouts ls → IsKept (forest_of abouts ls f.quirks f.errors) abouts ls
 IsKept-shown f abouts ls k = subst (λ (g : Forest). IsKept g abouts ls) (sym (shown f abouts ls k)) k
 
 -- the children of a node come to an end, and are those that the forest has
-pub follow-children : (f : Forest) (abouts : List About) (ls : List Links) → IsKept f abouts ls → (n : ℕ) → Follows ls (link_at ls n).first (following (length ls) ls (link_at ls n).first)
+pub follow-children : (f : Forest) (abouts : List tree.NodeData) (ls : List Links) → IsKept f abouts ls → (n : ℕ) → Follows ls (link_at ls n).first (following (length ls) ls (link_at ls n).first)
 follow-children f abouts ls k n =
     let all = children-shown f ls k.is_forest k.count_links k.is_linked n in
     subst (λ (ns : List ℕ). Follows ls (link_at ls n).first ns) (sym all)

@@ -4,11 +4,12 @@ ghost use Rattle.markup.specs.declared.fault.ParseFault.TheVariants.{Memory};
 ghost use Rattle.html_forest.specs.Views.{contents_in, data_view, joined_if, place_view};
 
 use crate::children::Children;
+use crate::data::{add_attributes, join_text};
+use crate::entry::Entry;
 use crate::node::{Node, NodeData, NodeId, Place};
-use crate::nodes::{
-    add_attributes, add_node, join_text, link_between, links, move_children, unlink,
-};
+use crate::nodes::{add_node, link_between, links, move_children, unlink};
 use crate::plain;
+use crate::store::Store;
 use markup::{
     Attribute, Attributes, ElementFlags, NodeOrText, ParseFault, QualName, QuirksMode, Text,
     TreeSink,
@@ -17,34 +18,32 @@ use std::alloc::Global;
 use std::borrow::CowStr;
 use std::marker::Model;
 
-// So many attributes are found without an index.
-const FEW: usize = 16;
-
 /// A forest: the document, and what was put under it or made beside it. A contract sees the data and the children of each node, the quirks mode and the number of errors.
 #[derive(Debug, Drop)]
 pub struct Forest {
     alloc: Global,
     nodes: Vec<Node>,
+    store: Store,
     quirks: QuirksMode,
     errors: u64,
 }
 
 impl Model for Forest {
     ghost use Rattle.markup.specs.Forest.{Forest};
-    ghost use Rattle.html_forest.specs.Views.{IsKept, abouts_of, forest_view, links_of};
+    ghost use Rattle.html_forest.specs.Views.{IsHeld, entries_of, forest_view, links_of};
 
     ghost Value = { Forest };
 
-    ghost view = { λ a. forest_view a.nodes.items a.quirks a.errors };
+    ghost view = { λ a. forest_view a.store a.nodes.items a.quirks a.errors };
 
-    ghost invariant = { λ a. IsKept (forest_view a.nodes.items a.quirks a.errors) (abouts_of a.nodes.items) (links_of a.nodes.items) };
+    ghost invariant = { λ a. IsHeld (forest_view a.store a.nodes.items a.quirks a.errors) a.store (entries_of a.nodes.items) (links_of a.nodes.items) };
 }
 
 impl Forest {
     ghost use Rattle.markup.specs.Names.{is_html_name};
     ghost use Rattle.html_plain.specs.Grammar.{is_plain_forest};
     ghost use Rattle.markup.specs.Named.{HasContents, IsOrdinary};
-    ghost use Rattle.markup.specs.Forest.NodeData.{Contents, Element, Text as TextNode};
+    ghost use Rattle.markup.specs.Forest.NodeData.{Contents, Doctype, Element, Text as TextNode};
     ghost use Rattle.html_forest.specs.Links.{first_of, next_under, previous_under};
     ghost use Rattle.markup.specs.Forest.{IsForest, IsLoose, IsPlace, MayPut, children_of, contents_of, data_if, data_of, empty_forest, last_of, node_count, parent_at, parent_of, place_before, place_near, previous_at, put, put_child, put_new, put_text, text_of, with_node};
 
@@ -55,10 +54,12 @@ impl Forest {
     {
         let mut nodes = Vec::new(alloc);
         nodes.reserve(1)?;
-        add_node(&mut nodes, NodeData::Document);
+        let store = Store::new(alloc)?;
+        add_node(&mut nodes, Entry::Document);
         Ok(Forest {
             alloc,
             nodes,
+            store,
             quirks: QuirksMode::NoQuirks,
             errors: 0,
         })
@@ -72,13 +73,13 @@ impl Forest {
     }
 
     /// What a node is; nothing where the number names no node.
-    pub fn node(&self, id: NodeId) -> Option<&NodeData>
+    pub fn node(&self, id: NodeId) -> Option<NodeData<'_>>
         ensures there { is_some result ≡ nat_lt id (node_count self.now) }
-        ensures about { IfSome result (λ about. data_view about.now ≡ data_of self.now id) }
-        ensures contents { IfSome result (λ about. contents_in about.now ≡ contents_of self.now id) }
+        ensures about { IfSome result (λ about. data_view about ≡ data_of self.now id) }
+        ensures contents { IfSome result (λ about. contents_in about ≡ contents_of self.now id) }
     {
         match self.nodes.get(id.number()) {
-            Some(node) => Some(&node.about),
+            Some(node) => Some(self.store.data(&node.entry, id)),
             None => None,
         }
     }
@@ -148,13 +149,13 @@ impl Forest {
         ensures { result ≡ contents_of self.now id }
     {
         match self.nodes.get(id.number()) {
-            Some(node) => match &node.about {
-                NodeData::Element {
-                    template_contents,
-                    ..
-                } => *template_contents,
-                _ => None,
-            },
+            Some(node) => {
+                if node.entry.is_template() {
+                    Some(NodeId::new(id.number() + 1))
+                } else {
+                    None
+                }
+            }
             None => None,
         }
     }
@@ -192,49 +193,27 @@ impl Forest {
         plain::is_plain(self, self.alloc, NodeId::new(0))
     }
 
-    /// Makes a node that is no template.
-    fn create(&mut self, about: NodeData) -> Result<NodeId, ParseFault>
-        requires ordinary { IsOrdinary (data_view about) }
-        requires no_contents { contents_in about ≡ None }
-        ensures named { IfOk result (λ made. made ≡ node_count self.old) }
-        ensures ok { OnOk result (self.new ≡ with_node self.old (data_view about)) }
-        ensures err { OnErr result (self.new ≡ self.old) }
-        ensures fault { IfErr result (λ fault. fault ≡ Memory) }
-    {
-        let made = NodeId::new(self.nodes.len());
-        self.nodes.reserve(1)?;
-        add_node(&mut self.nodes, about);
-        Ok(made)
-    }
-
-    /// Makes an element that is no template. Its room is made before the node, so that the node is written where it stays.
+    /// Makes an element that is no template.
     fn create_ordinary(
         &mut self,
         name: QualName,
         attrs: Attributes,
-        integration_point: bool,
+        flags: ElementFlags,
     ) -> Result<NodeId, ParseFault>
-        requires { IsOrdinary (Element name attrs false integration_point) }
+        requires { IsOrdinary (Element name attrs flags.template flags.mathml_annotation_xml_integration_point) }
         ensures named { IfOk result (λ made. made ≡ node_count self.old) }
-        ensures ok { OnOk result (self.new ≡ with_node self.old (Element name attrs false integration_point)) }
+        ensures ok { OnOk result (self.new ≡ with_node self.old (Element name attrs flags.template flags.mathml_annotation_xml_integration_point)) }
         ensures err { OnErr result (self.new ≡ self.old) }
         ensures fault { IfErr result (λ fault. fault ≡ Memory) }
     {
         let made = NodeId::new(self.nodes.len());
         self.nodes.reserve(1)?;
-        add_node(
-            &mut self.nodes,
-            NodeData::Element {
-                name,
-                attrs,
-                template_contents: None,
-                integration_point,
-            },
-        );
+        let entry = self.store.element(name, attrs, flags)?;
+        add_node(&mut self.nodes, entry);
         Ok(made)
     }
 
-    /// Makes a text node, as `create_ordinary` makes an element.
+    /// Makes a text node.
     fn create_text(&mut self, text: Text) -> Result<NodeId, ParseFault>
         ensures named { IfOk result (λ made. made ≡ node_count self.old) }
         ensures ok { OnOk result (self.new ≡ with_node self.old (TextNode text)) }
@@ -243,7 +222,27 @@ impl Forest {
     {
         let made = NodeId::new(self.nodes.len());
         self.nodes.reserve(1)?;
-        add_node(&mut self.nodes, NodeData::Text(text));
+        let entry = self.store.text(text)?;
+        add_node(&mut self.nodes, entry);
+        Ok(made)
+    }
+
+    /// Makes a doctype.
+    fn create_doctype(
+        &mut self,
+        name: Text,
+        public_id: Text,
+        system_id: Text,
+    ) -> Result<NodeId, ParseFault>
+        ensures named { IfOk result (λ made. made ≡ node_count self.old) }
+        ensures ok { OnOk result (self.new ≡ with_node self.old (Doctype name public_id system_id)) }
+        ensures err { OnErr result (self.new ≡ self.old) }
+        ensures fault { IfErr result (λ fault. fault ≡ Memory) }
+    {
+        let made = NodeId::new(self.nodes.len());
+        self.nodes.reserve(1)?;
+        let entry = self.store.doctype(name, public_id, system_id)?;
+        add_node(&mut self.nodes, entry);
         Ok(made)
     }
 
@@ -252,28 +251,21 @@ impl Forest {
         &mut self,
         name: QualName,
         attrs: Attributes,
-        integration_point: bool,
+        flags: ElementFlags,
     ) -> Result<NodeId, ParseFault>
-        requires { is_html_name (Some name) (codes "template") ≡ true }
+        requires named { is_html_name (Some name) (codes "template") ≡ true }
+        requires template { flags.template ≡ true }
         ensures named { IfOk result (λ made. made ≡ node_count self.old) }
-        ensures ok { OnOk result (self.new ≡ with_node (with_node self.old (Element name attrs true integration_point)) Contents) }
+        ensures ok { OnOk result (self.new ≡ with_node (with_node self.old (Element name attrs flags.template flags.mathml_annotation_xml_integration_point)) Contents) }
         ensures err { OnErr result (self.new ≡ self.old) }
         ensures fault { IfErr result (λ fault. fault ≡ Memory) }
     {
+        let made = NodeId::new(self.nodes.len());
         self.nodes.reserve(2)?;
-        let made = self.nodes.len();
-        let template_contents = Some(NodeId::new(made + 1));
-        add_node(
-            &mut self.nodes,
-            NodeData::Element {
-                name,
-                attrs,
-                template_contents,
-                integration_point,
-            },
-        );
-        add_node(&mut self.nodes, NodeData::Contents);
-        Ok(NodeId::new(made))
+        let entry = self.store.element(name, attrs, flags)?;
+        add_node(&mut self.nodes, entry);
+        add_node(&mut self.nodes, Entry::Contents);
+        Ok(made)
     }
 
     /// Just before a node that has a parent.
@@ -318,21 +310,6 @@ impl Forest {
         link_between(&mut self.nodes, parent, previous, next, child);
     }
 
-    /// Makes a node that is no template, at a place.
-    fn put_new(&mut self, place: &Place, about: NodeData) -> Result<(), ParseFault>
-        requires place { IsPlace self.old (place_view place.now) }
-        requires ordinary { IsOrdinary (data_view about) }
-        requires no_contents { contents_in about ≡ None }
-        ensures ok { OnOk result (self.new ≡ put_new self.old (place_view place.now) (data_view about)) }
-        ensures err { OnErr result (self.new ≡ self.old) }
-        ensures fault { IfErr result (λ fault. fault ≡ Memory) }
-    {
-        let _nodes = &self.nodes;
-        let made = self.create(about)?;
-        self.put(place, made);
-        Ok(())
-    }
-
     /// Makes a text node at a place.
     fn put_new_text(&mut self, place: &Place, text: Text) -> Result<(), ParseFault>
         requires { IsPlace self.old (place_view place.now) }
@@ -355,7 +332,7 @@ impl Forest {
         ensures fault { IfErr result (λ fault. fault ≡ Memory) }
     {
         match self.previous_at(place) {
-            Some(previous) => join_text(&mut self.nodes, previous, text),
+            Some(previous) => join_text(&mut self.nodes, &mut self.store, previous, text),
             None => Ok(false),
         }
     }
@@ -395,19 +372,6 @@ impl Forest {
     }
 }
 
-// Attributes of a new element, without room for more: of most elements none is added later. Many keep their room, and with it what
-// finds them by name.
-fn fitted(attributes: Attributes) -> Attributes
-    ensures { result ≡ attributes }
-{
-    if attributes.len() > FEW {
-        return attributes;
-    }
-    let mut list = attributes.into_vec();
-    list.shrink_to_fit();
-    Attributes::from_vec(list)
-}
-
 impl TreeSink for Forest {
     ghost use Rattle.std.specs.Prelude.{ℕ};
     ghost use Rattle.markup.specs.Forest.{IsNode, IsParent, MayPut, data_of, integration_point_of, node_count, parent_of, place_before, place_near, put_child};
@@ -440,8 +404,9 @@ impl TreeSink for Forest {
     }
 
     fn elem_name(&self, target: &NodeId) -> &QualName {
-        match &self.nodes[target.number()].about {
-            NodeData::Element { name, .. } => name,
+        match &self.nodes[target.number()].entry {
+            Entry::Element { name, .. } => self.store.name(*name),
+            Entry::OwnElement { element, .. } => &element.name,
             _ => unreachable!(),
         }
     }
@@ -464,21 +429,27 @@ impl TreeSink for Forest {
         attributes: Attributes,
         flags: ElementFlags,
     ) -> Result<NodeId, ParseFault> {
-        let integration_point = flags.mathml_annotation_xml_integration_point;
-        let attrs = fitted(attributes);
         if flags.template {
-            self.create_template(name, attrs, integration_point)
+            self.create_template(name, attributes, flags)
         } else {
-            self.create_ordinary(name, attrs, integration_point)
+            self.create_ordinary(name, attributes, flags)
         }
     }
 
     fn create_comment(&mut self, text: Text) -> Result<NodeId, ParseFault> {
-        self.create(NodeData::Comment(text))
+        let made = NodeId::new(self.nodes.len());
+        self.nodes.reserve(1)?;
+        let entry = self.store.comment(text)?;
+        add_node(&mut self.nodes, entry);
+        Ok(made)
     }
 
     fn create_pi(&mut self, target: Text, text: Text) -> Result<NodeId, ParseFault> {
-        self.create(NodeData::ProcessingInstruction { target, text })
+        let made = NodeId::new(self.nodes.len());
+        self.nodes.reserve(1)?;
+        let entry = self.store.instruction(target, text)?;
+        add_node(&mut self.nodes, entry);
+        Ok(made)
     }
 
     fn append(&mut self, parent: &NodeId, child: NodeOrText<NodeId>) -> Result<(), ParseFault>
@@ -533,14 +504,9 @@ impl TreeSink for Forest {
         system_id: Text,
     ) -> Result<(), ParseFault> {
         let document = self.get_document();
-        self.put_new(
-            &Place::Last(document),
-            NodeData::Doctype {
-                name,
-                public_id,
-                system_id,
-            },
-        )
+        let made = self.create_doctype(name, public_id, system_id)?;
+        self.put(&Place::Last(document), made);
+        Ok(())
     }
 
     fn set_quirks_mode(&mut self, mode: QuirksMode) {
@@ -552,7 +518,7 @@ impl TreeSink for Forest {
         target: &NodeId,
         attributes: Attributes,
     ) -> Result<(), ParseFault> {
-        add_attributes(&mut self.nodes, *target, attributes)
+        add_attributes(&mut self.nodes, &self.store, *target, attributes)
     }
 
     fn remove_from_parent(&mut self, target: &NodeId) {
@@ -569,13 +535,7 @@ impl TreeSink for Forest {
     }
 
     fn is_mathml_annotation_xml_integration_point(&self, target: &NodeId) -> bool {
-        match &self.nodes[target.number()].about {
-            NodeData::Element {
-                integration_point,
-                ..
-            } => *integration_point,
-            _ => false,
-        }
+        self.nodes[target.number()].entry.may_hold_html()
     }
 
     fn allow_declarative_shadow_roots(&self, _intended_parent: &NodeId) -> bool {

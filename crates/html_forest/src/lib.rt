@@ -2,16 +2,20 @@
 #![tactic(auto)]
 
 mod children;
+mod data;
+mod entry;
 mod forest;
 mod link;
+mod names;
 mod node;
 mod nodes;
 mod plain;
+mod store;
 mod walk;
 
 pub use children::Children;
 pub use forest::Forest;
-pub use node::{NodeData, NodeId};
+pub use node::{AttributesRef, NodeData, NodeId, TextRef};
 pub use walk::ForestNode;
 
 #[cfg(test)]

@@ -1,26 +1,24 @@
 //! Changes of the nodes, one at a time. They know nothing of what makes a forest.
-ghost use Rattle.std.specs.Prelude.{◌≡◌, ◌+◌, ◌<◌, ℕ, ◌∷◌, ◌++◌, [], Some, None, OnOk, OnErr, IfOk, IfErr, IfSome, is_some, slice_set, vec_len};
+ghost use Rattle.std.specs.Prelude.{◌≡◌, ◌+◌, ◌<◌, ℕ, ◌∷◌, ◌++◌, [], Some, None, IfSome, slice_set, vec_len};
 ghost use Rattle.std.specs.Vec.{vec_capacity};
-ghost use Rattle.markup.specs.declared.fault.ParseFault.TheVariants.{Memory};
-ghost use Rattle.markup.specs.Forest.{text_of, with_attributes};
 ghost use Rattle.html_forest.specs.Links.{adopted, before_set, behind_set, emptied, ended_by, led_by, link_at, moved_behind, moved_to, no_links, placed, unplaced};
-ghost use Rattle.html_forest.specs.Views.{about_at, about_of, about_with, abouts_of, joined_abouts, links_of, walk_from, IsWalk};
+ghost use Rattle.html_forest.specs.Views.{entries_of, links_of, walk_from, IsWalk};
 
+use crate::entry::Entry;
 use crate::link::{Link, Links};
-use crate::node::{Node, NodeData, NodeId};
-use markup::{Attributes, ParseFault, Text};
+use crate::node::{Node, NodeId};
 use std::alloc::Global;
 
 /// Adds a node that stands nowhere.
-pub fn add_node(nodes: &mut Vec<Node>, about: NodeData)
+pub fn add_node(nodes: &mut Vec<Node>, entry: Entry)
     requires { vec_len nodes.old < vec_capacity nodes.old }
-    ensures abouts { abouts_of nodes.new.items ≡ abouts_of nodes.old.items ++ about_of about ∷ [] }
+    ensures entries { entries_of nodes.new.items ≡ entries_of nodes.old.items ++ entry ∷ [] }
     ensures links { links_of nodes.new.items ≡ links_of nodes.old.items ++ no_links ∷ [] }
     ensures len { vec_len nodes.new ≡ vec_len nodes.old + 1 }
     ensures capacity { vec_capacity nodes.new ≡ vec_capacity nodes.old }
 {
     nodes.push_reserved(Node {
-        about,
+        entry,
         links: Links {
             parent: Link::none(),
             previous: Link::none(),
@@ -42,7 +40,7 @@ pub fn links(nodes: &Vec<Node>, at: NodeId) -> Links
 /// Gives a node other neighbours.
 fn set_links(nodes: &mut Vec<Node>, at: NodeId, links: Links)
     requires { at < vec_len nodes.old }
-    ensures abouts { abouts_of nodes.new.items ≡ abouts_of nodes.old.items }
+    ensures entries { entries_of nodes.new.items ≡ entries_of nodes.old.items }
     ensures links { links_of nodes.new.items ≡ slice_set (links_of nodes.old.items) at links }
     ensures len { vec_len nodes.new ≡ vec_len nodes.old }
 {
@@ -53,7 +51,7 @@ fn set_links(nodes: &mut Vec<Node>, at: NodeId, links: Links)
 fn set_behind(nodes: &mut Vec<Node>, parent: NodeId, previous: Option<NodeId>, to: Link)
     requires parent { parent < vec_len nodes.old }
     requires previous { IfSome previous (λ id. id < vec_len nodes.old) }
-    ensures abouts { abouts_of nodes.new.items ≡ abouts_of nodes.old.items }
+    ensures entries { entries_of nodes.new.items ≡ entries_of nodes.old.items }
     ensures links { (n : ℕ) → link_at (links_of nodes.new.items) n ≡ behind_set parent previous to n (link_at (links_of nodes.old.items) n) }
     ensures len { vec_len nodes.new ≡ vec_len nodes.old }
 {
@@ -75,7 +73,7 @@ fn set_behind(nodes: &mut Vec<Node>, parent: NodeId, previous: Option<NodeId>, t
 fn set_before(nodes: &mut Vec<Node>, parent: NodeId, next: Option<NodeId>, to: Link)
     requires parent { parent < vec_len nodes.old }
     requires next { IfSome next (λ id. id < vec_len nodes.old) }
-    ensures abouts { abouts_of nodes.new.items ≡ abouts_of nodes.old.items }
+    ensures entries { entries_of nodes.new.items ≡ entries_of nodes.old.items }
     ensures links { (n : ℕ) → link_at (links_of nodes.new.items) n ≡ before_set parent next to n (link_at (links_of nodes.old.items) n) }
     ensures len { vec_len nodes.new ≡ vec_len nodes.old }
 {
@@ -96,7 +94,7 @@ fn set_before(nodes: &mut Vec<Node>, parent: NodeId, next: Option<NodeId>, to: L
 /// Notes under which parent a node stands, and between which neighbours.
 fn set_place(nodes: &mut Vec<Node>, child: NodeId, parent: Link, previous: Link, next: Link)
     requires { child < vec_len nodes.old }
-    ensures abouts { abouts_of nodes.new.items ≡ abouts_of nodes.old.items }
+    ensures entries { entries_of nodes.new.items ≡ entries_of nodes.old.items }
     ensures links { (n : ℕ) → link_at (links_of nodes.new.items) n ≡ moved_to child parent previous next n (link_at (links_of nodes.old.items) n) }
     ensures len { vec_len nodes.new ≡ vec_len nodes.old }
 {
@@ -119,7 +117,7 @@ pub fn link_between(
     requires previous { IfSome previous (λ id. id < vec_len nodes.old) }
     requires next { IfSome next (λ id. id < vec_len nodes.old) }
     requires child { child < vec_len nodes.old }
-    ensures abouts { abouts_of nodes.new.items ≡ abouts_of nodes.old.items }
+    ensures entries { entries_of nodes.new.items ≡ entries_of nodes.old.items }
     ensures links { (n : ℕ) → link_at (links_of nodes.new.items) n ≡ placed parent previous next child n (link_at (links_of nodes.old.items) n) }
     ensures len { vec_len nodes.new ≡ vec_len nodes.old }
 {
@@ -137,7 +135,7 @@ pub fn unlink(nodes: &mut Vec<Node>, parent: NodeId, child: NodeId)
     requires child { child < vec_len nodes.old }
     requires previous { IfSome (link_at (links_of nodes.old.items) child).previous (λ id. id < vec_len nodes.old) }
     requires next { IfSome (link_at (links_of nodes.old.items) child).next (λ id. id < vec_len nodes.old) }
-    ensures abouts { abouts_of nodes.new.items ≡ abouts_of nodes.old.items }
+    ensures entries { entries_of nodes.new.items ≡ entries_of nodes.old.items }
     ensures links { (n : ℕ) → link_at (links_of nodes.new.items) n ≡ unplaced parent (link_at (links_of nodes.old.items) child).previous (link_at (links_of nodes.old.items) child).next child n (link_at (links_of nodes.old.items) n) }
     ensures len { vec_len nodes.new ≡ vec_len nodes.old }
 {
@@ -151,7 +149,7 @@ pub fn unlink(nodes: &mut Vec<Node>, parent: NodeId, child: NodeId)
 fn adopt(nodes: &mut Vec<Node>, first: Option<NodeId>, parent: NodeId)
     requires first { IsWalk nodes.old.items first }
     requires parent { parent < vec_len nodes.old }
-    ensures abouts { abouts_of nodes.new.items ≡ abouts_of nodes.old.items }
+    ensures entries { entries_of nodes.new.items ≡ entries_of nodes.old.items }
     ensures links { (n : ℕ) → link_at (links_of nodes.new.items) n ≡ adopted parent (walk_from nodes.old.items first) n (link_at (links_of nodes.old.items) n) }
     ensures len { vec_len nodes.new ≡ vec_len nodes.old }
 {
@@ -164,53 +162,10 @@ fn adopt(nodes: &mut Vec<Node>, first: Option<NodeId>, parent: NodeId)
     }
 }
 
-/// Adds text at the end of a text node, and says whether it is one.
-pub fn join_text(nodes: &mut Vec<Node>, at: NodeId, more: &Text) -> Result<bool, ParseFault>
-    requires { at < vec_len nodes.old }
-    ensures joined { IfOk result (λ joined. joined ≡ is_some (text_of (about_at (abouts_of nodes.old.items) at).0)) }
-    ensures ok { OnOk result (abouts_of nodes.new.items ≡ joined_abouts (abouts_of nodes.old.items) at more.now (text_of (about_at (abouts_of nodes.old.items) at).0)) }
-    ensures err { OnErr result (abouts_of nodes.new.items ≡ abouts_of nodes.old.items) }
-    ensures fault { IfErr result (λ fault. fault ≡ Memory) }
-    ensures links { links_of nodes.new.items ≡ links_of nodes.old.items }
-    ensures len { vec_len nodes.new ≡ vec_len nodes.old }
-{
-    let node = &mut nodes[at.number()];
-    match &mut node.about {
-        NodeData::Text(text) => {
-            text.append(more)?;
-            Ok(true)
-        }
-        _ => Ok(false),
-    }
-}
-
-/// Gives an element, in order, those of the attributes whose name it lacks.
-pub fn add_attributes(
-    nodes: &mut Vec<Node>,
-    at: NodeId,
-    others: Attributes,
-) -> Result<(), ParseFault>
-    requires { at < vec_len nodes.old }
-    ensures ok { OnOk result (abouts_of nodes.new.items ≡ about_with (abouts_of nodes.old.items) at (with_attributes (about_at (abouts_of nodes.old.items) at).0 others)) }
-    ensures err { OnErr result (abouts_of nodes.new.items ≡ abouts_of nodes.old.items) }
-    ensures fault { IfErr result (λ fault. fault ≡ Memory) }
-    ensures links { links_of nodes.new.items ≡ links_of nodes.old.items }
-    ensures len { vec_len nodes.new ≡ vec_len nodes.old }
-{
-    let node = &mut nodes[at.number()];
-    match &mut node.about {
-        NodeData::Element { attrs, .. } => {
-            attrs.add_missing(others)?;
-            Ok(())
-        }
-        _ => Ok(()),
-    }
-}
-
 /// Notes that a node has no children.
 fn set_childless(nodes: &mut Vec<Node>, parent: NodeId)
     requires { parent < vec_len nodes.old }
-    ensures abouts { abouts_of nodes.new.items ≡ abouts_of nodes.old.items }
+    ensures entries { entries_of nodes.new.items ≡ entries_of nodes.old.items }
     ensures links { (n : ℕ) → link_at (links_of nodes.new.items) n ≡ emptied parent n (link_at (links_of nodes.old.items) n) }
     ensures len { vec_len nodes.new ≡ vec_len nodes.old }
 {
@@ -223,7 +178,7 @@ fn set_childless(nodes: &mut Vec<Node>, parent: NodeId)
 /// Notes which child of a node is its last.
 fn set_last(nodes: &mut Vec<Node>, parent: NodeId, last: Link)
     requires { parent < vec_len nodes.old }
-    ensures abouts { abouts_of nodes.new.items ≡ abouts_of nodes.old.items }
+    ensures entries { entries_of nodes.new.items ≡ entries_of nodes.old.items }
     ensures links { (n : ℕ) → link_at (links_of nodes.new.items) n ≡ ended_by parent last n (link_at (links_of nodes.old.items) n) }
     ensures len { vec_len nodes.new ≡ vec_len nodes.old }
 {
@@ -235,7 +190,7 @@ fn set_last(nodes: &mut Vec<Node>, parent: NodeId, last: Link)
 /// Notes what stands before a node.
 fn set_previous(nodes: &mut Vec<Node>, child: NodeId, previous: Link)
     requires { child < vec_len nodes.old }
-    ensures abouts { abouts_of nodes.new.items ≡ abouts_of nodes.old.items }
+    ensures entries { entries_of nodes.new.items ≡ entries_of nodes.old.items }
     ensures links { (n : ℕ) → link_at (links_of nodes.new.items) n ≡ led_by child previous n (link_at (links_of nodes.old.items) n) }
     ensures len { vec_len nodes.new ≡ vec_len nodes.old }
 {
@@ -251,7 +206,7 @@ pub fn move_children(nodes: &mut Vec<Node>, from: NodeId, to: NodeId)
     requires walk { IsWalk nodes.old.items (link_at (links_of nodes.old.items) from).first }
     requires first { IfSome (link_at (links_of nodes.old.items) from).first (λ id. id < vec_len nodes.old) }
     requires tail { IfSome (link_at (links_of nodes.old.items) to).last (λ id. id < vec_len nodes.old) }
-    ensures abouts { abouts_of nodes.new.items ≡ abouts_of nodes.old.items }
+    ensures entries { entries_of nodes.new.items ≡ entries_of nodes.old.items }
     ensures links { (n : ℕ) → link_at (links_of nodes.new.items) n ≡ moved_behind from to (link_at (links_of nodes.old.items) to).last (link_at (links_of nodes.old.items) from).first (link_at (links_of nodes.old.items) from).last (walk_from nodes.old.items (link_at (links_of nodes.old.items) from).first) n (link_at (links_of nodes.old.items) n) }
     ensures len { vec_len nodes.new ≡ vec_len nodes.old }
 {

@@ -4,15 +4,16 @@ ghost use Rattle.markup.specs.Forest.{children_of};
 ghost use Rattle.markup.specs.Named.{IsTree};
 ghost use Rattle.markup.specs.declared.fault.ParseFault.TheVariants.{Memory};
 ghost use Rattle.html_plain.specs.Grammar.{is_plain_forest, is_plain_start};
+ghost use Rattle.html_forest.specs.Views.{attributes, characters};
 ghost use Rattle.html_forest.specs.Judging.{AreChildrenTaken, GoesOn, IsAround, IsAscent, IsBehindComment, IsBehindDoctype, IsBehindText, IsElementTaken, IsTaken, around_of, opens_here, takes_comment_here, takes_here};
 
 use crate::children::Children;
 use crate::forest::Forest;
-use crate::node::{NodeData, NodeId};
+use crate::node::{AttributesRef, NodeData, NodeId, TextRef};
 use html_plain::attributes::are_plain_attributes;
 use html_plain::texts::{is_plain_comment, is_plain_doctype, is_plain_text, takes_text};
 use html_plain::{Place, PlainElement};
-use markup::{Attributes, ParseFault, QualName, Text};
+use markup::{ParseFault, QualName};
 use std::alloc::Global;
 use std::mem;
 
@@ -40,15 +41,16 @@ pub(crate) struct Level<'a> {
 
 impl Stand {
     /// Whether a text may stand here.
-    fn takes(self, text: &Text) -> bool
-        ensures { result ≡ takes_here self text.now }
+    fn takes(self, text: TextRef<'_>) -> bool
+        ensures { result ≡ takes_here self (characters text.entry) }
     {
-        !self.after_text && (is_plain_text(text) && takes_text(self.place.text_kind(), text))
+        !self.after_text
+            && (is_plain_text(text.as_str()) && takes_text(self.place.text_kind(), text.as_str()))
     }
 
     /// Where the next node stands behind a text, if that may stand here.
-    fn behind_text(self, text: &Text) -> Option<Stand>
-        ensures { IsBehindText self text.now result }
+    fn behind_text(self, text: TextRef<'_>) -> Option<Stand>
+        ensures { IsBehindText self (characters text.entry) result }
     {
         if self.takes(text) {
             Some(Stand {
@@ -61,15 +63,15 @@ impl Stand {
     }
 
     /// Whether a comment may stand here.
-    fn takes_comment(self, text: &Text) -> bool
-        ensures { result ≡ takes_comment_here self text.now }
+    fn takes_comment(self, text: TextRef<'_>) -> bool
+        ensures { result ≡ takes_comment_here self (characters text.entry) }
     {
-        self.place.takes_comments() && is_plain_comment(text)
+        self.place.takes_comments() && is_plain_comment(text.as_str())
     }
 
     /// Where the next node stands behind a comment, if that may stand here.
-    fn behind_comment(self, text: &Text) -> Option<Stand>
-        ensures { IsBehindComment self text.now result }
+    fn behind_comment(self, text: TextRef<'_>) -> Option<Stand>
+        ensures { IsBehindComment self (characters text.entry) result }
     {
         if self.takes_comment(text) {
             Some(Stand {
@@ -82,15 +84,21 @@ impl Stand {
     }
 
     /// Whether a doctype may stand here.
-    fn opens(self, name: &Text, public_id: &Text, system_id: &Text) -> bool
-        ensures { result ≡ opens_here self name.now public_id.now system_id.now }
+    fn opens(self, name: TextRef<'_>, public_id: TextRef<'_>, system_id: TextRef<'_>) -> bool
+        ensures { result ≡ opens_here self (characters name.entry) (characters public_id.entry) (characters system_id.entry) }
     {
-        self.place.is_first() && is_plain_doctype(name, public_id, system_id)
+        self.place.is_first()
+            && is_plain_doctype(name.as_str(), public_id.as_str(), system_id.as_str())
     }
 
     /// Where the next node stands behind a doctype, if that may stand here.
-    fn behind_doctype(self, name: &Text, public_id: &Text, system_id: &Text) -> Option<Stand>
-        ensures { IsBehindDoctype self name.now public_id.now system_id.now result }
+    fn behind_doctype(
+        self,
+        name: TextRef<'_>,
+        public_id: TextRef<'_>,
+        system_id: TextRef<'_>,
+    ) -> Option<Stand>
+        ensures { IsBehindDoctype self (characters name.entry) (characters public_id.entry) (characters system_id.entry) result }
     {
         if self.opens(name, public_id, system_id) {
             Some(Stand {
@@ -107,9 +115,9 @@ impl Stand {
         self,
         alloc: Global,
         element: PlainElement,
-        attrs: &Attributes,
+        attrs: AttributesRef<'_>,
     ) -> Result<bool, ParseFault>
-        ensures ok { IfOk result (λ holds. holds ≡ is_plain_start self.place attrs.now false element) }
+        ensures ok { IfOk result (λ holds. holds ≡ is_plain_start self.place (attributes attrs.entry) false element) }
         ensures fault { IfErr result (λ fault. fault ≡ Memory) }
     {
         if self.place.holds(element) {
@@ -124,9 +132,9 @@ impl Stand {
         self,
         alloc: Global,
         name: &QualName,
-        attrs: &Attributes,
+        attrs: AttributesRef<'_>,
     ) -> Result<Option<Around>, ParseFault>
-        ensures ok { IfOk result (λ around. IsAround self name.now attrs.now around) }
+        ensures ok { IfOk result (λ around. IsAround self name.now (attributes attrs.entry) around) }
         ensures fault { IfErr result (λ fault. fault ≡ Memory) }
     {
         match PlainElement::of(name) {
@@ -227,9 +235,9 @@ impl<'a> Judge<'a> {
         alloc: Global,
         id: NodeId,
         name: &QualName,
-        attrs: &Attributes,
+        attrs: AttributesRef<'_>,
     ) -> Result<bool, ParseFault>
-        ensures ok { IfOk result (λ goes_on. IsElementTaken forest.now id name.now attrs.now (self.old.stand, self.old.rest, self.old.waiting.items) (self.new.stand, self.new.rest, self.new.waiting.items) goes_on) }
+        ensures ok { IfOk result (λ goes_on. IsElementTaken forest.now id name.now (attributes attrs.entry) (self.old.stand, self.old.rest, self.old.waiting.items) (self.new.stand, self.new.rest, self.new.waiting.items) goes_on) }
         ensures fault { IfErr result (λ fault. fault ≡ Memory) }
     {
         match self.stand.around(alloc, name, attrs)? {

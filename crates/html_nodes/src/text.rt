@@ -17,7 +17,7 @@ fn push_text(forest: &Forest, id: NodeId, text: &mut Text) -> Result<(), ParseFa
     ensures fault { IfErr result (λ fault. fault ≡ Memory) }
 {
     match forest.node(id) {
-        Some(NodeData::Text(more)) => text.append(more),
+        Some(NodeData::Text(more)) => text.push_str(more.as_str()),
         _ => Ok(()),
     }
 }

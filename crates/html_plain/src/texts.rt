@@ -1,11 +1,10 @@
 //! The texts of plain documents.
-ghost use Rattle.std.specs.Prelude.{◌≡◌};
-ghost use Rattle.std.specs.Str.{chars};
+ghost use Rattle.std.specs.Prelude.{◌≡◌, ◌==◌, codes, length};
+ghost use Rattle.std.specs.Str.{bytes_eq, chars};
 ghost use Rattle.std.specs.List.{list_all};
 ghost use Rattle.html_plain.specs.Grammar.{is_comment_character, is_plain_character, is_plain_comment, is_plain_doctype, is_plain_text, is_white, takes_text};
 
 use crate::place::TextKind;
-use markup::Text;
 
 /// Whether no character of a text is U+0000 or a carriage return.
 pub(crate) fn has_plain_characters(text: &str) -> bool
@@ -22,11 +21,18 @@ fn is_white_space(text: &str) -> bool
         .all(|c| matches!(c, '\t' | '\n' | '\x0C' | ' '))
 }
 
-/// Whether a text may stand in a plain document: it is not empty, and has neither U+0000 nor a carriage return.
-pub fn is_plain_text(text: &Text) -> bool
-    ensures { result ≡ is_plain_text text.now }
+/// Whether a text has no character.
+fn is_empty(text: &str) -> bool
+    ensures { result ≡ (length (chars text.now) == 0) }
 {
-    !text.is_empty() && has_plain_characters(text.as_str())
+    text.is_empty()
+}
+
+/// Whether a text may stand in a plain document: it is not empty, and has neither U+0000 nor a carriage return.
+pub fn is_plain_text(text: &str) -> bool
+    ensures { result ≡ is_plain_text (chars text.now) }
+{
+    !is_empty(text) && has_plain_characters(text)
 }
 
 /// Whether no character of a text is U+0000, a carriage return, a hyphen, `<` or `>`.
@@ -38,26 +44,33 @@ fn has_comment_characters(text: &str) -> bool
 
 /// Whether a comment with this text, which may be empty, may stand in a plain document: it has neither U+0000 nor a carriage
 /// return, and none of the characters of a comment's ends, `-`, `<` and `>`.
-pub fn is_plain_comment(text: &Text) -> bool
-    ensures { result ≡ is_plain_comment text.now }
+pub fn is_plain_comment(text: &str) -> bool
+    ensures { result ≡ is_plain_comment (chars text.now) }
 {
-    has_comment_characters(text.as_str())
+    has_comment_characters(text)
 }
 
 /// Whether a text is of a kind.
-pub fn takes_text(kind: TextKind, text: &Text) -> bool
-    ensures { result ≡ takes_text kind text.now }
+pub fn takes_text(kind: TextKind, text: &str) -> bool
+    ensures { result ≡ takes_text kind (chars text.now) }
 {
     match kind {
         TextKind::NoText => false,
-        TextKind::WhiteSpace => is_white_space(text.as_str()),
+        TextKind::WhiteSpace => is_white_space(text),
         TextKind::AnyText => true,
     }
 }
 
 /// Whether a doctype has the name `html` and nothing else.
-pub fn is_plain_doctype(name: &Text, public_id: &Text, system_id: &Text) -> bool
-    ensures { result ≡ is_plain_doctype name.now public_id.now system_id.now }
+pub fn is_plain_doctype(name: &str, public_id: &str, system_id: &str) -> bool
+    ensures { result ≡ is_plain_doctype (chars name.now) (chars public_id.now) (chars system_id.now) }
 {
-    name.is("html") && public_id.is_empty() && system_id.is_empty()
+    is_html(name) && is_empty(public_id) && is_empty(system_id)
+}
+
+/// Whether a text is `html`.
+fn is_html(text: &str) -> bool
+    ensures { result ≡ bytes_eq (chars text.now) (codes "html") }
+{
+    text == "html"
 }

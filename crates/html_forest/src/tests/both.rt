@@ -6,7 +6,7 @@ use crate::node::{NodeData, NodeId};
 use markup::{ParseFault, QuirksMode};
 use std::alloc::Global;
 
-fn same_attributes(about: &NodeData, node: &PlainNode) -> bool {
+fn same_attributes(about: &NodeData<'_>, node: &PlainNode) -> bool {
     match about {
         NodeData::Element { attrs, .. } => {
             if attrs.len() != node.attributes.len() {
@@ -25,7 +25,7 @@ fn same_attributes(about: &NodeData, node: &PlainNode) -> bool {
     }
 }
 
-fn words_of(about: &NodeData) -> (Kind, &str) {
+fn words_of<'a>(about: &NodeData<'a>) -> (Kind, &'a str) {
     match about {
         NodeData::Document => (Kind::Document, ""),
         NodeData::Contents => (Kind::Contents, ""),
@@ -44,7 +44,7 @@ fn words_of(about: &NodeData) -> (Kind, &str) {
     }
 }
 
-fn same_data(about: &NodeData, node: &PlainNode) -> bool {
+fn same_data(about: &NodeData<'_>, node: &PlainNode) -> bool {
     let (kind, words) = words_of(about);
     kind == node.kind && words == node.words.as_str() && same_attributes(about, node)
 }
@@ -79,7 +79,7 @@ fn same_node(forest: &Forest, plain: &Plain, at: usize, node: &PlainNode) -> boo
         Some(about) => {
             same_parent
                 && same_contents
-                && same_data(about, node)
+                && same_data(&about, node)
                 && same_children(forest, id, &node.children)
         }
         None => false,

@@ -6,7 +6,7 @@ ghost use Rattle.html_forest.specs.Views.{data_view};
 use crate::Forest;
 use crate::node::{NodeData, NodeId};
 
-fn holds_children(about: &NodeData) -> bool
+fn holds_children(about: &NodeData<'_>) -> bool
     ensures { result ≡ holds_children (data_view about.now) }
 {
     matches!(
@@ -25,12 +25,12 @@ pub fn is_parent(forest: &Forest, id: NodeId) -> bool
     ensures { IsTrue result → IsParent forest.now id }
 {
     match forest.node(id) {
-        Some(about) => holds_children(about),
+        Some(about) => holds_children(&about),
         None => false,
     }
 }
 
-fn is_contents(about: &NodeData) -> bool
+fn is_contents(about: &NodeData<'_>) -> bool
     ensures { result ≡ is_contents (data_view about.now) }
 {
     matches!(about, NodeData::Contents)
@@ -40,7 +40,7 @@ fn is_contents_node(forest: &Forest, id: NodeId) -> bool
     ensures { result ≡ is_contents (data_of forest.now id) }
 {
     match forest.node(id) {
-        Some(about) => is_contents(about),
+        Some(about) => is_contents(&about),
         None => false,
     }
 }

@@ -27,7 +27,7 @@ fn write_attributes(attributes: &[Attribute], out: &mut String) -> Result<(), Pa
 }
 
 // A node in a few characters: a text in quotes, an element by its name and its attributes.
-fn write_node(about: &NodeData, out: &mut String) -> Result<(), ParseFault> {
+fn write_node(about: &NodeData<'_>, out: &mut String) -> Result<(), ParseFault> {
     match about {
         NodeData::Text(words) => write_each(&["'", words.as_str(), "'"], out),
         NodeData::Element { name, attrs, .. } => {
@@ -45,7 +45,7 @@ pub(super) fn children(alloc: Global, forest: &Forest, id: NodeId) -> Result<Str
             out.push_str(" ")?;
         }
         if let Some(about) = forest.node(child) {
-            write_node(about, &mut out)?;
+            write_node(&about, &mut out)?;
         }
     }
     Ok(out)

@@ -36,7 +36,7 @@ loop-at-preserved c =
     IsAdopting-next _ _ _ now _ c.in-Some.child c.node-at.result h
     (c.node-at.ensures ∙ ap (λ (l : Links). l.next) c.links-changed.ensures)
     (λ n. ap (λ (ls : List Links). link_at ls n) c.set_links.ensures.links ∙ (link_at-set (links_of now) c.in-Some.child _ n less ∙ rw (c.new-changed.ensures, c.links-changed.ensures) refl))
-    c.set_links.ensures.abouts
+    c.set_links.ensures.entries
     (omega (arith, c.set_links.ensures.len))
 
 pub returns-clause-links : goal.returns-clause-links

@@ -1,19 +1,45 @@
-use Rattle.std.proofs.Common.{◌≡◌, arith}
-use Rattle.markup.specs.Forest.{node_count}
-use Rattle.html_forest.specs.Views.{forest_view}
-use Rattle.html_forest.proofs.Answers.{count-nodes}
+use Rattle.std.proofs.Common.{Bool, subst, true}
+use Rattle.markup.specs.Forest.NodeData.{Element}
+use Rattle.html_forest.specs.Entries.{IsMade}
+use Rattle.html_forest.specs.Views.{entries_of}
 use Rattle.html_forest.proofs.Kept.{IsKept-with_template}
-use Rattle.html_forest.proofs.Views.{IsKept-shown, shown}
+use Rattle.html_forest.proofs.Stored.{AreStored-grown, AreStored-pushed_template, OnErr-always, data-grown, data-pushed_template, held, held-shown}
 use Rattle.html_forest.proofs.forest.Forest.create_template.Goals as goal
 
 pub invariant_of-self-2 : goal.invariant_of-self-2
 invariant_of-self-2 c =
-    let made : c.len-made.result ≡ node_count (forest_view c.self.inside.nodes.items c.self.inside.quirks c.self.inside.errors) = omega (arith, count-nodes _ _ c.self.invariant) in
-    rw (c.add_node-2.ensures.abouts, c.add_node-2.ensures.links, c.add_node.ensures.abouts, c.add_node.ensures.links, c.in_ok-reserve.ensures.items, c.new.ensures, made)
-    (IsKept-shown _ _ _ (IsKept-with_template _ _ _ _ _ _ c.self.invariant c.requires))
+    let s = c.self.inside.store in
+    let t = c.element.new.self in
+    let es = entries_of c.self.inside.nodes.items in
+    let h = c.self.invariant in
+    let made : IsMade t c.in_ok-entry.entry (Element c.args.name c.args.attrs true c.args.flags.mathml_annotation_xml_integration_point) =
+    subst (λ (b : Bool). IsMade t c.in_ok-entry.entry (Element c.args.name c.args.attrs b c.args.flags.mathml_annotation_xml_integration_point)) c.requires.template c.in_ok-entry.ensures.made in
+    rw (c.add_node-2.ensures.entries, c.add_node-2.ensures.links, c.add_node.ensures.entries, c.add_node.ensures.links, c.in_ok-reserve.ensures.items)
+    (held _ t _ _ _ (data-pushed_template s t es _ _ c.element.ensures.grown h.stored made) (IsKept-with_template _ _ _ _ _ _ h.kept c.requires.named) (AreStored-pushed_template s t es _ _ c.element.ensures.grown h.stored made))
 
 pub returns-clause-ok : goal.returns-clause-ok
 returns-clause-ok c =
-    let made : c.len-made.result ≡ node_count (forest_view c.self.inside.nodes.items c.self.inside.quirks c.self.inside.errors) = omega (arith, count-nodes _ _ c.self.invariant) in
-    rw (← c.self.view_is, c.add_node-2.ensures.abouts, c.add_node-2.ensures.links, c.add_node.ensures.abouts, c.add_node.ensures.links, c.in_ok-reserve.ensures.items, c.new.ensures, made)
-    (shown _ _ _ (IsKept-with_template _ _ _ _ _ _ c.self.invariant c.requires))
+    let s = c.self.inside.store in
+    let t = c.element.new.self in
+    let es = entries_of c.self.inside.nodes.items in
+    let h = c.self.invariant in
+    let made : IsMade t c.in_ok-entry.entry (Element c.args.name c.args.attrs true c.args.flags.mathml_annotation_xml_integration_point) =
+    subst (λ (b : Bool). IsMade t c.in_ok-entry.entry (Element c.args.name c.args.attrs b c.args.flags.mathml_annotation_xml_integration_point)) c.requires.template c.in_ok-entry.ensures.made in
+    rw (← c.self.view_is, c.add_node-2.ensures.entries, c.add_node-2.ensures.links, c.add_node.ensures.entries, c.add_node.ensures.links, c.in_ok-reserve.ensures.items, c.requires.template)
+    (held-shown _ t _ _ _ (data-pushed_template s t es _ _ c.element.ensures.grown h.stored made) (IsKept-with_template _ _ _ _ _ _ h.kept c.requires.named))
+
+pub invariant_of-self-in_err-entry : goal.invariant_of-self-in_err-entry
+invariant_of-self-in_err-entry c =
+    let s = c.self.inside.store in
+    let t = c.element.new.self in
+    let es = entries_of c.self.inside.nodes.items in
+    rw c.in_ok-reserve.ensures.items
+    (held _ t es _ _ (data-grown s t es c.element.ensures.grown c.self.invariant.stored) c.self.invariant.kept (AreStored-grown s t es c.element.ensures.grown c.self.invariant.stored))
+
+pub returns-in_err-entry-clause-err : goal.returns-in_err-entry-clause-err
+returns-in_err-entry-clause-err c =
+    let s = c.self.inside.store in
+    let t = c.element.new.self in
+    let es = entries_of c.self.inside.nodes.items in
+    OnErr-always c.from_residual-in_err-entry.result
+    (rw (← c.self.view_is, c.in_ok-reserve.ensures.items) (held-shown _ t es _ _ (data-grown s t es c.element.ensures.grown c.self.invariant.stored) c.self.invariant.kept))

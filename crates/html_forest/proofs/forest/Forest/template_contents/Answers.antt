@@ -1,17 +1,24 @@
-use Rattle.std.proofs.Common.{◌<◌, ap, length, sym, ◌∙◌}
+use Rattle.std.proofs.Common.{◌≡◌, ◌∙◌, ◌<◌, true, false, ap, length, refl, sym}
 use Rattle.std.proofs.lemmas.Bool.{ltb-true}
-use Rattle.html_forest.specs.Views.{About, contents_in}
-use Rattle.html_forest.proofs.Answers.{about-here, no_contents}
+use Rattle.markup.specs.Forest.{data_of, template_of}
+use Rattle.html_forest.specs.Views.{forest_view}
+use Rattle.html_forest.proofs.Answers.{about-here, template-is}
 use Rattle.html_forest.proofs.forest.Forest.template_contents.Goals as goal
 
-pub returns-in-Element : goal.returns-in-Element
-returns-in-Element c =
+pub returns-then-is_template : goal.returns-then-is_template
+returns-then-is_template c =
+    let s = c.self.inside.store in
+    let f = forest_view s c.self.inside.nodes.items c.self.inside.quirks c.self.inside.errors in
     let found = rw (c.deref.ensures.value, c.number.ensures) at c.in-Some.ensures.lookup in
     let there : c.args.id < length c.self.inside.nodes.items = ltb-true _ _ (sym found.0) in
-    rw (← c.self.view_is) (sym (ap contents_in c.in-Element.is) ∙ ap (λ (about : About). about.1) (about-here _ _ _ _ c.self.invariant there found.1))
+    let template : template_of (data_of f c.args.id) ≡ true = sym (ap template_of (about-here f s _ _ _ c.self.invariant.kept there found.1)) ∙ (sym (template-is s c.in-Some.node.now.entry) ∙ (sym c.is_template.ensures ∙ c.if-is_template.true)) in
+    rw (← c.self.view_is, c.new.ensures, c.number-then-is_template.ensures, template) refl
 
-pub returns-in_default : goal.returns-in_default
-returns-in_default c =
+pub returns-else-is_template : goal.returns-else-is_template
+returns-else-is_template c =
+    let s = c.self.inside.store in
+    let f = forest_view s c.self.inside.nodes.items c.self.inside.quirks c.self.inside.errors in
     let found = rw (c.deref.ensures.value, c.number.ensures) at c.in-Some.ensures.lookup in
     let there : c.args.id < length c.self.inside.nodes.items = ltb-true _ _ (sym found.0) in
-    rw (← c.self.view_is) (sym (no_contents _ c.in_default.not-Element) ∙ ap (λ (about : About). about.1) (about-here _ _ _ _ c.self.invariant there found.1))
+    let plain : template_of (data_of f c.args.id) ≡ false = sym (ap template_of (about-here f s _ _ _ c.self.invariant.kept there found.1)) ∙ (sym (template-is s c.in-Some.node.now.entry) ∙ (sym c.is_template.ensures ∙ c.if-is_template.false)) in
+    rw (← c.self.view_is, plain) refl

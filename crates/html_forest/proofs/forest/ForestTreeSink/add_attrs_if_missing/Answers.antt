@@ -5,10 +5,13 @@ pub invariant_of-self : goal.invariant_of-self
 invariant_of-self c =
     let there = rw (← c.self.view_is) at c.requires in
     rw c.add_attributes.ensures.links
-    (IsKept-given c.add_attributes.result _ _ _ _ c.args.target.now c.args.attributes c.self.invariant there c.add_attributes.ensures.ok c.add_attributes.ensures.err)
+    (record {
+      kept = IsKept-given c.add_attributes.result _ _ _ _ c.args.target.now c.args.attributes c.self.invariant.kept there c.add_attributes.ensures.ok c.add_attributes.ensures.err;
+      stored = c.add_attributes.ensures.stored;
+    })
 
 pub returns-clause-ok : goal.returns-clause-ok
 returns-clause-ok c =
     let there = rw (← c.self.view_is) at c.requires in
     rw (← c.self.view_is, c.add_attributes.ensures.links)
-    (given-shown c.add_attributes.result _ _ _ _ c.args.target.now c.args.attributes c.self.invariant there c.add_attributes.ensures.ok)
+    (given-shown c.add_attributes.result _ _ _ _ c.args.target.now c.args.attributes c.self.invariant.kept there c.add_attributes.ensures.ok)

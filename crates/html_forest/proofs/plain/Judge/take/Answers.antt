@@ -5,7 +5,7 @@ use Rattle.std.specs.Prelude.{is_some}
 use Rattle.markup.specs.Forest.{node_count, template_of}
 use Rattle.markup.specs.Forest.NodeData.{Element}
 use Rattle.markup.proofs.Parents.{data_of-past}
-use Rattle.html_forest.specs.Views.{data_view}
+use Rattle.html_forest.specs.Views.{attributes, data_view}
 use Rattle.html_forest.proofs.Judging.{text-taken, doctype-taken, element-taken, template-taken, comment-taken, instruction-taken, children-taken, inner-plain}
 use Rattle.html_forest.proofs.plain.Judge.take.Goals as goal
 
@@ -31,12 +31,12 @@ pub returns-in-Some-Element-default-default-Some-default-clause-ok : goal.return
 returns-in-Some-Element-default-default-Some-default-clause-ok c =
     let x = c.in-Some-Element-default-default-Some-default in
     template-taken c.args.forest.now c.requires.tree _ _ c.args.id _ _ _
-    (sym x.ensures.about ∙ (ap data_view x.field-0-is ∙ ap (λ o. Element x.field-0-0 x.field-0-1 (is_some o) x.field-0-3) x.field-0-2-is))
+    (sym x.ensures.about ∙ (ap data_view x.field-0-is ∙ ap (λ o. Element x.field-0-0.now (attributes x.field-0-1) (is_some o) x.field-0-3) x.field-0-2-is))
 
 pub returns-in-Some-Element-default-default-None-default-clause-ok : goal.returns-in-Some-Element-default-default-None-default-clause-ok
 returns-in-Some-Element-default-default-None-default-clause-ok c =
     let x = c.in-Some-Element-default-default-None-default in
-    let about = sym x.ensures.about ∙ (ap data_view x.field-0-is ∙ ap (λ o. Element x.name x.attrs (is_some o) x.field-0-3) x.field-0-2-is) in
+    let about = sym x.ensures.about ∙ (ap data_view x.field-0-is ∙ ap (λ o. Element x.name.now (attributes x.attrs) (is_some o) x.field-0-3) x.field-0-2-is) in
     IfOk-weaker c.take_element.result _ _ (λ goes_on h. element-taken c.args.forest.now c.requires.tree _ _ c.args.id _ _ _ goes_on about h) c.take_element.ensures.ok
 
 pub returns-in-Some-Document-clause-ok : goal.returns-in-Some-Document-clause-ok
