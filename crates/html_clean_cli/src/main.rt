@@ -12,7 +12,7 @@ use markup::{LocalName, ParseFault, Text};
 use std::alloc::Global;
 use std::env;
 use std::fs::File;
-use std::io::{BufWriter, Write};
+use std::io::{self, BufWriter, ErrorKind, Write};
 use std::process::ExitCode;
 
 /// What an option takes from the word behind it.
@@ -37,10 +37,19 @@ struct Asked<'a> {
     files: Vec<&'a str>,
 }
 
+/// Why the words behind the program's name were not read: for want of memory, or since one of them is no text.
+fn words_fault(error: &io::Error) -> ProgramFault {
+    match error.kind() {
+        ErrorKind::OutOfMemory => ProgramFault::Normal(NormalFault::Memory),
+        _ => ProgramFault::Usage,
+    }
+}
+
 /// The words behind the program's name.
 fn words(rt: &HostRuntime) -> Result<Vec<String>, ProgramFault> {
-    let Ok(arguments) = env::args(rt) else {
-        return Err(ProgramFault::Usage);
+    let arguments = match env::args(rt) {
+        Ok(arguments) => arguments,
+        Err(error) => return Err(words_fault(&error)),
     };
     let mut words = Vec::new(rt.alloc());
     for word in arguments.skip(1) {

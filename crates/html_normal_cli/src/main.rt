@@ -10,13 +10,22 @@ use html_normal::{
 };
 use std::env;
 use std::fs::File;
-use std::io::BufWriter;
+use std::io::{self, BufWriter, ErrorKind};
 use std::process::ExitCode;
+
+// Why the words behind the program's name were not read: for want of memory, or since one of them is no text.
+fn words_fault(error: &io::Error) -> ProgramFault {
+    match error.kind() {
+        ErrorKind::OutOfMemory => ProgramFault::Normal(NormalFault::Memory),
+        _ => ProgramFault::Usage,
+    }
+}
 
 // The words behind the program's name.
 fn words(rt: &HostRuntime) -> Result<Vec<String>, ProgramFault> {
-    let Ok(arguments) = env::args(rt) else {
-        return Err(ProgramFault::Usage);
+    let arguments = match env::args(rt) {
+        Ok(arguments) => arguments,
+        Err(error) => return Err(words_fault(&error)),
     };
     let mut words = Vec::new(rt.alloc());
     for word in arguments.skip(1) {

@@ -1,0 +1,6 @@
+//! Trees as bytes: the calls by which a serializer is told a tree, one behind the other, for who builds a tree of their own elsewhere.
+#![tactic(auto)]
+
+mod events;
+
+pub use events::tree_bytes;
