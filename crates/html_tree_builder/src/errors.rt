@@ -54,8 +54,11 @@ fn write_exactly(
     mode: InsertionMode,
 ) -> Result<(), ParseFault> {
     message.push_str(unexpected(told))?;
-    message.push_str(" ")?;
-    message.push_str(told.name.as_str())?;
+    let name = told.name.as_str();
+    if !name.is_empty() {
+        message.push_str(" ")?;
+        message.push_str(name)?;
+    }
     message.push_str(" in the mode \"")?;
     message.push_str(name_of(mode))?;
     message.push_str("\"")?;
