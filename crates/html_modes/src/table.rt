@@ -245,7 +245,7 @@ pub enum Action {
     CloseMisnestedA,
     /// "Switch the insertion mode".
     SwitchTo(InsertionMode),
-    /// The mode becomes the original one.
+    /// The mode is kept as the original one, for the end of what comes.
     KeepMode,
     /// The original mode becomes the mode.
     BackToOriginal,
