@@ -1,12 +1,12 @@
 -- A call of `feed` that answers takes something of what waits.
 use Rattle.std.proofs.Common.{◌≡◌, ◌∙◌, ◌==◌, ℕ, ◌+◌, ◌<◌, Bool, false, List, [], ◌∷◌, length, Ok, ap, arith, length-append, Option, Some, None}
-use Rattle.markup.specs.declared.fault.ParseFault.{ParseFault}
-use Rattle.markup.specs.declared.tokenizer_result.TokenizerResult.{TokenizerResult}
-use Rattle.markup.specs.declared.tokenizer_result.TokenizerResult.TheVariants.{Done, Script, EncodingIndicator}
-use Rattle.html_queue.specs.Queue.{Queue}
-use Rattle.html_tokens.specs.declared.sink.TokenSink.{Ghosts}
-use Rattle.html_tokenizer.specs.Calls.{last_of, Fed, FeedGives}
-use Rattle.html_tokenizer.specs.declared.tokenizer.Tokenizer.{Tokenizer}
+use Rattle.figpliers.specs.ParseFault.{ParseFault}
+use Rattle.figpliers.specs.TokenizerResult.{TokenizerResult}
+use Rattle.figpliers.specs.TokenizerResult.TheVariants.{Done, Script, EncodingIndicator}
+use Rattle.figpliers.specs.Queue.{Queue}
+use Rattle.figpliers.specs.TokenSink.{Ghosts}
+use Rattle.figpliers.specs.TokenizerCalls.{last_of, Fed, FeedGives}
+use Rattle.figpliers.specs.Tokenizer.{Tokenizer}
 
 -- a text that ends in ">" is not empty
 ends-somewhere : (t : List ℕ) → last_of t ≡ 62 → 0 < length t

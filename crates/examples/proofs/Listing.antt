@@ -1,8 +1,8 @@
 -- A list of tokens, as a sink.
 use Rattle.std.specs.Prelude.{ℕ, true, []}
-use Rattle.html_tokens.specs.Listed.{Listing, listing, step}
-use Rattle.html_tokens.specs.declared.listed.Listed.{Listed}
-use Rattle.html_tokens.specs.declared.sink.TokenSink.{Ghosts}
+use Rattle.figpliers.specs.Listed.{Listing, listing, step}
+use Rattle.figpliers.specs.ListedTokens.{Listed}
+use Rattle.figpliers.specs.TokenSink.{Ghosts}
 
 abbrev pub sink : Ghosts Listed ℕ
 sink = record {

@@ -1,10 +1,10 @@
 -- A sink that counts tags, as a state with its step.
 use Rattle.std.specs.Prelude.{◌≡◌, ℕ, true, Ok, refl}
-use Rattle.html_tokens.specs.Counting.{tags_after}
-use Rattle.html_tokens.specs.Sink.{IsIdle, IsReplyTo, SinkLaws, Step}
-use Rattle.html_tokens.specs.declared.replies.TokenSinkResult.TheVariants.{Continue}
-use Rattle.html_tokens.specs.declared.token.Token.{Token}
-use Rattle.html_tokens.specs.declared.token.Token.TheVariants.{CharacterTokens, CommentToken, DoctypeToken, EOFToken, NullCharacterToken, ParseError, TagToken}
+use Rattle.figpliers.specs.Counting.{tags_after}
+use Rattle.figpliers.specs.Sink.{IsIdle, IsReplyTo, SinkLaws, Step}
+use Rattle.figpliers.specs.TokenSinkResult.TheVariants.{Continue}
+use Rattle.figpliers.specs.Token.{Token}
+use Rattle.figpliers.specs.Token.TheVariants.{CharacterTokens, CommentToken, DoctypeToken, EOFToken, NullCharacterToken, ParseError, TagToken}
 
 -- a token is counted if it is a tag, and reading goes on
 abbrev pub step : Step ℕ

@@ -1,7 +1,6 @@
 //! From the bytes of a page to its normal text.
 
-use devices::{MemReader, MemWriter};
-use html_normal::{Exact, NormalFault, References, Report, normalise};
+use figpliers::{Exact, MemReader, MemWriter, NormalFault, References, Report, normalise};
 use std::alloc::Global;
 
 pub fn normal(alloc: Global, page: Vec<u8>, writer: &mut MemWriter) -> Result<Report, NormalFault> {

@@ -1,8 +1,7 @@
 //! Where the links of a page lead: the `href` of each `a`, in their order.
 
 use crate::trees::tell;
-use html_tokenizer::References;
-use markup::{Attribute, KnownNamespace, QualName, SerializeFault, Serializer};
+use figpliers::{Attribute, KnownNamespace, QualName, References, SerializeFault, Serializer};
 use std::alloc::Global;
 
 /// Lists the links that it is told.

@@ -1,8 +1,7 @@
 //! An outline of a page: its headings, in their order.
 
 use crate::trees::tell;
-use html_tokenizer::References;
-use markup::{Attribute, QualName, SerializeFault, Serializer};
+use figpliers::{Attribute, QualName, References, SerializeFault, Serializer};
 use std::alloc::Global;
 
 /// A heading: `h1` has the level 1.

@@ -1,11 +1,11 @@
 //! How many tags a page has, by a sink of tokens of one's own.
 ghost use Rattle.examples.specs.Tags.{laws, step};
-ghost use Rattle.html_tokenizer.specs.Calls.{IsReadyIf, refusal_of};
+ghost use Rattle.figpliers.specs.TokenizerCalls.{IsReadyIf, refusal_of};
 
-use html_tokenizer::{
-    BufferQueue, References, Token, TokenSink, TokenSinkResult, Tokenizer, TokenizerOpts,
+use figpliers::{
+    BufferQueue, ParseFault, References, Token, TokenSink, TokenSinkResult, Tokenizer,
+    TokenizerOpts,
 };
-use markup::ParseFault;
 use std::alloc::Global;
 
 /// Counts the tags and the errors that it is told. At u64::MAX a number stays.

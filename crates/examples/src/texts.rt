@@ -1,8 +1,7 @@
 //! The text of a page, without its scripts and style sheets.
 
 use crate::trees::tell;
-use html_tokenizer::References;
-use markup::{Attribute, QualName, SerializeFault, Serializer};
+use figpliers::{Attribute, QualName, References, SerializeFault, Serializer};
 use std::alloc::Global;
 
 /// Joins the texts that it is told.

@@ -1,7 +1,6 @@
 //! The tokens of a page, listed.
 
-use html_tokenizer::{BufferQueue, Listed, References, Tokenizer, TokenizerOpts};
-use markup::ParseFault;
+use figpliers::{BufferQueue, Listed, ParseFault, References, Tokenizer, TokenizerOpts};
 use std::alloc::Global;
 
 pub fn tokens(alloc: Global, table: References, page: String) -> Result<Listed, ParseFault> {

@@ -1,9 +1,9 @@
 //! The tree of a page, and a walk of it.
 
-use html_forest::{Forest, ForestNode};
-use html_parser::{ParseOpts, parse_document};
-use html_tokenizer::References;
-use markup::{ParseFault, Serialize, SerializeFault, Serializer, TraversalScope, TreeSink};
+use figpliers::{
+    Forest, ForestNode, ParseFault, ParseOpts, References, Serialize, SerializeFault, Serializer,
+    TraversalScope, TreeSink, parse_document,
+};
 use std::alloc::Global;
 
 pub fn tree(alloc: Global, table: References, page: String) -> Result<Forest, ParseFault> {

@@ -1,14 +1,11 @@
 //! Each example once, on one page.
-use devices::MemWriter;
 use examples::documents::normal;
 use examples::links::links;
 use examples::outlines::outline;
 use examples::tags::tags;
 use examples::texts::text;
 use examples::tokens::tokens;
-use html_normal::Report;
-use html_tokenizer::{References, Token};
-use markup::QuirksMode;
+use figpliers::{MemWriter, QuirksMode, References, Report, Token};
 use std::alloc::Global;
 use std::test::Fail;
 

@@ -1,6 +1,6 @@
 use Rattle.std.proofs.Common.{◌<◌, length}
 use Rattle.examples.proofs.Feeds.{feeds-less, some-wait}
-use Rattle.html_tokenizer.specs.Calls.{refusal_of}
+use Rattle.figpliers.specs.TokenizerCalls.{refusal_of}
 use Rattle.examples.proofs.tags.feed_page.Goals as goal
 
 pub loop-tokenizer-smaller : goal.loop-tokenizer-smaller

@@ -1,5 +1,5 @@
 use Rattle.std.proofs.Common.{length}
-use Rattle.html_tokenizer.specs.Calls.{IsReadyIf, refusal_of}
+use Rattle.figpliers.specs.TokenizerCalls.{IsReadyIf, refusal_of}
 use Rattle.examples.proofs.tags.feed_page.Given as goal
 
 abbrev pub invariant-loop-tokenizer : goal.invariant-loop-tokenizer

@@ -1,7 +1,7 @@
 use Rattle.std.proofs.Common.{◌<◌, length}
 use Rattle.examples.proofs.Feeds.{feeds-less, some-wait}
 use Rattle.examples.proofs.Listing.{sink}
-use Rattle.html_tokenizer.specs.Calls.{refusal_of}
+use Rattle.figpliers.specs.TokenizerCalls.{refusal_of}
 use Rattle.examples.proofs.tokens.tokens.Goals as goal
 
 pub loop-tokenizer-smaller : goal.loop-tokenizer-smaller

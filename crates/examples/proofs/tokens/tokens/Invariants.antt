@@ -1,5 +1,5 @@
 use Rattle.std.proofs.Common.{length}
-use Rattle.html_tokenizer.specs.Calls.{IsReadyIf, refusal_of}
+use Rattle.figpliers.specs.TokenizerCalls.{IsReadyIf, refusal_of}
 use Rattle.examples.proofs.Listing.{sink}
 use Rattle.examples.proofs.tokens.tokens.Given as goal
 
