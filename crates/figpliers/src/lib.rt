@@ -4,9 +4,7 @@
 pub use devices::{
     DeviceFault, MemReader, MemWriter, Source, StdSource, StdTarget, Target, VecWriter,
 };
-pub use html_forest::{
-    AttributesRef, Children, Forest, ForestNode, NodeData, NodeId, TextRef,
-};
+pub use html_forest::{AttributesRef, Children, Forest, ForestNode, NodeData, NodeId, TextRef};
 pub use html_input::{TextFault, read_text};
 pub use html_nodes::{
     Descendants, Query, are_told_alike, attribute_of, attributes_of, element_name, fits, has_class,
