@@ -12,7 +12,7 @@ use Rattle.html_clean.specs.Policies.{fate, fate_by, is_kept_name, is_mark, is_p
 use Rattle.html_clean.specs.declared.elements.Fate.{Fate}
 use Rattle.html_clean.specs.declared.elements.Fate.TheVariants.{Kept, Dropped, Unwrapped}
 use Rattle.html_clean.specs.declared.policy.Policy.{Policy}
-use Rattle.html_slices.specs.Forms.{is_no_text}
+use Rattle.html_round_trip.specs.Slices.Forms.{is_no_text}
 use Rattle.html_clean.proofs.Lawful.{and-both, attributes-lawful, plain-is}
 
 kept-by : (b d : Bool) → fate_by b d ≡ Kept → b ≡ true

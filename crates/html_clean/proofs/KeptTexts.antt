@@ -8,7 +8,7 @@ use Rattle.html_clean.specs.Names.{first_two}
 use Rattle.std.specs.List.{list_all}
 use Rattle.std.proofs.lemmas.Bool.{and_parts, not-true, not-false}
 use Rattle.markup.specs.Calls.Call.{WriteText}
-use Rattle.html_slices.specs.Forms.{is_no_text}
+use Rattle.html_round_trip.specs.Slices.Forms.{is_no_text}
 use Rattle.html_clean.specs.Calls.{text_passed}
 use Rattle.html_clean.specs.Policies.{is_mark, is_plain_character, plain_text, starts_with_mark, text_at, without_marks}
 

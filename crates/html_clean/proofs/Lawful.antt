@@ -8,7 +8,7 @@ use Rattle.html_plain.proofs.Parts.{distinct-more}
 use Rattle.markup.specs.Attributes.{are_distinct, has_local_name}
 use Rattle.markup.specs.declared.attributes.Attribute.{Attribute}
 use Rattle.html_tokens.specs.Laws.{has_no_null, is_not_null}
-use Rattle.html_slices.specs.Forms.{has_no_return, is_attribute_name, is_no_text, is_read_attribute}
+use Rattle.html_round_trip.specs.Slices.Forms.{has_no_return, is_attribute_name, is_no_text, is_read_attribute}
 use Rattle.html_clean.specs.Cleaned.{are_lawful_attributes, is_lawful_attribute}
 use Rattle.html_clean.specs.Names.{is_safe_attribute}
 use Rattle.html_clean.specs.Policies.{added_if, is_kept_attribute, is_plain_character, kept_attributes, kept_behind, plain_attribute, plain_text}

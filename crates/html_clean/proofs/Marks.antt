@@ -4,7 +4,7 @@ use Rattle.std.specs.Prelude.{cond, nat_eq}
 use Rattle.std.proofs.lemmas.Bool.{and_parts}
 use Rattle.markup.specs.Escape.{escape, escaped, escaped_by}
 use Rattle.markup.specs.Trees.{Trees, Nothing, Text, Comment, ProcessingInstruction, Doctype, Element}
-use Rattle.html_slices.specs.Forms.{has_no_return}
+use Rattle.html_round_trip.specs.Slices.Forms.{has_no_return}
 use Rattle.html_tokens.specs.NormalText.{normal_text, newlines_behind, without_mark}
 use Rattle.html_tokens.proofs.NewlineLaws.{newlines-own}
 use Rattle.html_clean.specs.Cleaned.{are_kept, is_lawful_text, pieces_of, unmarked, unmarked_by}

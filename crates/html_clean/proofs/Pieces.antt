@@ -9,7 +9,7 @@ use Rattle.markup.specs.Escape.{end_tag, escape, start_tag}
 use Rattle.markup.specs.Trees.{Entry, Trees, Nothing, Text, Comment, ProcessingInstruction, Doctype, Element, default_entry, end_of, entry_under, is_among, is_html, is_raw, raw_names, written}
 use Rattle.markup.specs.declared.attributes.Attribute.{Attribute}
 use Rattle.markup.specs.declared.names.QualName.{QualName}
-use Rattle.html_slices.specs.Forms.{is_no_text, is_tag_name}
+use Rattle.html_round_trip.specs.Slices.Forms.{is_no_text, is_tag_name}
 use Rattle.html_clean.specs.Pieces as piece
 use Rattle.html_clean.specs.Pieces.{Piece, are_read_pieces, is_read_piece, written_pieces}
 use Rattle.html_clean.specs.Cleaned.{are_kept, are_kept_pieces, are_lawful_attributes, end_before, is_balanced, opened, is_kept_piece, is_lawful_text, is_nothing, pieces_before}

@@ -3,8 +3,8 @@ use Rattle.std.proofs.Common.{◌≡◌, ℕ, Bool, true, ◌&&◌, List, [], �
 use Rattle.std.specs.Prelude.{not, nat_eq}
 use Rattle.std.proofs.lemmas.Bool.{and_parts}
 use Rattle.html_tokens.specs.Laws.{has_no_null}
-use Rattle.html_slices.specs.Forms.{has_no_return, is_no_text, is_tag_name}
-use Rattle.html_slices.proofs.Returns.{end-no_return, start-no_return, text-no_return}
+use Rattle.html_round_trip.specs.Slices.Forms.{has_no_return, is_no_text, is_tag_name}
+use Rattle.html_round_trip.proofs.Slices.Returns.{end-no_return, start-no_return, text-no_return}
 use Rattle.html_clean.specs.PieceLaws.{ArePiecesNormal}
 use Rattle.html_clean.specs.Pieces.{End, Piece, Start, Text, are_read_pieces, is_read_piece, written_piece, written_pieces}
 use Rattle.html_clean.proofs.PiecesRead.{start-parts}

@@ -13,10 +13,10 @@ use Rattle.html_tokens.specs.Reading.{◌>>=◌, line_breaks, line_number, readi
 use Rattle.html_tokens.specs.Table.{Row}
 use Rattle.html_tokens.proofs.Readings.{bind_where}
 use Rattle.html_tokens.proofs.TextLaws.{bind-assoc, line_breaks-append, stays}
-use Rattle.html_slices.specs.Forms.{AreReadBack, Data, end_token, has_no_return, is_read_attribute, is_tag_name, start_token}
-use Rattle.html_slices.proofs.SpelledForms.{end-spelled, start-spelled}
-use Rattle.html_slices.proofs.Spells.{token-read}
-use Rattle.html_slices.proofs.Texts.{text-read}
+use Rattle.html_round_trip.specs.Slices.Forms.{AreReadBack, Data, end_token, has_no_return, is_read_attribute, is_tag_name, start_token}
+use Rattle.html_round_trip.proofs.Slices.SpelledForms.{end-spelled, start-spelled}
+use Rattle.html_round_trip.proofs.Slices.Spells.{token-read}
+use Rattle.html_round_trip.proofs.Slices.Texts.{text-read}
 use Rattle.html_clean.specs.PieceLaws.{GoesOn}
 use Rattle.html_clean.specs.Pieces.{End, Piece, Start, Text, are_read_pieces, is_read_piece, last_behind, telling, token_of, written_piece, written_pieces}
 

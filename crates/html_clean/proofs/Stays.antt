@@ -7,8 +7,8 @@ use Rattle.markup.specs.Attributes.{are_distinct, has_local_name}
 use Rattle.markup.specs.Trees.{Trees, Nothing, Text, Comment, ProcessingInstruction, Doctype, Element, is_among, is_html}
 use Rattle.markup.specs.declared.attributes.Attribute.{Attribute}
 use Rattle.markup.specs.declared.names.QualName.{QualName}
-use Rattle.html_slices.specs.Forms.{is_no_text}
-use Rattle.html_slices.proofs.Names.{has-none}
+use Rattle.html_round_trip.specs.Slices.Forms.{is_no_text}
+use Rattle.html_round_trip.proofs.Slices.Names.{has-none}
 use Rattle.html_clean.specs.Cleaned.{are_kept, cleaned, cleaned_before, unmarked, unmarked_by, element_before, is_lawful_attribute, is_lawful_text, kids_of, text_before}
 use Rattle.html_clean.specs.Names.{is_void}
 use Rattle.html_clean.specs.Policies.{added_if, fate_by, is_kept_attribute, is_kept_name, is_mark, is_plain_character, kept_attributes, kept_behind, plain_attribute, without_marks}

@@ -6,7 +6,7 @@ use Rattle.markup.specs.Attributes.{are_distinct}
 use Rattle.markup.specs.Trees.{Trees, Nothing, Text, Comment, ProcessingInstruction, Doctype, Element, is_html}
 use Rattle.markup.specs.declared.attributes.Attribute.{Attribute}
 use Rattle.markup.specs.declared.names.QualName.{QualName}
-use Rattle.html_slices.specs.Forms.{is_no_text}
+use Rattle.html_round_trip.specs.Slices.Forms.{is_no_text}
 use Rattle.html_clean.specs.Pieces as piece
 use Rattle.html_clean.specs.Pieces.{Piece}
 use Rattle.html_clean.specs.Names.{is_void}

@@ -1,7 +1,7 @@
 -- Which names of elements and of attributes a policy can keep at all.
 use Rattle.std.specs.Prelude.{ℕ, Bool, false, ◌&&◌, not, nat_eq, List, [], ◌∷◌, Option, Some, None, codes}
 use Rattle.markup.specs.Trees.{is_among, void_names}
-use Rattle.html_slices.specs.Forms.{is_attribute_name}
+use Rattle.html_round_trip.specs.Slices.Forms.{is_attribute_name}
 
 -- Elements of HTML (HTML Standard, section 4, and section 16.2 for those that are obsolete). These are not among them, and so never
 -- kept: `script`, `style`, `xmp`, `iframe`, `noembed`, `noframes`, `plaintext`, `title`, `textarea` and `noscript`, behind whose start

@@ -8,7 +8,7 @@ use Rattle.html_tokens.specs.Item.{Fault}
 use Rattle.html_tokens.specs.Laws.{ReadsEscapes, in_data}
 use Rattle.html_tokens.specs.Reading.{◌>>=◌, reading, line_breaks}
 use Rattle.html_tokens.specs.Table.{Row}
-use Rattle.html_slices.specs.Forms.{end_token, has_no_return, start_token}
+use Rattle.html_round_trip.specs.Slices.Forms.{end_token, has_no_return, start_token}
 use Rattle.html_clean.specs.Pieces.{Piece, are_read_pieces, last_behind, telling, written_pieces}
 
 -- a sink that answers tags of these names by that data goes on behind them, in each sound state that takes the tag

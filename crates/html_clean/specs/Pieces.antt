@@ -8,7 +8,7 @@ use Rattle.html_tokens.specs.declared.token.Token.{Token}
 use Rattle.html_tokens.specs.declared.token.Token.TheVariants.{CharacterTokens}
 use Rattle.html_tokens.specs.Laws.{are_distinct, has_no_null}
 use Rattle.html_tokens.specs.Reading.{◌>>=◌, line_breaks, line_number}
-use Rattle.html_slices.specs.Forms.{end_token, has_no_return, is_no_text, is_read_attribute, is_tag_name, start_token}
+use Rattle.html_round_trip.specs.Slices.Forms.{end_token, has_no_return, is_no_text, is_read_attribute, is_tag_name, start_token}
 
 pub data Piece : Type 0 where
   Start : (name : List ℕ) (attributes : List Attribute) → Piece

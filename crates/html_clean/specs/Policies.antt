@@ -6,7 +6,7 @@ use Rattle.markup.specs.Attributes.{has_local_name}
 use Rattle.markup.specs.Trees.{is_among, is_html}
 use Rattle.markup.specs.declared.attributes.Attribute.{Attribute}
 use Rattle.markup.specs.declared.names.QualName.{QualName}
-use Rattle.html_slices.specs.Forms.{is_no_text}
+use Rattle.html_round_trip.specs.Slices.Forms.{is_no_text}
 use Rattle.html_clean.specs.Names.{is_safe_attribute, is_safe_name, is_url_attribute}
 use Rattle.html_clean.specs.Urls.{url_kind}
 use Rattle.html_clean.specs.declared.elements.Fate.{Fate}

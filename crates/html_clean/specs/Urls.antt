@@ -2,7 +2,7 @@
 use Rattle.std.specs.Prelude.{ℕ, Bool, true, false, cond, ◌||◌, not, nat_eq, nat_le, List, [], ◌∷◌, ◌++◌, Option, Some, None}
 use Rattle.std.specs.Char.{is_ascii_alphabetic, is_ascii_digit, to_ascii_lowercase}
 use Rattle.std.specs.List.{filter}
-use Rattle.html_slices.specs.Forms.{is_no_text}
+use Rattle.html_round_trip.specs.Slices.Forms.{is_no_text}
 use Rattle.html_clean.specs.Names.{are_first, first_two}
 use Rattle.html_clean.specs.declared.url.SchemeStep.{SchemeStep}
 use Rattle.html_clean.specs.declared.url.SchemeStep.TheVariants.{Ends, Stops, Grows}

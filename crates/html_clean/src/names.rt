@@ -2,7 +2,7 @@
 ghost use Rattle.std.specs.Prelude.{◌≡◌, map, true};
 ghost use Rattle.std.specs.List.{list_all, list_any};
 ghost use Rattle.std.specs.Str.{bytes_eq, chars};
-ghost use Rattle.html_slices.specs.Forms.{is_attribute_name};
+ghost use Rattle.html_round_trip.specs.Slices.Forms.{is_attribute_name};
 ghost use Rattle.html_tokens.specs.Clean.{is_clean_in_name};
 ghost use Rattle.markup.specs.KnownNames.{rises};
 ghost use Rattle.markup.specs.Plain.{is_plain};

@@ -4,7 +4,7 @@ ghost use Rattle.std.specs.List.{list_all};
 ghost use Rattle.std.specs.Str.{chars};
 ghost use Rattle.html_clean.specs.Policies.{is_mark, is_plain_character, plain_text, starts_with_mark, text_at};
 ghost use Rattle.html_clean.specs.Names.{first_two};
-ghost use Rattle.html_slices.specs.Forms.{is_no_text};
+ghost use Rattle.html_round_trip.specs.Slices.Forms.{is_no_text};
 ghost use Rattle.html_clean.specs.Policies as policies;
 ghost use Rattle.markup.specs.declared.fault.ParseFault.TheVariants.{Memory};
 

@@ -1,8 +1,8 @@
 -- Plain documents are read again, and normal bytes are kept.
 use Rattle.std.proofs.Common.{◌≡◌, ◌∙◌, ℕ, true, false, List, refl, sym, ap, Result, Ok, Err}
 use Rattle.markup.specs.Forest.{Forest}
-use Rattle.html_read_back.specs.States.{Around}
-use Rattle.html_read_back.proofs.Document.{bytes-again}
+use Rattle.html_round_trip.specs.ReadBack.States.{Around}
+use Rattle.html_round_trip.proofs.ReadBack.Document.{bytes-again}
 use Rattle.html_rules.specs.State.{State}
 use Rattle.html_tokens.specs.Sink.{Refusal}
 use Rattle.html_tokens.specs.Table.{Row}

@@ -3,7 +3,7 @@ use Rattle.std.proofs.Common.{◌≡◌, ◌∙◌, ◌++◌, Option, Some, None
 use Rattle.markup.specs.Forest.{Forest, add_error}
 use Rattle.markup.specs.declared.fault.ParseFault.{ParseFault}
 use Rattle.markup.specs.declared.tree_sink.TreeSink.{Ghosts as TreeGhosts}
-use Rattle.html_builder_laws.specs.Usable.{Usable}
+use Rattle.html_rules_laws.specs.Usable.{Usable}
 use Rattle.html_rules.specs.State.{hushed}
 use Rattle.html_tokens.specs.Notes.{noting_error, without_notes}
 use Rattle.html_tokens.specs.Reading.{erred_by}

@@ -7,7 +7,7 @@ use Rattle.markup.specs.declared.names.QualName.{QualName}
 use Rattle.markup.specs.TreeLaws.{with_errors}
 use Rattle.markup.specs.declared.fault.ParseFault.{ParseFault}
 use Rattle.markup.specs.declared.tree_sink.TreeSink.{Ghosts as TreeGhosts}
-use Rattle.html_builder_laws.specs.Usable.{Usable}
+use Rattle.html_rules_laws.specs.Usable.{Usable}
 use Rattle.html_rules.specs.Documents.{Setting, before_document, before_fragment, tokenizer_state}
 use Rattle.html_rules.specs.ForeignContent.{asks_cdata}
 use Rattle.html_rules.specs.Names.{flags_of, namespace_of}

@@ -1,7 +1,7 @@
 //! Parsers of documents (HTML Standard, section 13.2).
 ghost use Rattle.std.specs.Prelude.{◌≡◌, IfOk, IfSome, IsOk, None, false, true};
 ghost use Rattle.markup.specs.Forest.{above_of};
-ghost use Rattle.html_builder_laws.specs.Usable.{Usable};
+ghost use Rattle.html_rules_laws.specs.Usable.{Usable};
 ghost use Rattle.html_rules.specs.State.{hushed};
 ghost use Rattle.html_tokens.specs.TextState.{is_text_state};
 ghost use Rattle.html_tree_builder.specs.States.{answers_of, built, setting_of};

@@ -35,3 +35,8 @@ pub mod Tame
 pub mod TotalRows
 pub mod Upright
 pub mod Uses
+pub mod Grown
+pub mod Larger
+pub mod UsableTokens
+pub mod TokensTaken
+pub mod BuilderSteps

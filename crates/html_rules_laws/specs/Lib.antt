@@ -1,4 +1,5 @@
 pub mod Adoptions
+pub mod Coming
 pub mod EachText
 pub mod Errors
 pub mod Held
@@ -12,4 +13,5 @@ pub mod Sink
 pub mod Sound
 pub mod Soundness
 pub mod Upright
+pub mod Usable
 pub mod WholeTable

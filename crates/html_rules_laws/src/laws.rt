@@ -9,6 +9,7 @@ ghost use Rattle.html_rules_laws.specs.Settled.{IsEachTokenSettled};
 ghost use Rattle.html_rules_laws.specs.Sink.{AreRulesLawful};
 ghost use Rattle.html_rules_laws.specs.Soundness.{AreActionsStanding};
 ghost use Rattle.html_rules_laws.specs.Upright.{AreStatesSteady};
+ghost use Rattle.html_rules_laws.specs.Usable.{AreStatesUsable};
 
 /// The rules do not look at the number of errors, and only count it on.
 pub fn errors_are_counted()
@@ -72,4 +73,9 @@ pub fn each_text_has_a_document()
 /// end tag there, and the last start tag has the name of the current node; and the state fits its mode.
 pub fn text_mode_comes_with_raw_text()
     ensures { AreJoint }
+{}
+
+/// With usable states the rules are a lawful sink, and documents and fragments begin in such states.
+pub fn usable_states_are_lawful()
+    ensures { AreStatesUsable }
 {}

@@ -2,7 +2,7 @@
 use Rattle.std.specs.Prelude.{ℕ, ◌+◌, ◌*◌, List, length}
 use Rattle.html_tokens.specs.declared.token.Token.{Token}
 use Rattle.html_tokens.specs.declared.token.Token.TheVariants.{CharacterTokens}
-use Rattle.html_builder_laws.specs.Coming.{came_of}
+use Rattle.html_rules_laws.specs.Coming.{came_of}
 use Rattle.html_rules.specs.State.{Open, State}
 
 -- the turns of a token that is no text, as the rules take them; those of texts are not counted

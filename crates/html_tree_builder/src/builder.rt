@@ -2,7 +2,7 @@
 ghost use Rattle.std.specs.Prelude.{◌≡◌, false, IfErr, IfOk, IfSome, IsSome, None, Some, codes};
 ghost use Rattle.markup.specs.Forest.{above_of, data_of, element_name};
 ghost use Rattle.markup.specs.declared.fault.ParseFault.TheVariants.{Memory};
-ghost use Rattle.html_builder_laws.specs.Usable.{Usable};
+ghost use Rattle.html_rules_laws.specs.Usable.{Usable};
 ghost use Rattle.html_rules.specs.Documents.{before_document, before_fragment, tokenizer_state};
 ghost use Rattle.html_stack.specs.Stacks.{open_of};
 ghost use Rattle.html_rules.specs.Names.{Html, element_name_of};

@@ -2,8 +2,8 @@
 ghost use Rattle.std.specs.Prelude.{◌≡◌, ◌≤◌, ◌+◌, [], false, true, IfErr, OnOk};
 ghost use Rattle.markup.specs.declared.fault.ParseFault.TheVariants.{Memory};
 ghost use Rattle.html_tokens.specs.Sink.{Counts, Gives, OnRefused, fails, tells_failed};
-ghost use Rattle.html_builder_laws.specs.Coming.{IsTaken};
-ghost use Rattle.html_builder_laws.specs.Usable.{Usable};
+ghost use Rattle.html_rules_laws.specs.Coming.{IsTaken};
+ghost use Rattle.html_rules_laws.specs.Usable.{Usable};
 ghost use Rattle.html_rules.specs.State.{hushed};
 ghost use Rattle.html_rules.specs.Step.{is_barred, is_barred_in_text, is_quiet, step};
 ghost use Rattle.html_rules_laws.specs.Soundness.{AreOpened};
@@ -150,8 +150,8 @@ impl<Sink: TreeSink> TokenSink for TreeBuilder<Sink> {
     ghost use Rattle.html_rules.specs.ForeignContent.{asks_cdata};
     ghost use Rattle.html_rules.specs.State.{State, hushed};
     ghost use Rattle.html_rules.specs.Step.{ended, is_quiet, step};
-    ghost use Rattle.html_builder_laws.proofs.UsableTokens.{usable_laws};
-    ghost use Rattle.html_builder_laws.specs.Usable.{Usable};
+    ghost use Rattle.html_rules_laws.proofs.UsableTokens.{usable_laws};
+    ghost use Rattle.html_rules_laws.specs.Usable.{Usable};
     ghost use Rattle.html_tree_builder.specs.States.{built};
 
     type Handle = Sink::Handle;

@@ -2,8 +2,8 @@
 ghost use Rattle.std.specs.Prelude.{◌≡◌, ◌≤◌, ◌+◌, [], false, IfErr, IfOk, OnOk};
 ghost use Rattle.std.specs.Str.{chars};
 ghost use Rattle.markup.specs.declared.fault.ParseFault.TheVariants.{Memory};
-ghost use Rattle.html_builder_laws.specs.Coming.{came_of};
-ghost use Rattle.html_builder_laws.specs.Usable.{Usable};
+ghost use Rattle.html_rules_laws.specs.Coming.{came_of};
+ghost use Rattle.html_rules_laws.specs.Usable.{Usable};
 ghost use Rattle.html_rules.specs.Actions.{set_ignore_lf};
 ghost use Rattle.html_rules.specs.Choice.{choose};
 ghost use Rattle.html_tokens.specs.Sink.{numbered};

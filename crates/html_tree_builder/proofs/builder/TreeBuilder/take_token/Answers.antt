@@ -1,6 +1,6 @@
 use Rattle.std.proofs.Common.{sym}
 use Rattle.html_rules.specs.State.{hushed}
-use Rattle.html_builder_laws.proofs.BuilderSteps.{counts-taken, gives-taken, refuses-barred, refuses-ended, sound-taken}
+use Rattle.html_rules_laws.proofs.BuilderSteps.{counts-taken, gives-taken, refuses-barred, refuses-ended, sound-taken}
 use Rattle.html_tree_builder.specs.States.{built}
 use Rattle.html_tree_builder.proofs.builder.TreeBuilder.take_token.Goals as goal
 

@@ -3,7 +3,7 @@ use denote.Text.{Utf8}
 use denote.Shadow.{shadow}
 use Rattle.std.specs.Str.{chars}
 use Rattle.html_rules.specs.Step.{text_taken, untouched}
-use Rattle.html_builder_laws.specs.Usable.{Usable}
+use Rattle.html_rules_laws.specs.Usable.{Usable}
 use Rattle.html_tree_builder.specs.States.{built}
 use Rattle.html_tree_builder.proofs.construction.Construction.take_text.Given as goal
 

@@ -1,5 +1,0 @@
-use Rattle.html_builder_laws.proofs.UsableTokens.{states-usable}
-use Rattle.html_builder_laws.proofs.laws.usable_states_are_lawful.Goals as goal
-
-pub returns : goal.returns
-returns c = states-usable

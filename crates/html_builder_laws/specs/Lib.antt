@@ -1,2 +1,0 @@
-pub mod Usable
-pub mod Coming

@@ -1,5 +1,0 @@
-//! Trees that are planted in a forest: just these are added, and are what is walked and written of it afterwards (HTML Standard,
-//! section 13.3).
-#![tactic(auto)]
-
-pub mod laws;

@@ -1,6 +1,0 @@
-use Rattle.std.proofs.Common.{false}
-use Rattle.html_read_back.proofs.Flow.{comment-reads}
-use Rattle.html_read_back.proofs.laws.comments_are_read.Goals as goal
-
-pub returns : goal.returns
-returns c rows reads o head b n top os last f es ok text plain good home = comment-reads rows reads false o head b n top os last f es ok text plain good home

@@ -1,5 +1,0 @@
-use Rattle.html_read_back.proofs.Document.{bytes-stable}
-use Rattle.html_read_back.proofs.laws.plain_bytes_write_themselves.Goals as goal
-
-pub returns : goal.returns
-returns c rows reads exact o scripting f judged left given = bytes-stable rows reads scripting o exact f judged left given

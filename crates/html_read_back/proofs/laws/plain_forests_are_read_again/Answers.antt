@@ -1,5 +1,0 @@
-use Rattle.html_read_back.proofs.Document.{forest-again}
-use Rattle.html_read_back.proofs.laws.plain_forests_are_read_again.Goals as goal
-
-pub returns : goal.returns
-returns c rows reads exact o scripting f judged = forest-again rows reads scripting o exact f judged

@@ -1,5 +1,0 @@
-use Rattle.html_read_back.proofs.Trees.{law}
-use Rattle.html_read_back.proofs.laws.plain_trees_are_read.Goals as goal
-
-pub returns : goal.returns
-returns c rows reads sc o head trees place after_text plain = law rows reads sc o head trees place after_text plain

@@ -1,5 +1,0 @@
-use Rattle.html_read_back.proofs.Document.{document-back}
-use Rattle.html_read_back.proofs.laws.written_documents_are_read_back.Goals as goal
-
-pub returns : goal.returns
-returns c rows reads exact o scripting trees plain = document-back rows reads scripting o exact trees plain

@@ -1,0 +1,3 @@
+pub mod Planting
+pub mod ReadBack
+pub mod Slices
