@@ -1,7 +1,6 @@
 -- No step of the rules makes a tree smaller.
 use Rattle.std.proofs.Common.{◌≡◌, ◌∙◌, ℕ, zero, suc, ◌<◌, ◌≤◌, Bool, true, false, List, [], ◌∷◌, Option, Some, None, refl, arith, true≢false}
-use Rattle.std.specs.Prelude.{length, cond, ◌+◌, ◌++◌, ◌==◌, ◌&&◌, ◌||◌, not, codes}
-use Rattle.std.specs.List.{list_all}
+use Rattle.std.specs.Prelude.{length, cond, ◌+◌, ◌++◌, ◌==◌, ◌||◌, codes}
 use Rattle.std.proofs.lemmas.List.{length-set, length-append}
 use Rattle.markup.specs.Forest.{Forest, NodeData, Place, Last, add_attributes, children_of, create_element, data_if, data_of, joined_text, node_count, parent_at, parent_of, previous_at, without, put, put_text, remove, remove_under, reparent_children, text_of, with_children, with_data, with_node}
 use Rattle.markup.specs.Forest.NodeData.{Text, Contents, Element}
@@ -11,24 +10,21 @@ use Rattle.markup.specs.declared.quirks.QuirksMode.{QuirksMode}
 use Rattle.markup.specs.declared.flags.ElementFlags.{ElementFlags}
 use Rattle.html_tokens.specs.declared.tags.Tag.{Tag}
 use Rattle.html_tokens.specs.declared.token.Token.{Token}
-use Rattle.html_tokens.specs.declared.token.Token.TheVariants.{TagToken}
-use Rattle.html_rules.specs.Actions.{act, append_in_body, back_to_original, for_tag, forget_form_elem, frameset_not_ok, frameset_not_ok_unless_white, keep_mode, keep_text, pop_template_mode, push_head, push_head_elem, push_template_mode, remove_form_elem, remove_from_stack_if, remove_head_elem, set_foster_parenting, set_form_elem, set_head_elem, set_ignore_lf, set_mode, set_quirks_mode, set_template_mode, tell_pending_text, tell_text}
-use Rattle.html_rules.specs.Adoption.{Turned, Walk, adopt, adopt_from, adopt_listed, adopt_open, adoption_agency, adoption_turn, adoption_turns, begin_walk, between, close_misnested, copy_if, error_if_not_current, furthest_block, handle_misnested_a_tags, is_number, listed_as, opened_after, opened_before, unlist, walk, with_copy}
-use Rattle.html_rules.specs.Choice.{choose}
+use Rattle.html_rules.specs.Actions.{act, back_to_original, for_tag, forget_form_elem, frameset_not_ok, frameset_not_ok_unless_white, keep_mode, keep_text, pop_template_mode, push_head, push_head_elem, push_template_mode, remove_form_elem, remove_head_elem, set_foster_parenting, set_form_elem, set_head_elem, set_ignore_lf, set_mode, set_quirks_mode, set_template_mode, tell_pending_text}
+use Rattle.html_rules.specs.Adoption.{Walk, adopt, adopt_from, begin_walk, between, copy_if, handle_misnested_a_tags, listed_as, opened_before, walk, with_copy}
 use Rattle.html_rules.specs.Conditions.{holds}
-use Rattle.html_rules.specs.ForeignContent.{ForeignEnd, Closed, close_foreign, close_foreign_by, enter_foreign, foreign_end, foreign_start, foreign_start_at, pop_foreign}
-use Rattle.html_rules.specs.Formatting.{Listed, clear_active_formatting_to_marker, create_formatting_element_for, is_listed, last_named, list_current, push_marker, reconstruct_active_formatting_elements, reopen, with_room}
+use Rattle.html_rules.specs.ForeignContent.{close_foreign, enter_foreign, foreign_end, foreign_start, pop_foreign}
+use Rattle.html_rules.specs.Formatting.{Listed, clear_active_formatting_to_marker, create_formatting_element_for, last_named, push_marker}
 use Rattle.html_rules.specs.Names.{Namespace, Html, element_name_of, flags_of}
 use Rattle.html_rules.specs.Places.{append_comment, append_comment_to_doc, append_comment_to_html, append_text, appropriate_place, create_root, insert_and_pop_element_for, insert_element, insert_element_for, open_element, place_for, put_element, with_element}
-use Rattle.html_rules.specs.Renames.{adjust_attributes, adjust_tag_name}
 use Rattle.html_rules.specs.Reset.{reset_insertion_mode}
-use Rattle.html_rules.specs.Stack.{add_attributes_to, add_attributes_to_body, add_attributes_to_root, body_elem, check_body_end, close_item, close_item_named, close_p_element, close_p_element_in_button_scope, expect_to_close, finds_generic, generate_implied_end_except, generate_implied_end_tags, in_scope, is_open, item_name, parse_error, pop, pop_but_root, pop_until, pop_until_current, process_end_tag_in_body, remove_body, remove_from_stack, remove_if, root_number}
-use Rattle.html_rules.specs.State.{Entry, Element as ListedElement, Marker, Open, State, adjusted_current_node, current_is, current_node, current_number, is_in, is_named}
-use Rattle.html_rules.specs.Table.{Action, Then, When, ParseError, InsertElement, InsertVoid, InsertVoidAs, InsertFormVoid, InsertNew, InsertNewVoid, CreateRoot, CreateNewRoot, AppendText, AppendReplacement, AppendComment, AppendCommentToDocument, AppendCommentToRoot, InsertTemplate, AddAttributesToRoot, AddAttributesToBody, RemoveBody, PopUntil, Close, CloseToken, CloseP, CloseItem, ImpliedEndTagsExcept, ImpliedEndTagsExceptToken, AnyOtherEndTag, CheckBodyEnd, SetHeadElem, PushHeadElem, RemoveHeadElem, SetFormElem, RemoveFormElem, ForgetFormElem, Reconstruct, InsertFormatting, AdoptionAgency, AdoptNobr, CloseMisnestedA, SetQuirks, FramesetNotOkUnlessWhite, EnableFosterParenting, DisableFosterParenting, TellPendingText, EnterForeign, InsertForeign, CloseForeign}
-use Rattle.html_rules.specs.Templates.{attach_shadow_root, insert_template, may_be_shadow_root, number_of}
-use Rattle.html_rules.specs.Tokens.{attributes_of, is_white, name_of}
-use Rattle.html_rules.specs.declared.tag_set.TagSet.{TagSet}
+use Rattle.html_rules.specs.Stack.{add_attributes_to, add_attributes_to_body, add_attributes_to_root, body_elem, close_item, expect_to_close, generate_implied_end_tags, parse_error, pop_but_root, pop_until, pop_until_current, remove_body, remove_if, root_number}
+use Rattle.html_rules.specs.State.{Open, State, adjusted_current_node, current_node, is_in, is_named}
+use Rattle.html_rules.specs.Table.{Action, Then, When, ParseError, InsertElement, InsertVoid, InsertVoidAs, InsertFormVoid, InsertNew, InsertNewVoid, CreateRoot, CreateNewRoot, AppendText, AppendReplacement, AppendComment, AppendCommentToDocument, AppendCommentToRoot, InsertTemplate, AddAttributesToRoot, AddAttributesToBody, RemoveBody, PopUntil, Close, CloseToken, CloseP, CloseItem, ImpliedEndTagsExcept, ImpliedEndTagsExceptToken, AnyOtherEndTag, CheckBodyEnd, SetHeadElem, PushHeadElem, RemoveHeadElem, SetFormElem, RemoveFormElem, ForgetFormElem, Reconstruct, InsertFormatting, AdoptionAgency, AdoptNobr, CloseMisnestedA, SetQuirks, FramesetNotOkUnlessWhite, TellPendingText, EnterForeign, InsertForeign, CloseForeign}
+use Rattle.html_rules.specs.Templates.{insert_template}
+use Rattle.html_rules.specs.Tokens.{attributes_of, name_of}
 use Rattle.html_rules.specs.declared.tag_set.TagSet.TheVariants as set
+use Rattle.html_rules_laws.proofs.KeptBySteps.{IsKeptBySteps, agency-keeps, check-keeps, close_by-keeps, close_item-keeps, close_p-keeps, either-keeps, enter-keeps, except-keeps, expect_to_close-keeps, for_tag-keeps, foreign-keeps, generic-keeps, insert-keeps, list-keeps, misnested-keeps, pop_until-keeps, pop_until_current-keeps, push_head-keeps, reconstruct-keeps, tell-keeps, template-keeps, unopened-keeps}
 
 -- a tree has no fewer nodes than another
 pub record IsGrown (f g : Forest) : Type 0 where
@@ -123,15 +119,8 @@ Grows step = (s : State) → IsKept s (step s)
 kept-after : (s r q : State) → IsKept s r → IsKept r q → IsKept s q
 kept-after s r q h k = record { grown = grown-after s.forest r.forest q.forest h.grown k.grown; head = k.head ∙ h.head; form = k.form ∙ h.form; context = k.context ∙ h.context }
 
-kept-choose : (b : Bool) (s x y : State) → IsKept s x → IsKept s y → IsKept s (choose b (λ _. x) (λ _. y))
-kept-choose true s x y a b = a
-kept-choose false s x y a b = b
-
 kept-same : (s : State) → IsKept s s
 kept-same s = record { grown = grown-same s.forest; head = refl; form = refl; context = refl }
-
-then-grows : (one other : State → State) → Grows one → Grows other → Grows (λ s. other (one s))
-then-grows one other a b s = kept-after s (one s) (other (one s)) (a s) (b (one s))
 
 pub parse_error-grows : Grows parse_error
 unfolding parse_error
@@ -185,74 +174,6 @@ remove_if-grows : (o : Option ℕ) → Grows (remove_if o)
 remove_if-grows None s = record { grown = grown-same s.forest; head = refl; form = refl; context = refl }
 remove_if-grows (Some n) s = record { grown = grown-removed s.forest n; head = refl; form = refl; context = refl }
 
-remove_body-grows : Grows remove_body
-unfolding remove_body pop_until_current
-remove_body-grows s = let is = remove_if-grows (body_elem s.open_elems) s in record { grown = record { nodes = is.grown.nodes }; head = is.head; form = is.form; context = is.context }
-
-pop_until-grows : (p : Open → Bool) → Grows (pop_until p)
-unfolding pop_until
-pop_until-grows p s = record { grown = grown-same s.forest; head = refl; form = refl; context = refl }
-
-pop-grows : Grows pop
-unfolding pop
-pop-grows s = record { grown = grown-same s.forest; head = refl; form = refl; context = refl }
-
-expect_to_close-grows : (p : Open → Bool) → Grows (expect_to_close p)
-unfolding expect_to_close
-expect_to_close-grows p s = kept-choose (current_is p s.open_elems) s (pop_until p s) (pop_until p (parse_error s)) (pop_until-grows p s) (then-grows parse_error (pop_until p) parse_error-grows (pop_until-grows p) s)
-
-except-grows : (p : Open → Bool) → Grows (generate_implied_end_except p)
-unfolding generate_implied_end_except
-except-grows p s = record { grown = grown-same s.forest; head = refl; form = refl; context = refl }
-
-closed-grows : (p : Open → Bool) → Grows (λ s. expect_to_close p (generate_implied_end_except p s))
-closed-grows p = then-grows (generate_implied_end_except p) (expect_to_close p) (except-grows p) (expect_to_close-grows p)
-
-close_p-grows : Grows close_p_element
-unfolding close_p_element
-close_p-grows s = closed-grows (is_in set.P) s
-
-close_p_in_scope-grows : Grows close_p_element_in_button_scope
-unfolding close_p_element_in_button_scope
-close_p_in_scope-grows s = kept-choose (in_scope set.ButtonScope (is_in set.P) s.open_elems) s (close_p_element s) s (close_p-grows s) (kept-same s)
-
-close_named-grows : (o : Option (List ℕ)) → Grows (close_item_named o)
-close_named-grows None s = record { grown = grown-same s.forest; head = refl; form = refl; context = refl }
-close_named-grows (Some name) s = closed-grows (is_named name) s
-
-close_item-grows : (items : TagSet) → Grows (close_item items)
-unfolding close_item
-close_item-grows items s = close_named-grows (item_name items s.open_elems) s
-
-generic-grows : (name : List ℕ) → Grows (process_end_tag_in_body name)
-unfolding process_end_tag_in_body
-generic-grows name s = kept-choose (finds_generic (is_named name) s.open_elems) s _ (parse_error s) (closed-grows (is_named name) s) (parse_error-grows s)
-
-check-grows : Grows check_body_end
-unfolding check_body_end
-check-grows s = kept-choose (list_all (is_in set.BodyEnd) s.open_elems) s s (parse_error s) (kept-same s) (parse_error-grows s)
-
-formatting-grows : (tag : Tag) → Grows (create_formatting_element_for tag)
-unfolding create_formatting_element_for
-formatting-grows tag s =
-    let r : State = record s { active_formatting = with_room tag s.active_formatting } in
-    let is = insert_element-grows Html tag.name tag.attrs tag.had_duplicate_attributes r in
-    record { grown = is.grown; head = is.head; form = is.form; context = is.context }
-
-listed-kept : (tag : Tag) (s r : State) → IsKept s r → IsKept s (list_current tag r)
-listed-kept tag s r is = record { grown = is.grown; head = is.head; form = is.form; context = is.context }
-
-reopen-grows : (entries : List Entry) → Grows (reopen entries)
-reopen-grows [] s = record { grown = grown-same s.forest; head = refl; form = refl; context = refl }
-reopen-grows (Marker ∷ entries) s = record { grown = grown-same s.forest; head = refl; form = refl; context = refl }
-reopen-grows (ListedElement n tag ∷ entries) s =
-    kept-choose (is_open n s.open_elems) s _ (list_current tag (insert_element_for tag (reopen entries s))) (record { grown = grown-same s.forest; head = refl; form = refl; context = refl })
-    (listed-kept tag s (insert_element_for tag (reopen entries s)) (then-grows (reopen entries) (insert_element_for tag) (reopen-grows entries) (insert_element-grows Html tag.name tag.attrs tag.had_duplicate_attributes) s))
-
-reconstruct-grows : Grows reconstruct_active_formatting_elements
-unfolding reconstruct_active_formatting_elements
-reconstruct-grows s = reopen-grows s.active_formatting s
-
 -- the adoption agency
 
 grown-copied : (listed : Listed) (w : Walk) → IsGrown w.forest (copy_if (Some listed) w).forest
@@ -288,124 +209,37 @@ adopt_from-grows fe (Some block) s =
     let w : Walk = walk 3 (between fe block s) (begin_walk block s) in
     record { grown = grown-after s.forest w.forest _ (grown-walk 3 (between fe block s) (begin_walk block s)) (grown-adopted fe block w s); head = refl; form = refl; context = refl }
 
-erred-grows : (fe : Listed) → Grows (error_if_not_current fe)
-erred-grows fe s = kept-choose (current_is (is_number fe.number) s.open_elems) s s (parse_error s) (kept-same s) (parse_error-grows s)
-
-turned-choose : (b : Bool) (s : State) (x y : Turned) → IsKept s x.state → IsKept s y.state → IsKept s (choose b (λ _. x) (λ _. y)).state
-turned-choose true s x y a b = a
-turned-choose false s x y a b = b
-
-adopt_listed-grows : (o : Option Listed) (name : List ℕ) (s : State) → IsKept s (adopt_listed o name s).state
-adopt_listed-grows None name s = generic-grows name s
-adopt_listed-grows (Some fe) name s =
-    let x : Turned = adopt_open fe s in
-    let opened = kept-after s (error_if_not_current fe s) x.state (erred-grows fe s) (adopt_from-grows fe (furthest_block (opened_after fe.number s.open_elems)) (error_if_not_current fe s)) in
-    let unlisted : Turned = record { state = unlist fe (parse_error s); goes_on = false } in
-    let erred : Turned = record { state = parse_error s; goes_on = false } in
-    let is = parse_error-grows s in
-    turned-choose (not (is_open fe.number s.open_elems)) s unlisted (choose (not (in_scope set.DefaultScope (is_number fe.number) s.open_elems)) (λ _. erred) (λ _. x)) (record { grown = is.grown; head = is.head; form = is.form; context = is.context })
-    (turned-choose (not (in_scope set.DefaultScope (is_number fe.number) s.open_elems)) s erred x is opened)
-
-turn-grows : (name : List ℕ) (s : State) → IsKept s (adoption_turn name s).state
-unfolding adoption_turn
-turn-grows name s = adopt_listed-grows (last_named name s.active_formatting) name s
-
-turns-grow : (n : ℕ) (name : List ℕ) → Grows (adoption_turns n name)
-unfolding adoption_turns
-turns-grow zero name s = record { grown = grown-same s.forest; head = refl; form = refl; context = refl }
-turns-grow (suc n) name s =
-    let turned : Turned = adoption_turn name s in
-    kept-choose turned.goes_on s (adoption_turns n name turned.state) turned.state
-    (kept-after s turned.state _ (turn-grows name s) (turns-grow n name turned.state)) (turn-grows name s)
-
-agency-grows : (name : List ℕ) → Grows (adoption_agency name)
-unfolding adoption_agency
-agency-grows name s = kept-choose (current_is (is_named name) s.open_elems && not (is_listed (current_number s.open_elems) s.active_formatting)) s (pop s) (adoption_turns 8 name s) (pop-grows s) (turns-grow 8 name s)
-
-without-grows : (n : ℕ) → Grows (remove_from_stack n)
-unfolding remove_from_stack
-without-grows n s = record { grown = grown-same s.forest; head = refl; form = refl; context = refl }
-
-misnested-grows : (o : Option Listed) → Grows (close_misnested o)
-misnested-grows None s = record { grown = grown-same s.forest; head = refl; form = refl; context = refl }
-misnested-grows (Some a) s =
-    let after : State = adoption_agency (codes "a") (parse_error s) in
-    let is = then-grows parse_error (adoption_agency (codes "a")) parse_error-grows (agency-grows (codes "a")) s in
-    kept-after s (unlist a after) _ (record { grown = is.grown; head = is.head; form = is.form; context = is.context }) (without-grows a.number (unlist a after))
-
-close_a-grows : Grows handle_misnested_a_tags
-unfolding handle_misnested_a_tags
-close_a-grows s = misnested-grows (last_named (codes "a") s.active_formatting) s
-
--- texts, templates and foreign content
-
-foster-grows : (b : Bool) → Grows (set_foster_parenting b)
-unfolding set_foster_parenting
-foster-grows b s = record { grown = grown-same s.forest; head = refl; form = refl; context = refl }
-
 white-grows : (text : List ℕ) → Grows (frameset_not_ok_unless_white text)
 unfolding frameset_not_ok_unless_white
 white-grows text s = record { grown = grown-same s.forest; head = refl; form = refl; context = refl }
 
-in_body-grows : (text : List ℕ) → Grows (append_in_body text)
-in_body-grows text = then-grows reconstruct_active_formatting_elements (λ s. append_text text (frameset_not_ok_unless_white text s)) reconstruct-grows (then-grows (frameset_not_ok_unless_white text) (append_text text) (white-grows text) (append_text-grows text))
-
-tell-grows : (text : List ℕ) → Grows (tell_text text)
-tell-grows text s =
-    kept-choose (is_white text) s (append_text text s) _ (append_text-grows text s)
-    (then-grows parse_error (λ s. set_foster_parenting false (append_in_body text (set_foster_parenting true s))) parse_error-grows
-    (then-grows (set_foster_parenting true) (λ s. set_foster_parenting false (append_in_body text s)) (foster-grows true)
-    (then-grows (append_in_body text) (set_foster_parenting false) (in_body-grows text) (foster-grows false))) s)
-
-pending-grows : Grows tell_pending_text
-unfolding tell_pending_text
-pending-grows s = let is = tell-grows s.pending_table_text s in record { grown = record { nodes = is.grown.nodes }; head = is.head; form = is.form; context = is.context }
-
-attach-grows : (tag : Tag) (host : ℕ) → Grows (attach_shadow_root tag host)
-attach-grows tag host s = kept-choose _ s s _ (kept-same s) (then-grows pop (insert_element_for tag) pop-grows (insert_element-grows Html tag.name tag.attrs tag.had_duplicate_attributes) s)
-
-template-grows : (tag : Tag) → Grows (insert_template tag)
-unfolding insert_template
-template-grows tag s =
-    kept-choose (may_be_shadow_root tag s) s _ (insert_element_for tag s)
-    (then-grows (open_element Html tag.name tag.attrs tag.had_duplicate_attributes) (attach_shadow_root tag (number_of (adjusted_current_node s))) (open_element-grows Html tag.name tag.attrs tag.had_duplicate_attributes) (attach-grows tag (number_of (adjusted_current_node s))) s)
-    (insert_element-grows Html tag.name tag.attrs tag.had_duplicate_attributes s)
-
-enter-grows : (namespace : Namespace) (tag : Tag) → Grows (enter_foreign namespace tag)
-unfolding enter_foreign
-enter-grows namespace tag s = kept-choose tag.self_closing s _ _ (put_element-grows namespace tag.name (adjust_attributes namespace tag.attrs) tag.had_duplicate_attributes s) (insert_element-grows namespace tag.name (adjust_attributes namespace tag.attrs) tag.had_duplicate_attributes s)
-
-foreign_at-grows : (o : Option Open) (tag : Tag) → Grows (foreign_start_at o tag)
-foreign_at-grows None tag s = record { grown = grown-same s.forest; head = refl; form = refl; context = refl }
-foreign_at-grows (Some x) tag s = enter-grows x.namespace (record tag { name = adjust_tag_name x.namespace tag.name }) s
-
-foreign-grows : (tag : Tag) → Grows (foreign_start tag)
-unfolding foreign_start
-foreign-grows tag s = foreign_at-grows (adjusted_current_node s) tag s
-
-close_by-grows : (e : ForeignEnd) → Grows (close_foreign_by e)
-close_by-grows (Closed left) s = record { grown = grown-same s.forest; head = refl; form = refl; context = refl }
-close_by-grows _ s = record { grown = grown-same s.forest; head = refl; form = refl; context = refl }
-
-close_foreign-grows : (name : List ℕ) → Grows (close_foreign name)
-unfolding close_foreign
-close_foreign-grows name s = close_by-grows (foreign_end name s) s
-
-stack_if-grows : (o : Option ℕ) → Grows (remove_from_stack_if o)
-stack_if-grows None s = record { grown = grown-same s.forest; head = refl; form = refl; context = refl }
-stack_if-grows (Some n) s = without-grows n s
-
-push_head-grows : (o : Option ℕ) → Grows (push_head o)
-push_head-grows None s = record { grown = grown-same s.forest; head = refl; form = refl; context = refl }
-push_head-grows (Some n) s = record { grown = grown-same s.forest; head = refl; form = refl; context = refl }
-
-tag-grows : (step : Tag → State → State) → ((tag : Tag) → Grows (step tag)) → (t : Token) → Grows (for_tag step t)
-tag-grows step h (TagToken tag) s = h tag s
-tag-grows step h _ s = record { grown = grown-same s.forest; head = refl; form = refl; context = refl }
-
 quirks-grows : (mode : QuirksMode) → Grows (set_quirks_mode mode)
 unfolding set_quirks_mode
 quirks-grows mode s = record { grown = record { nodes = omega arith }; head = refl; form = refl; context = refl }
+
+pub grown_kept : IsKeptBySteps IsKept
+grown_kept = record {
+  same = kept-same;
+  after = kept-after;
+  stacks = λ s xs entries foster. record { grown = grown-same s.forest; head = refl; form = refl; context = refl };
+  framesets = white-grows;
+  errs = parse_error-grows;
+  texts = append_text-grows;
+  puts = put_element-grows;
+  inserts = insert_element-grows;
+  opens = open_element-grows;
+  adopts = adopt_from-grows;
+  adds = attributes_to-grows;
+  removes = remove_if-grows
+}
+
+formatting-grows : (tag : Tag) → Grows (create_formatting_element_for tag)
+unfolding create_formatting_element_for
+formatting-grows tag s = kept-after s _ _ (grown_kept.stacks s _ _ _) (list-keeps grown_kept tag _)
+
+pending-grows : Grows tell_pending_text
+unfolding tell_pending_text
+pending-grows s = let is = tell-keeps grown_kept s.pending_table_text s in record { grown = record { nodes = is.grown.nodes }; head = is.head; form = is.form; context = is.context }
 
 or_parts : (a b : Bool) → (a || b) ≡ false → (a ≡ false) × (b ≡ false)
 or_parts true b e = absurd (true≢false e)
@@ -423,15 +257,15 @@ sets_pointer _ = false
 
 -- no action makes a tree smaller, and any other one keeps the pointers
 pub act-grows : (a : Action) → sets_pointer a ≡ false → (t : Token) → Grows (act a t)
-unfolding pop_but_root pop_until_current generate_implied_end_tags set_head_elem push_head_elem remove_head_elem set_form_elem remove_form_elem forget_form_elem push_marker clear_active_formatting_to_marker set_mode keep_mode back_to_original reset_insertion_mode push_template_mode set_template_mode pop_template_mode frameset_not_ok set_ignore_lf keep_text pop_foreign
+unfolding pop_but_root pop_until_current remove_body handle_misnested_a_tags foreign_start close_foreign set_foster_parenting generate_implied_end_tags set_head_elem push_head_elem remove_head_elem set_form_elem remove_form_elem forget_form_elem push_marker clear_active_formatting_to_marker set_mode keep_mode back_to_original reset_insertion_mode push_template_mode set_template_mode pop_template_mode frameset_not_ok set_ignore_lf keep_text pop_foreign
 act-grows (Then a b) e t s =
     let each = or_parts (sets_pointer a) (sets_pointer b) e in
     kept-after s (act a t s) (act b t (act a t s)) (act-grows a each.0 t s) (act-grows b each.1 t (act a t s))
-act-grows (When c a) e t s = kept-choose (holds c t s) s (act a t s) s (act-grows a e t s) (kept-same s)
+act-grows (When c a) e t s = either-keeps grown_kept (holds c t s) s (act a t s) s (act-grows a e t s) (kept-same s)
 act-grows ParseError e t s = parse_error-grows s
-act-grows InsertElement e t s = tag-grows insert_element_for (λ tag. insert_element-grows Html tag.name tag.attrs tag.had_duplicate_attributes) t s
-act-grows InsertVoid e t s = tag-grows insert_and_pop_element_for (λ tag. put_element-grows Html tag.name tag.attrs tag.had_duplicate_attributes) t s
-act-grows (InsertVoidAs name) e t s = tag-grows (λ tag. insert_and_pop_element_for (record tag { name = name })) (λ tag. put_element-grows Html name tag.attrs tag.had_duplicate_attributes) t s
+act-grows InsertElement e t s = for_tag-keeps grown_kept insert_element_for t (insert-keeps grown_kept) s
+act-grows InsertVoid e t s = for_tag-keeps grown_kept insert_and_pop_element_for t (λ tag. put_element-grows Html tag.name tag.attrs tag.had_duplicate_attributes) s
+act-grows (InsertVoidAs name) e t s = for_tag-keeps grown_kept (λ tag. insert_and_pop_element_for (record tag { name = name })) t (λ tag. put_element-grows Html name tag.attrs tag.had_duplicate_attributes) s
 act-grows (InsertNew name) e t s = insert_element-grows Html name [] false s
 act-grows (InsertNewVoid name) e t s = put_element-grows Html name [] false s
 act-grows CreateRoot e t s = create_root-grows (attributes_of t) s
@@ -441,34 +275,32 @@ act-grows AppendReplacement e t s = append_text-grows _ s
 act-grows AppendComment e t s = append_comment-grows _ s
 act-grows AppendCommentToDocument e t s = comment_to_doc-grows _ s
 act-grows AppendCommentToRoot e t s = comment_to_html-grows _ s
-act-grows InsertTemplate e t s = tag-grows insert_template template-grows t s
+act-grows InsertTemplate e t s = for_tag-keeps grown_kept insert_template t (template-keeps grown_kept) s
 act-grows AddAttributesToRoot e t s = root_attributes-grows (attributes_of t) s
 act-grows AddAttributesToBody e t s = body_attributes-grows (attributes_of t) s
-act-grows RemoveBody e t s = remove_body-grows s
-act-grows (PopUntil set) e t s = pop_until-grows (is_in set) s
-act-grows (Close set) e t s = expect_to_close-grows (is_in set) s
-act-grows CloseToken e t s = expect_to_close-grows (is_named (name_of t)) s
-act-grows CloseP e t s = close_p_in_scope-grows s
-act-grows (CloseItem set) e t s = close_item-grows set s
-act-grows (ImpliedEndTagsExcept set) e t s = except-grows (is_in set) s
-act-grows ImpliedEndTagsExceptToken e t s = except-grows (is_named (name_of t)) s
-act-grows AnyOtherEndTag e t s = generic-grows (name_of t) s
-act-grows CheckBodyEnd e t s = check-grows s
-act-grows PushHeadElem e t s = push_head-grows s.head_elem s
-act-grows RemoveHeadElem e t s = stack_if-grows s.head_elem s
-act-grows RemoveFormElem e t s = stack_if-grows s.form_elem s
-act-grows Reconstruct e t s = reconstruct-grows s
-act-grows InsertFormatting e t s = tag-grows create_formatting_element_for formatting-grows t s
-act-grows AdoptionAgency e t s = agency-grows (name_of t) s
-act-grows AdoptNobr e t s = agency-grows (codes "nobr") s
-act-grows CloseMisnestedA e t s = close_a-grows s
+act-grows RemoveBody e t s = kept-after s _ _ (remove_if-grows (body_elem s.open_elems) s) (pop_until_current-keeps grown_kept (is_in set.Html) (remove_if (body_elem s.open_elems) s))
+act-grows (PopUntil set) e t s = pop_until-keeps grown_kept (is_in set) s
+act-grows (Close set) e t s = expect_to_close-keeps grown_kept (is_in set) s
+act-grows CloseToken e t s = expect_to_close-keeps grown_kept (is_named (name_of t)) s
+act-grows CloseP e t s = close_p-keeps grown_kept s
+act-grows (CloseItem set) e t s = close_item-keeps grown_kept set s
+act-grows (ImpliedEndTagsExcept set) e t s = except-keeps grown_kept (is_in set) s
+act-grows ImpliedEndTagsExceptToken e t s = except-keeps grown_kept (is_named (name_of t)) s
+act-grows AnyOtherEndTag e t s = generic-keeps grown_kept (name_of t) s
+act-grows CheckBodyEnd e t s = check-keeps grown_kept s
+act-grows PushHeadElem e t s = push_head-keeps grown_kept s.head_elem s
+act-grows RemoveHeadElem e t s = unopened-keeps grown_kept s.head_elem s
+act-grows RemoveFormElem e t s = unopened-keeps grown_kept s.form_elem s
+act-grows Reconstruct e t s = reconstruct-keeps grown_kept s
+act-grows InsertFormatting e t s = for_tag-keeps grown_kept create_formatting_element_for t formatting-grows s
+act-grows AdoptionAgency e t s = agency-keeps grown_kept (name_of t) s
+act-grows AdoptNobr e t s = agency-keeps grown_kept (codes "nobr") s
+act-grows CloseMisnestedA e t s = misnested-keeps grown_kept (last_named (codes "a") s.active_formatting) s
 act-grows TellPendingText e t s = pending-grows s
-act-grows (EnterForeign namespace) e t s = tag-grows (enter_foreign namespace) (enter-grows namespace) t s
-act-grows InsertForeign e t s = tag-grows foreign_start foreign-grows t s
-act-grows CloseForeign e t s = close_foreign-grows (name_of t) s
+act-grows (EnterForeign namespace) e t s = for_tag-keeps grown_kept (enter_foreign namespace) t (enter-keeps grown_kept namespace) s
+act-grows InsertForeign e t s = for_tag-keeps grown_kept foreign_start t (λ tag s. foreign-keeps grown_kept (adjusted_current_node s) tag s) s
+act-grows CloseForeign e t s = close_by-keeps grown_kept (foreign_end (name_of t) s) s
 act-grows (FramesetNotOkUnlessWhite) e t s = white-grows _ s
-act-grows EnableFosterParenting e t s = foster-grows true s
-act-grows DisableFosterParenting e t s = foster-grows false s
 act-grows SetQuirks e t s = quirks-grows _ s
 act-grows SetHeadElem e t s = absurd (true≢false e)
 act-grows SetFormElem e t s = absurd (true≢false e)

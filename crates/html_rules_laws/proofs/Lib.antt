@@ -12,6 +12,7 @@ pub mod Firm
 pub mod FirmAdoption
 pub mod FirstFit
 pub mod KeptByRows
+pub mod KeptBySteps
 pub mod LouderActions
 pub mod LouderAdoption
 pub mod LouderSteps

@@ -37,6 +37,7 @@ use Rattle.html_rules_laws.proofs.Nesting.Smooth.{Guard, Reaches, ReachesToken, 
 use Rattle.html_rules_laws.proofs.Nesting.Stacks.{drop, frees-same, reach, reach-frees, reach-more}
 use Rattle.html_rules_laws.proofs.Nesting.Steps.{IsFlow, agency-flow, close-flow, close_item-flow, close_p-flow, except-flow, flow-either, flow-frees, flow-push, flow-same, formatting-loose, generic-flow, implied-flow, insert-flow, misnested_a-flow, names-loose, pop_foreign-flow, reconstruct-flow, removed-flow, tell-flow}
 use Rattle.html_rules_laws.proofs.Bools.{no, not_true}
+use Rattle.html_rules_laws.proofs.KeptBySteps.{agency-keeps, check-keeps, close_item-keeps, close_p-keeps, enter-keeps, except-keeps, expect_to_close-keeps, generic-keeps, insert-keeps, list-keeps, misnested-keeps, pop_until-keeps, pop_until_current-keeps, reconstruct-keeps, tell-keeps, unopened-keeps}
 
 -- a token that does not name a part
 abbrev pub other_kind : Kind → Part → Bool
@@ -225,27 +226,27 @@ tag-framed step t h s = framed.same s
 
 pending-framed : (s : State) → IsFramed s (tell_pending_text s)
 unfolding tell_pending_text
-pending-framed s = let told = framed.tell-framed s.pending_table_text s in record { framed = told.framed; form = told.form }
+pending-framed s = let told = tell-keeps framed.framed_kept s.pending_table_text s in record { framed = told.framed; form = told.form }
 
 formatting-framed : (tag : Tag) (s : State) → IsFramed s (create_formatting_element_for tag s)
 unfolding create_formatting_element_for
-formatting-framed tag s = framed.after s _ _ (framed.other s _ _ _ _) (framed.list-framed tag _)
+formatting-framed tag s = framed.after s _ _ (framed.other s _ _ _ _) ((list-keeps framed.framed_kept) tag _)
 
 pub act-framed : (kind : Kind) (gd : Guard) (b : Part) (a : Action) → flows kind gd b a ≡ true → (t : Token) (s : State) → IsFramed s (act a t s)
 unfolding append_text append_comment append_comment_to_doc append_comment_to_html add_attributes_to_root add_attributes_to_body push_marker clear_active_formatting_to_marker set_quirks_mode frameset_not_ok frameset_not_ok_unless_white set_ignore_lf set_foster_parenting keep_text remove_form_elem generate_implied_end_tags pop_but_root pop_foreign handle_misnested_a_tags
 act-framed kind gd b Nothing f t s = framed.same s
-act-framed kind gd b ParseError f t s = framed.parse_error-framed s
-act-framed kind gd b InsertVoid f t s = tag-framed insert_and_pop_element_for t (λ tag s. framed.put_element-framed Html tag.name tag.attrs tag.had_duplicate_attributes s) s
-act-framed kind gd b (InsertVoidAs name) f t s = tag-framed (λ tag. insert_and_pop_element_for (record tag { name = name })) t (λ tag s. framed.put_element-framed Html name tag.attrs tag.had_duplicate_attributes s) s
-act-framed kind gd b (InsertNewVoid name) f t s = framed.put_element-framed Html name [] false s
+act-framed kind gd b ParseError f t s = framed.framed_kept.errs s
+act-framed kind gd b InsertVoid f t s = tag-framed insert_and_pop_element_for t (λ tag s. framed.framed_kept.puts Html tag.name tag.attrs tag.had_duplicate_attributes s) s
+act-framed kind gd b (InsertVoidAs name) f t s = tag-framed (λ tag. insert_and_pop_element_for (record tag { name = name })) t (λ tag s. framed.framed_kept.puts Html name tag.attrs tag.had_duplicate_attributes s) s
+act-framed kind gd b (InsertNewVoid name) f t s = framed.framed_kept.puts Html name [] false s
 act-framed kind gd b AppendText f t s = framed.other s _ _ _ _
 act-framed kind gd b AppendReplacement f t s = framed.other s _ _ _ _
 act-framed kind gd b AppendComment f t s = framed.other s _ _ _ _
 act-framed kind gd b AppendCommentToDocument f t s = framed.other s _ _ _ _
 act-framed kind gd b AppendCommentToRoot f t s = framed.other s _ _ _ _
 act-framed kind gd b AddAttributesToRoot f t s = framed.other s _ _ _ _
-act-framed kind gd b AddAttributesToBody f t s = framed.body-framed (body_elem s.open_elems) (attributes_of t) s
-act-framed kind gd b CheckBodyEnd f t s = framed.check-framed s
+act-framed kind gd b AddAttributesToBody f t s = framed.framed_kept.adds (body_elem s.open_elems) (attributes_of t) s
+act-framed kind gd b CheckBodyEnd f t s = check-keeps framed.framed_kept s
 act-framed kind gd b InsertMarker f t s = framed.other s _ _ _ _
 act-framed kind gd b ClearToMarker f t s = framed.other s _ _ _ _
 act-framed kind gd b SetQuirks f t s = record { framed = λ e. e; form = refl }
@@ -255,24 +256,24 @@ act-framed kind gd b IgnoreLineFeed f t s = record { framed = λ e. e; form = re
 act-framed kind gd b EnableFosterParenting f t s = record { framed = λ e. e; form = refl }
 act-framed kind gd b DisableFosterParenting f t s = record { framed = λ e. e; form = refl }
 act-framed kind gd b KeepText f t s = record { framed = λ e. e; form = refl }
-act-framed kind gd b InsertElement f t s = tag-framed insert_element_for t framed.insert-framed s
-act-framed kind gd b (InsertNew name) f t s = framed.insert_element-framed Html name [] false s
+act-framed kind gd b InsertElement f t s = tag-framed insert_element_for t (insert-keeps framed.framed_kept) s
+act-framed kind gd b (InsertNew name) f t s = framed.framed_kept.inserts Html name [] false s
 act-framed kind gd b Pop f t s = framed.other s _ _ _ _
-act-framed kind gd b (PopUntil others) f t s = framed.pop_until-framed (is_in others) s
-act-framed kind gd b CloseToken f t s = framed.expect_to_close-framed (is_named (name_of t)) s
-act-framed kind gd b CloseP f t s = framed.close_p-framed s
-act-framed kind gd b (CloseItem items) f t s = framed.close_item-framed items s
+act-framed kind gd b (PopUntil others) f t s = pop_until-keeps framed.framed_kept (is_in others) s
+act-framed kind gd b CloseToken f t s = expect_to_close-keeps framed.framed_kept (is_named (name_of t)) s
+act-framed kind gd b CloseP f t s = close_p-keeps framed.framed_kept s
+act-framed kind gd b (CloseItem items) f t s = close_item-keeps framed.framed_kept items s
 act-framed kind gd b ImpliedEndTags f t s = framed.other s _ _ _ _
-act-framed kind gd b (ImpliedEndTagsExcept names) f t s = framed.except-framed (is_in names) s
-act-framed kind gd b ImpliedEndTagsExceptToken f t s = framed.except-framed (is_named (name_of t)) s
-act-framed kind gd b AnyOtherEndTag f t s = framed.generic-framed (name_of t) s
-act-framed kind gd b Reconstruct f t s = framed.reconstruct-framed s
+act-framed kind gd b (ImpliedEndTagsExcept names) f t s = except-keeps framed.framed_kept (is_in names) s
+act-framed kind gd b ImpliedEndTagsExceptToken f t s = except-keeps framed.framed_kept (is_named (name_of t)) s
+act-framed kind gd b AnyOtherEndTag f t s = generic-keeps framed.framed_kept (name_of t) s
+act-framed kind gd b Reconstruct f t s = reconstruct-keeps framed.framed_kept s
 act-framed kind gd b InsertFormatting f t s = tag-framed create_formatting_element_for t formatting-framed s
-act-framed kind gd b AdoptionAgency f t s = framed.agency-framed (name_of t) s
-act-framed kind gd b AdoptNobr f t s = framed.agency-framed (codes "nobr") s
-act-framed kind gd b CloseMisnestedA f t s = framed.misnested-framed (last_named (codes "a") s.active_formatting) s
+act-framed kind gd b AdoptionAgency f t s = agency-keeps framed.framed_kept (name_of t) s
+act-framed kind gd b AdoptNobr f t s = agency-keeps framed.framed_kept (codes "nobr") s
+act-framed kind gd b CloseMisnestedA f t s = misnested-keeps framed.framed_kept (last_named (codes "a") s.active_formatting) s
 act-framed kind gd b TellPendingText f t s = pending-framed s
-act-framed kind gd b (EnterForeign namespace) f t s = tag-framed (enter_foreign namespace) t (framed.enter-framed namespace) s
-act-framed kind gd b PopForeign f t s = framed.pop_until_current-framed ends_foreign s
-act-framed kind gd b RemoveFormElem f t s = framed.unopened-framed s.form_elem s
+act-framed kind gd b (EnterForeign namespace) f t s = tag-framed (enter_foreign namespace) t ((enter-keeps framed.framed_kept) namespace) s
+act-framed kind gd b PopForeign f t s = pop_until_current-keeps framed.framed_kept ends_foreign s
+act-framed kind gd b RemoveFormElem f t s = unopened-keeps framed.framed_kept s.form_elem s
 act-framed kind gd b a f t s = no f

@@ -25,7 +25,7 @@ use Rattle.html_rules.specs.declared.insertion_mode.InsertionMode.TheVariants as
 use Rattle.html_rules.specs.declared.tag_set.TagSet.TheVariants as set
 use Rattle.html_rules_laws.specs.Nesting.{Part, Ground, IsNested, base, ground_of, has_base}
 use Rattle.html_rules_laws.specs.Upright.{MayCome}
-use Rattle.html_rules_laws.proofs.Aside.{IsAside, foreign-Aside}
+use Rattle.html_rules_laws.proofs.Aside.{IsAside, aside_kept}
 use Rattle.html_rules_laws.proofs.Settling.Kinds.{Kind, is_of}
 use Rattle.html_rules_laws.proofs.Soundness.Scan.{scan, scan-holds}
 use Rattle.html_rules_laws.proofs.Soundness.Steps.{foreign-there}
@@ -46,6 +46,7 @@ use Rattle.html_rules_laws.proofs.Nesting.Runs.{runs}
 use Rattle.html_rules_laws.proofs.Nesting.Smooth.{NoGuard}
 use Rattle.html_rules_laws.proofs.Nesting.Steps.{IsFlow, close_foreign-flow, flow-same}
 use Rattle.html_rules_laws.proofs.Bools.{no, or_by}
+use Rattle.html_rules_laws.proofs.KeptBySteps.{close_by-keeps, foreign-keeps}
 
 -- behind a step under which loose elements alone come and go
 flowed : (g : Ground) (template : Bool) (b : Part) (m : InsertionMode) (s r : State) → Fluid g template (loose_at m b) s → IsFlow g s.open_elems r.open_elems → Poised r → IsAside s r → IsFramed s r
@@ -79,7 +80,7 @@ start-flow g (Some x) tag s h = foreign-flow g x.namespace _ h s
 
 close-framed : (t : Token) (s : State) → IsFramed s (act CloseForeign t s)
 unfolding close_foreign
-close-framed t s = framed.close_by-framed (foreign_end (name_of t) s) s
+close-framed t s = close_by-keeps framed.framed_kept (foreign_end (name_of t) s) s
 
 module _ (g : Ground) (template : Bool) (t : Token) (m : InsertionMode) (b : Part) (bodily : is_bodily m ≡ true) (base-is : has_base m b ≡ true) where
   closed-fluid : (kind : Kind) → is_of kind t ≡ true → (s : State) → ((x : Open) (y : Open) (ys : List Open) → s.open_elems ≡ x ∷ y ∷ ys → is_html_element x ≡ false) → Fluid g template (loose_at m b) s → Fluid g template (loose_at m b) (act CloseForeign t s)
@@ -108,7 +109,7 @@ module _ (g : Ground) (template : Bool) (t : Token) (m : InsertionMode) (b : Par
         let foreign : is_foreign s (TagToken tag) ≡ true = subst (λ u. is_foreign s u ≡ true) e f in
         let o : Option Open = adjusted_current_node s in
         own-nested g template t m b bodily base-is (foreign_start_at o tag s)
-        (flowed g template b m s (foreign_start_at o tag s) fluid (start-flow g o tag s (foreign-there s (TagToken tag) foreign)) (foreign-poised tag s foreign fluid.poised) (foreign-Aside o tag s) (framed.foreign-framed o tag s)
+        (flowed g template b m s (foreign_start_at o tag s) fluid (start-flow g o tag s (foreign-there s (TagToken tag) foreign)) (foreign-poised tag s foreign fluid.poised) (foreign-keeps aside_kept o tag s) ((foreign-keeps framed.framed_kept) o tag s)
         (foreign_start_at-eased o tag (own-by s.forest s.context_elem s.open_elems fluid.poised.upright.context fluid.poised.upright.standing.opened) (foreign-there s (TagToken tag) foreign) s fluid.poised.upright.standing).names)
     by u e = own-nested g template t m b bodily base-is s fluid
   insert-nested a h s f fluid = no h

@@ -41,6 +41,7 @@ use Rattle.html_rules_laws.proofs.Nesting.Smooth.{NoGuard}
 use Rattle.html_rules_laws.proofs.Nesting.Stacks.{pushed-templates}
 use Rattle.html_rules_laws.proofs.Nesting.Steps.{IsFlow, formatting-loose}
 use Rattle.html_rules_laws.proofs.Bools.{both, no}
+use Rattle.html_rules_laws.proofs.KeptBySteps.{reconstruct-keeps}
 
 -- what is open in the modes of framesets
 pub record IsInFrames (g : Ground) (xs : List Open) : Type 0 where
@@ -212,7 +213,7 @@ white-nested kind t k s at listed standing n =
     let aside = act-aside kind a refl t s in
     let over = reconstruct-over s listed in
     let same = quiet-same (Then FramesetNotOkUnlessWhite AppendText) refl t q in
-    let kept = framed.after s q _ (framed.reconstruct-framed s) (quiet-framed (Then FramesetNotOkUnlessWhite AppendText) refl t q) in
+    let kept = framed.after s q _ ((reconstruct-keeps framed.framed_kept) s) (quiet-framed (Then FramesetNotOkUnlessWhite AppendText) refl t q) in
     let was : (not (is_flow (ground_of s.context_elem)) && (are_html s.open_elems && has_root s.open_elems)) ≡ true = rw at at n.fits in
     let one = and_parts (not (is_flow (ground_of s.context_elem))) _ was in
     let two = and_parts (are_html s.open_elems) _ one.1 in

@@ -37,7 +37,7 @@ use Rattle.html_rules_laws.proofs.Soundness.HeadAgain.{again, alone, opens-same,
 use Rattle.html_rules_laws.proofs.Soundness.Moves.{is_text_mode, template-topped}
 use Rattle.html_rules_laws.proofs.Soundness.Rows.{opens, quiet, quiet-same, quiet-tame, raw_text_only, starts_template}
 use Rattle.html_rules_laws.proofs.StandingSteps.{insert_element-Standing}
-use Rattle.html_rules_laws.proofs.Aside.{template-Aside}
+use Rattle.html_rules_laws.proofs.Aside.{aside_kept}
 use Rattle.html_rules_laws.proofs.Upright.Heads.{pushed}
 use Rattle.html_rules_laws.proofs.Upright.Poised.{Poised, act-poised}
 use Rattle.html_rules_laws.proofs.Nesting.Fits.{at-root}
@@ -48,6 +48,7 @@ use Rattle.html_rules_laws.proofs.Nesting.Parts.{is_loose_name, name-loose}
 use Rattle.html_rules_laws.proofs.Nesting.Resets.{template-part}
 use Rattle.html_rules_laws.proofs.Nesting.Stacks.{pushed-templates}
 use Rattle.html_rules_laws.proofs.Bools.{no, or_by}
+use Rattle.html_rules_laws.proofs.KeptBySteps.{template-keeps}
 
 -- elements of different names are different nodes
 
@@ -195,7 +196,7 @@ opened-again names tag h k n q w =
     let r : State = insert_template tag s in
     let name = among-all tag.name names (names_of set.Template) h (and_parts (is_start_tag tag.kind) _ k).1 in
     let above = template-topped tag s in
-    let aside = template-Aside tag s in
+    let aside = template-keeps aside_kept tag s in
     let x : Open = record { number = above.number; namespace = Html; name = tag.name } in
     let elements : r.open_elems ≡ x ∷ again n ∷ q.open_elems = above.elements in
     let poised : Poised r = act-poised (Starts names) a h (TagToken tag) k p w.pushed in

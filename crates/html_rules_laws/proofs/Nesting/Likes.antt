@@ -39,6 +39,7 @@ use Rattle.html_rules_laws.proofs.Nesting.Resets.{direct-parts}
 use Rattle.html_rules_laws.proofs.Nesting.Smooth.{NoGuard, is_tag_kind, kind-loose, loose_kind}
 use Rattle.html_rules_laws.proofs.Nesting.Stacks.{pushed-templates}
 use Rattle.html_rules_laws.proofs.Bools.{no}
+use Rattle.html_rules_laws.proofs.KeptBySteps.{either-keeps}
 
 -- what is nested but for the stack and the modes that go with it
 pub record IsLike (s r : State) : Type 0 where
@@ -88,7 +89,7 @@ like-pop s = record { context = refl; modes = refl; framed = λ e. e; form = ref
 
 pub quiet-framed : (a : Action) → quiet a ≡ true → (t : Token) (s : State) → IsFramed s (act a t s)
 quiet-framed (Then a b) h t s = let tests = and_parts (quiet a) (quiet b) h in framed.after s (act a t s) _ (quiet-framed a tests.0 t s) (quiet-framed b tests.1 t (act a t s))
-quiet-framed (When c a) h t s = framed.either (holds c t s) s (act a t s) s (quiet-framed a h t s) (framed.same s)
+quiet-framed (When c a) h t s = either-keeps framed.framed_kept (holds c t s) s (act a t s) s (quiet-framed a h t s) (framed.same s)
 quiet-framed Nothing h t s = framed.same s
 quiet-framed ParseError h t s = act-framed (Starts []) NoGuard Loose ParseError refl t s
 quiet-framed InsertVoid h t s = act-framed (Starts []) NoGuard Loose InsertVoid refl t s

@@ -26,7 +26,7 @@ use Rattle.html_rules_laws.specs.Held.{wanted}
 use Rattle.html_rules_laws.specs.Nesting.{Contents, IsNested, ground_of, may_stand, nested, part_of, top}
 use Rattle.html_rules_laws.specs.Settled.{are_template_modes}
 use Rattle.html_rules_laws.specs.Soundness.{Standing}
-use Rattle.html_rules_laws.proofs.Aside.{expect_to_close-Aside, first-modes, template-Aside}
+use Rattle.html_rules_laws.proofs.Aside.{aside_kept, first-modes}
 use Rattle.html_rules_laws.proofs.SetFacts.{among-all}
 use Rattle.html_rules_laws.proofs.Settling.Kinds.{Kind, Starts, is_of}
 use Rattle.html_rules_laws.proofs.Soundness.Moves.{implied-count, kept_by_implied, template-topped}
@@ -39,6 +39,7 @@ use Rattle.html_rules_laws.proofs.Nesting.Fluid.{form-kept}
 use Rattle.html_rules_laws.proofs.Nesting.Framed as framed
 use Rattle.html_rules_laws.proofs.Nesting.Resets.{from-nested, reset-nested, table-closed, template-closed, template-part}
 use Rattle.html_rules_laws.proofs.Bools.{both, no}
+use Rattle.html_rules_laws.proofs.KeptBySteps.{expect_to_close-keeps, template-keeps}
 
 -- what rows find
 pub record Ready (s : State) : Type 0 where
@@ -58,8 +59,8 @@ opened-nested tag name s h stands =
     let q : State = push_template_mode mode.InTemplate (set_mode mode.InTemplate (frameset_not_ok (push_marker s))) in
     let r : State = insert_template tag q in
     let above = template-topped tag q in
-    let aside = template-Aside tag q in
-    let kept = framed.template-framed tag q in
+    let aside = template-keeps aside_kept tag q in
+    let kept = template-keeps framed.framed_kept tag q in
     let x : Open = record { number = above.number; namespace = Html; name = tag.name } in
     let part : part_of x ≡ Contents = template-part x name in
     let template : is_in set.Template x ≡ true = name in
@@ -118,8 +119,8 @@ unfolding generate_implied_end_tags clear_active_formatting_to_marker pop_templa
 thorough-nested s h there =
     let one : State = generate_implied_end_tags set.ThoroughImpliedEnd s in
     let two : State = expect_to_close (is_in set.Template) one in
-    let aside = expect_to_close-Aside (is_in set.Template) one in
-    let kept = framed.expect_to_close-framed (is_in set.Template) one in
+    let aside = expect_to_close-keeps aside_kept (is_in set.Template) one in
+    let kept = expect_to_close-keeps framed.framed_kept (is_in set.Template) one in
     let zs : List Open = left_from kept_by_implied s.open_elems in
     let count = implied-count s.open_elems in
     closed-nested s (pop_template_mode (clear_active_formatting_to_marker two)) zs h (from-nested (ground_of s.context_elem) kept_by_implied s.open_elems h.nested) (count.1 there) count.0

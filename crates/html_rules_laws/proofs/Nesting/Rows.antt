@@ -47,6 +47,7 @@ use Rattle.html_rules_laws.proofs.Nesting.Runs.{runs, runs-sound}
 use Rattle.html_rules_laws.proofs.Nesting.Smooth.{Guard, Holds, guard-holds, guard_of}
 use Rattle.html_rules_laws.proofs.Nesting.Stacks.{takes-top}
 use Rattle.html_rules_laws.proofs.Bools.{both, no, not_true, or_by}
+use Rattle.html_rules_laws.proofs.KeptBySteps.{insert-keeps, pop_until_current-keeps}
 
 -- what is tested of rows, in a mode and with a part that was opened last
 
@@ -286,8 +287,8 @@ framed-elements tag s =
 framed-framed : (tag : Tag) (s : State) → IsFramed s (act framed_action (TagToken tag) s)
 unfolding remove_body
 framed-framed tag s =
-    framed.after s (parse_error s) _ (framed.parse_error-framed s)
-    (framed.after (parse_error s) _ _ (framed.after (parse_error s) (remove_if (body_elem (parse_error s).open_elems) (parse_error s)) _ (framed.remove_if-framed (body_elem (parse_error s).open_elems) (parse_error s)) (framed.pop_until_current-framed (is_in set.Html) _)) (framed.insert-framed tag _))
+    framed.after s (parse_error s) _ (framed.framed_kept.errs s)
+    (framed.after (parse_error s) _ _ (framed.after (parse_error s) (remove_if (body_elem (parse_error s).open_elems) (parse_error s)) _ (framed.framed_kept.removes (body_elem (parse_error s).open_elems) (parse_error s)) ((pop_until_current-keeps framed.framed_kept) (is_in set.Html) _)) ((insert-keeps framed.framed_kept) tag _))
 
 frameset-nested : (tag : Tag) (s : State) → is_start_tag tag.kind ≡ true → is_among tag.name (names_of set.Frameset) ≡ true → Poised s → Ready s → is_nonempty s.open_elems ≡ true → s.frameset_ok ≡ true → is_some (body_elem s.open_elems) ≡ true → IsNested (set_mode mode.InFrameset (act framed_action (TagToken tag) s))
 unfolding set_mode

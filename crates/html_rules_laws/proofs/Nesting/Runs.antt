@@ -44,6 +44,7 @@ use Rattle.html_rules_laws.proofs.Nesting.Parts.{part-set, set-part}
 use Rattle.html_rules_laws.proofs.Nesting.Smooth.{Guard, NoGuard, Current, TokenBased, Holds, cell-part, guard-holds, guard_of, is_cell_kind, keeps, keeps-holds}
 use Rattle.html_rules_laws.proofs.Nesting.Stacks.{IsLoose, freed-base, freed-nested, freed-templates, takes-top}
 use Rattle.html_rules_laws.proofs.Bools.{both, no, not_true, or_by}
+use Rattle.html_rules_laws.proofs.KeptBySteps.{expect_to_close-keeps, insert-keeps, pop_until_current-keeps}
 
 abbrev pub may_insert : Part → At → Bool
 may_insert TablePart v = true
@@ -301,7 +302,7 @@ unfolding insert_element
 tag-same tag s = refl
 
 element-framed : (t : Token) (s : State) → IsFramed s (for_tag insert_element_for t s)
-element-framed (TagToken tag) s = framed.insert-framed tag s
+element-framed (TagToken tag) s = insert-keeps framed.framed_kept tag s
 element-framed t s = framed.same s
 
 element-same : (t : Token) (tag : Tag) → t ≡ TagToken tag → (s : State) → (for_tag insert_element_for t s).open_elems ≡ record { number = node_count s.forest; namespace = Html; name = tag.name } ∷ s.open_elems
@@ -406,7 +407,7 @@ module _ (g : Ground) (template : Bool) (t : Token) where
       let based = base-based names v.base solid w s.open_elems h.base n in
       let f = from-base (is_in names) s.open_elems based in
       let same = clear-same names s in
-      fluid-changed g template v (record v { exact = true }) s (act (ClearBackTo names) t s) h (tame-poised kind (ClearBackTo names) refl refl t k s h.poised) (act-aside kind (ClearBackTo names) refl t s) (framed.pop_until_current-framed (is_in names) s)
+      fluid-changed g template v (record v { exact = true }) s (act (ClearBackTo names) t s) h (tame-poised kind (ClearBackTo names) refl refl t k s h.poised) (act-aside kind (ClearBackTo names) refl t s) ((pop_until_current-keeps framed.framed_kept) (is_in names) s)
       (act-eased kind (ClearBackTo names) refl refl t k s h.poised.listed h.poised.upright.standing).names
       (rw same (freed-nested g s.open_elems _ f h.nested)) (rw same (freed-base s.open_elems _ f ∙ h.base)) (λ _. rw same (from-top (is_in names) (parts-out names p) s.open_elems based ∙ h.base)) h.takes refl h.in_template (rw same (freed-templates s.open_elems _ f))
 
@@ -426,7 +427,7 @@ module _ (g : Ground) (template : Bool) (t : Token) where
       let sets = and_parts (within (set_of v.base) names) (are_parts names) tests.0 in
       let inner = (and_parts (is_inner v.base) _ (and_parts (not (is_in_template v.mode)) _ tests.1).1).0 in
       let solid = subst (λ b. is_loose b ≡ false) fluid.base (base-solid s.open_elems) in
-      below-run kind (Close names) v post refl refl tests.1 k s (framed.expect_to_close-framed (is_in names) s)
+      below-run kind (Close names) v post refl refl tests.1 k s ((expect_to_close-keeps framed.framed_kept) (is_in names) s)
       (close-elements (is_in names) s ∙ based-below (is_in names) (parts-out names sets.1) s.open_elems (base-based names v.base solid sets.0 s.open_elems fluid.base (inner-some v.base inner))) fluid
 
   cell-out : (kind : Kind) → is_cell_kind kind ≡ true → is_of kind t ≡ true → (x : Open) → IsLoose x → is_named (name_of t) x ≡ false
@@ -438,7 +439,7 @@ module _ (g : Ground) (template : Bool) (t : Token) where
   token-run : (kind : Kind) (v : At) (post : At → Bool) → (is_cell_kind kind && (not (is_in_template v.mode) && pops_to v.base (λ q. post (at_exact q v)))) ≡ true → is_of kind t ≡ true → (s : State) → Holds TokenBased t s → Fluid g template v s → Run g template t CloseToken s post
   token-run kind v post h k s known fluid =
       let tests = and_parts (is_cell_kind kind) _ h in
-      below-run kind CloseToken v post refl refl tests.1 k s (framed.expect_to_close-framed (is_named (name_of t)) s)
+      below-run kind CloseToken v post refl refl tests.1 k s ((expect_to_close-keeps framed.framed_kept) (is_named (name_of t)) s)
       (close-elements (is_named (name_of t)) s ∙ based-below (is_named (name_of t)) (λ x l. cell-out kind tests.0 k x l) s.open_elems known) fluid
 
   tagged : (tag : Tag) → t ≡ TagToken tag → (names : List (List ℕ)) (v : At) (post : At → Bool) → (may_insert (part_in (Starts names)) v && (tame_in (Starts names) InsertElement && post (at_exact (part_in (Starts names)) v))) ≡ true → is_of (Starts names) (TagToken tag) ≡ true
@@ -465,7 +466,7 @@ module _ (g : Ground) (template : Bool) (t : Token) where
       let more = and_parts (tame_in kind (InsertNew name)) _ tests.1 in
       let p : Part = part_named name in
       let table = may-table p v tests.0 in
-      insert-run kind (InsertNew name) p v post more.0 refl tests.0 more.1 k s (framed.insert_element-framed Html name [] false s) (record { number = node_count s.forest; namespace = Html; name = name })
+      insert-run kind (InsertNew name) p v post more.0 refl tests.0 more.1 k s (framed.framed_kept.inserts Html name [] false s) (record { number = node_count s.forest; namespace = Html; name = name })
       (table-set p table name (first-is (λ p. is_among name (names_of (set_of p))) parts p refl (table-some p table)) (node_count s.forest)) (new-same name s) fluid
 
   switch-run : (m : InsertionMode) (v : At) (post : At → Bool) → ((not (is_first m) && not (is_in_template m)) && post (record v { mode = m })) ≡ true → (s : State) → Fluid g template v s → Run g template t (SwitchTo m) s post

@@ -19,7 +19,7 @@ use Rattle.html_rules.specs.Table.{Action, Nothing, Then, When, ParseError, Inse
 use Rattle.html_rules.specs.Tokens.{attributes_of, name_of, text_of}
 use Rattle.html_rules.specs.declared.tag_set.TagSet.{TagSet}
 use Rattle.html_rules.specs.declared.tag_set.TagSet.TheVariants as set
-use Rattle.html_rules_laws.proofs.Aside.{Asides, after, agency-Aside, append_text-Aside, body-Aside, check-Aside, close_by-Aside, close_item-Aside, close_p-Aside, either, enter-Aside, except-Aside, expect_to_close-Aside, for_tag-Aside, generic-Aside, insert-Aside, insert_element-Aside, list-Aside, misnested-Aside, other, parse_error-Aside, pop_until-Aside, pop_until_current-Aside, put_element-Aside, reconstruct-Aside, remove_if-Aside, same, tell-Aside, unopened-Aside}
+use Rattle.html_rules_laws.proofs.Aside.{Asides, after, aside_kept, other, same}
 use Rattle.html_rules_laws.proofs.Names.{disjoint, shares_name}
 use Rattle.html_rules_laws.proofs.SetFacts.{all_among, among-all}
 use Rattle.html_rules_laws.proofs.Settling.Kinds.{Kind, Starts, StartsBut, Ends, EndsBut, is_of}
@@ -28,6 +28,7 @@ use Rattle.html_rules_laws.proofs.Standing.{part-but_root, part-same}
 use Rattle.html_rules_laws.proofs.StandingActions.{foreign_end-part}
 use Rattle.html_rules_laws.proofs.Tame.{Tames, after-tame, agency-tame, append_text-tame, behind-listed, body-tame, check-tame, close_by-tame, close_item-tame, close_p-tame, either-tame, enter-tame, except-tame, expect_to_close-tame, formatting-tame, generic-tame, implied-tame, insert_element-tame, misnested-tame, parse_error-tame, part-tame, plain-name, pop_until-tame, pop_until_current-tame, put_element-tame, reconstruct-tame, remove_if-tame, same-tame, special_names, tell-tame, unopened-tame}
 use Rattle.html_rules_laws.proofs.Bools.{no, not_true}
+use Rattle.html_rules_laws.proofs.KeptBySteps.{agency-keeps, check-keeps, close_by-keeps, close_item-keeps, close_p-keeps, enter-keeps, except-keeps, expect_to_close-keeps, for_tag-keeps, generic-keeps, insert-keeps, list-keeps, misnested-keeps, pop_until-keeps, pop_until_current-keeps, reconstruct-keeps, tell-keeps, unopened-keeps, either-keeps}
 
 -- kinds of tokens none of which is a tag `html`, `head` or `template`
 abbrev pub plain_kind : Kind → Bool
@@ -128,24 +129,24 @@ tag-tame step kind t f h s l = same-tame s l
 form_void-tame : (tag : Tag) → Tames (insert_form_void tag)
 form_void-tame tag s l = let made = put_element-tame Html tag.name tag.attrs tag.had_duplicate_attributes s l in record { firm = made.firm; listed = made.listed }
 
-form_void-Aside : (tag : Tag) → Asides (insert_form_void tag)
-form_void-Aside tag s = let made = put_element-Aside Html tag.name tag.attrs tag.had_duplicate_attributes s in record { mode = made.mode; original = made.original; modes = made.modes; head = made.head; context = made.context; ended = made.ended }
+form_void-aside : (tag : Tag) → Asides (insert_form_void tag)
+form_void-aside tag s = let made = aside_kept.puts Html tag.name tag.attrs tag.had_duplicate_attributes s in record { mode = made.mode; original = made.original; modes = made.modes; head = made.head; context = made.context; ended = made.ended }
 
-formatting-Aside : (tag : Tag) → Asides (create_formatting_element_for tag)
+formatting-aside : (tag : Tag) → Asides (create_formatting_element_for tag)
 unfolding create_formatting_element_for
-formatting-Aside tag s = after s _ _ (other s _ _ _ _ _) (list-Aside tag _)
+formatting-aside tag s = after s _ _ (other s _ _ _ _ _) (list-keeps aside_kept tag _)
 
-implied-Aside : (implied : TagSet) → Asides (generate_implied_end_tags implied)
+implied-aside : (implied : TagSet) → Asides (generate_implied_end_tags implied)
 unfolding generate_implied_end_tags
-implied-Aside implied s = other s _ _ _ _ _
+implied-aside implied s = other s _ _ _ _ _
 
 pending-tame : Tames tell_pending_text
 unfolding tell_pending_text
 pending-tame s l = let told = tell-tame s.pending_table_text s l in record { firm = told.firm; listed = told.listed }
 
-pending-Aside : Asides tell_pending_text
+pending-aside : Asides tell_pending_text
 unfolding tell_pending_text
-pending-Aside s = let told = tell-Aside s.pending_table_text s in record { mode = told.mode; original = told.original; modes = told.modes; head = told.head; context = told.context; ended = told.ended }
+pending-aside s = let told = tell-keeps aside_kept s.pending_table_text s in record { mode = told.mode; original = told.original; modes = told.modes; head = told.head; context = told.context; ended = told.ended }
 
 pub act-tame : (kind : Kind) (a : Action) → tame_in kind a ≡ true → (t : Token) → is_of kind t ≡ true → Tames (act a t)
 unfolding append_comment append_comment_to_doc append_comment_to_html add_attributes_to_root add_attributes_to_body remove_body pop_but_root remove_head_elem remove_form_elem push_marker clear_active_formatting_to_marker handle_misnested_a_tags set_quirks_mode frameset_not_ok frameset_not_ok_unless_white set_ignore_lf set_foster_parenting set_form_elem forget_form_elem keep_text pop_foreign close_foreign foreign_end
@@ -211,47 +212,47 @@ unfolding append_comment append_comment_to_doc append_comment_to_html add_attrib
 act-aside kind (Then a b) p t s =
     let parts = and_parts (tame_in kind a) (tame_in kind b) p in
     after s (act a t s) _ (act-aside kind a parts.0 t s) (act-aside kind b parts.1 t (act a t s))
-act-aside kind (When c a) p t s = either (holds c t s) s (act a t s) s (act-aside kind a p t s) (same s)
+act-aside kind (When c a) p t s = either-keeps aside_kept (holds c t s) s (act a t s) s (act-aside kind a p t s) (same s)
 act-aside kind Nothing p t s = same s
-act-aside kind ParseError p t s = parse_error-Aside s
-act-aside kind InsertElement p t s = for_tag-Aside insert_element_for t insert-Aside s
-act-aside kind InsertVoid p t s = for_tag-Aside insert_and_pop_element_for t (λ tag s. put_element-Aside Html tag.name tag.attrs tag.had_duplicate_attributes s) s
-act-aside kind (InsertVoidAs name) p t s = for_tag-Aside (λ tag. insert_and_pop_element_for (record tag { name = name })) t (λ tag s. put_element-Aside Html name tag.attrs tag.had_duplicate_attributes s) s
-act-aside kind InsertFormVoid p t s = for_tag-Aside insert_form_void t form_void-Aside s
-act-aside kind (InsertNew name) p t s = insert_element-Aside Html name [] false s
-act-aside kind (InsertNewVoid name) p t s = put_element-Aside Html name [] false s
-act-aside kind AppendText p t s = append_text-Aside (text_of t) s
-act-aside kind AppendReplacement p t s = append_text-Aside (0xFFFD ∷ []) s
+act-aside kind ParseError p t s = aside_kept.errs s
+act-aside kind InsertElement p t s = for_tag-keeps aside_kept insert_element_for t (insert-keeps aside_kept) s
+act-aside kind InsertVoid p t s = for_tag-keeps aside_kept insert_and_pop_element_for t (λ tag s. aside_kept.puts Html tag.name tag.attrs tag.had_duplicate_attributes s) s
+act-aside kind (InsertVoidAs name) p t s = for_tag-keeps aside_kept (λ tag. insert_and_pop_element_for (record tag { name = name })) t (λ tag s. aside_kept.puts Html name tag.attrs tag.had_duplicate_attributes s) s
+act-aside kind InsertFormVoid p t s = for_tag-keeps aside_kept insert_form_void t form_void-aside s
+act-aside kind (InsertNew name) p t s = aside_kept.inserts Html name [] false s
+act-aside kind (InsertNewVoid name) p t s = aside_kept.puts Html name [] false s
+act-aside kind AppendText p t s = aside_kept.texts (text_of t) s
+act-aside kind AppendReplacement p t s = aside_kept.texts (0xFFFD ∷ []) s
 act-aside kind AppendComment p t s = other s _ _ _ _ _
 act-aside kind AppendCommentToDocument p t s = other s _ _ _ _ _
 act-aside kind AppendCommentToRoot p t s = other s _ _ _ _ _
 act-aside kind AddAttributesToRoot p t s = other s _ _ _ _ _
-act-aside kind AddAttributesToBody p t s = body-Aside (body_elem s.open_elems) (attributes_of t) s
-act-aside kind RemoveBody p t s = after s _ _ (remove_if-Aside (body_elem s.open_elems) s) (pop_until_current-Aside (is_in set.Html) (remove_if (body_elem s.open_elems) s))
+act-aside kind AddAttributesToBody p t s = aside_kept.adds (body_elem s.open_elems) (attributes_of t) s
+act-aside kind RemoveBody p t s = after s _ _ (aside_kept.removes (body_elem s.open_elems) s) (pop_until_current-keeps aside_kept (is_in set.Html) (remove_if (body_elem s.open_elems) s))
 act-aside kind Pop p t s = other s _ _ _ _ _
-act-aside kind (PopUntil names) p t s = pop_until-Aside (is_in names) s
-act-aside kind (ClearBackTo names) p t s = pop_until_current-Aside (is_in names) s
-act-aside kind (Close names) p t s = expect_to_close-Aside (is_in names) s
-act-aside kind CloseToken p t s = expect_to_close-Aside (is_named (name_of t)) s
-act-aside kind CloseP p t s = close_p-Aside s
-act-aside kind (CloseItem names) p t s = close_item-Aside names s
-act-aside kind ImpliedEndTags p t s = implied-Aside set.CursoryImpliedEnd s
-act-aside kind (ImpliedEndTagsExcept names) p t s = except-Aside (is_in names) s
-act-aside kind ImpliedEndTagsExceptToken p t s = except-Aside (is_named (name_of t)) s
-act-aside kind ImpliedEndTagsThoroughly p t s = implied-Aside set.ThoroughImpliedEnd s
-act-aside kind AnyOtherEndTag p t s = generic-Aside (name_of t) s
-act-aside kind CheckBodyEnd p t s = check-Aside s
-act-aside kind RemoveHeadElem p t s = unopened-Aside s.head_elem s
+act-aside kind (PopUntil names) p t s = pop_until-keeps aside_kept (is_in names) s
+act-aside kind (ClearBackTo names) p t s = pop_until_current-keeps aside_kept (is_in names) s
+act-aside kind (Close names) p t s = expect_to_close-keeps aside_kept (is_in names) s
+act-aside kind CloseToken p t s = expect_to_close-keeps aside_kept (is_named (name_of t)) s
+act-aside kind CloseP p t s = close_p-keeps aside_kept s
+act-aside kind (CloseItem names) p t s = close_item-keeps aside_kept names s
+act-aside kind ImpliedEndTags p t s = implied-aside set.CursoryImpliedEnd s
+act-aside kind (ImpliedEndTagsExcept names) p t s = except-keeps aside_kept (is_in names) s
+act-aside kind ImpliedEndTagsExceptToken p t s = except-keeps aside_kept (is_named (name_of t)) s
+act-aside kind ImpliedEndTagsThoroughly p t s = implied-aside set.ThoroughImpliedEnd s
+act-aside kind AnyOtherEndTag p t s = generic-keeps aside_kept (name_of t) s
+act-aside kind CheckBodyEnd p t s = check-keeps aside_kept s
+act-aside kind RemoveHeadElem p t s = unopened-keeps aside_kept s.head_elem s
 act-aside kind SetFormElem p t s = record { mode = refl; original = refl; modes = refl; head = refl; context = refl; ended = refl }
-act-aside kind RemoveFormElem p t s = unopened-Aside s.form_elem s
+act-aside kind RemoveFormElem p t s = unopened-keeps aside_kept s.form_elem s
 act-aside kind ForgetFormElem p t s = record { mode = refl; original = refl; modes = refl; head = refl; context = refl; ended = refl }
-act-aside kind Reconstruct p t s = reconstruct-Aside s
-act-aside kind InsertFormatting p t s = for_tag-Aside create_formatting_element_for t formatting-Aside s
+act-aside kind Reconstruct p t s = reconstruct-keeps aside_kept s
+act-aside kind InsertFormatting p t s = for_tag-keeps aside_kept create_formatting_element_for t formatting-aside s
 act-aside kind InsertMarker p t s = other s _ _ _ _ _
 act-aside kind ClearToMarker p t s = other s _ _ _ _ _
-act-aside kind AdoptionAgency p t s = agency-Aside (name_of t) s
-act-aside kind AdoptNobr p t s = agency-Aside (codes "nobr") s
-act-aside kind CloseMisnestedA p t s = misnested-Aside (last_named (codes "a") s.active_formatting) s
+act-aside kind AdoptionAgency p t s = agency-keeps aside_kept (name_of t) s
+act-aside kind AdoptNobr p t s = agency-keeps aside_kept (codes "nobr") s
+act-aside kind CloseMisnestedA p t s = misnested-keeps aside_kept (last_named (codes "a") s.active_formatting) s
 act-aside kind SetQuirks p t s = record { mode = refl; original = refl; modes = refl; head = refl; context = refl; ended = refl }
 act-aside kind FramesetNotOk p t s = record { mode = refl; original = refl; modes = refl; head = refl; context = refl; ended = refl }
 act-aside kind FramesetNotOkUnlessWhite p t s = record { mode = refl; original = refl; modes = refl; head = refl; context = refl; ended = refl }
@@ -259,8 +260,8 @@ act-aside kind IgnoreLineFeed p t s = record { mode = refl; original = refl; mod
 act-aside kind EnableFosterParenting p t s = record { mode = refl; original = refl; modes = refl; head = refl; context = refl; ended = refl }
 act-aside kind DisableFosterParenting p t s = record { mode = refl; original = refl; modes = refl; head = refl; context = refl; ended = refl }
 act-aside kind KeepText p t s = record { mode = refl; original = refl; modes = refl; head = refl; context = refl; ended = refl }
-act-aside kind TellPendingText p t s = pending-Aside s
-act-aside kind (EnterForeign namespace) p t s = for_tag-Aside (enter_foreign namespace) t (enter-Aside namespace) s
-act-aside kind PopForeign p t s = pop_until_current-Aside ends_foreign s
-act-aside kind CloseForeign p t s = close_by-Aside (foreign_end (name_of t) s) s
+act-aside kind TellPendingText p t s = pending-aside s
+act-aside kind (EnterForeign namespace) p t s = for_tag-keeps aside_kept (enter_foreign namespace) t (enter-keeps aside_kept namespace) s
+act-aside kind PopForeign p t s = pop_until_current-keeps aside_kept ends_foreign s
+act-aside kind CloseForeign p t s = close_by-keeps aside_kept (foreign_end (name_of t) s) s
 act-aside kind a p t s = no p

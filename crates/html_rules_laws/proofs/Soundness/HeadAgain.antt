@@ -25,7 +25,7 @@ use Rattle.html_rules_laws.specs.Held.{Held}
 use Rattle.html_rules_laws.specs.Placing.{are_general, stand_well}
 use Rattle.html_rules_laws.specs.Ready.{are_formatting}
 use Rattle.html_rules_laws.specs.Sound.{is_later, is_own}
-use Rattle.html_rules_laws.proofs.Aside.{after, push_head-Aside, template-Aside, unopened-Aside}
+use Rattle.html_rules_laws.proofs.Aside.{after, aside_kept}
 use Rattle.html_rules_laws.proofs.Firm.{IsPlain}
 use Rattle.html_rules_laws.proofs.Settling.Kinds.{Kind, Starts, is_of}
 use Rattle.html_rules_laws.proofs.Soundness.Acts.{act-aside, act-tame, plain-of}
@@ -33,6 +33,7 @@ use Rattle.html_rules_laws.proofs.Soundness.Moves.{held-some, not_html-template,
 use Rattle.html_rules_laws.proofs.Soundness.Rows.{IsCalm, opens, opens-held, quiet-held, raw_text_only, raw_only-held, starts_plain, starts_template, tame-calm, void-same}
 use Rattle.html_rules_laws.proofs.Soundness.Specials.{calm-well}
 use Rattle.html_rules_laws.proofs.Bools.{both, no}
+use Rattle.html_rules_laws.proofs.KeptBySteps.{push_head-keeps, template-keeps, unopened-keeps}
 
 -- the head again
 abbrev pub again : ℕ → Open
@@ -149,7 +150,7 @@ raw-same (Then InsertElement b) h t s = no h
 raw-same a h t s = no h
 
 tagged-same : (t : Token) (q : State) → (for_tag insert_template t q).head_elem ≡ q.head_elem
-tagged-same (TagToken tag) q = (template-Aside tag q).head
+tagged-same (TagToken tag) q = (template-keeps aside_kept tag q).head
 tagged-same t q = refl
 
 pub opens-same : (a : Action) → opens a ≡ true → (t : Token) (s : State) → (act a t s).head_elem ≡ s.head_elem
@@ -175,7 +176,7 @@ some-void kind InsertVoid h t f n q is =
     let s : State = push_head (Some n) q in
     let r : State = act InsertVoid t s in
     still-tame q (remove_from_stack n r) is (ap (without_number n) (void-same t s) ∙ alone n q.open_elems) (act-tame kind InsertVoid refl t f s is.listed).listed
-    (after q r (remove_from_stack n r) (after q s r (push_head-Aside (Some n) q) (act-aside kind InsertVoid refl t s)) (unopened-Aside (Some n) r))
+    (after q r (remove_from_stack n r) (after q s r (push_head-keeps aside_kept (Some n) q) (act-aside kind InsertVoid refl t s)) (unopened-keeps aside_kept (Some n) r))
 some-void kind a h t f n q is = no h
 
 plain-own : (n : ℕ) (name : List ℕ) → IsPlain (record { number = n; namespace = Html; name = name }) → is_own (record { number = n; namespace = Html; name = name }) ≡ true
@@ -202,7 +203,7 @@ some-opens (Starts names) (Then InsertMarker (Then FramesetNotOk (Then (SwitchTo
     let s : State = push_template_mode mode.InTemplate (set_mode mode.InTemplate (frameset_not_ok (push_marker (push_head (Some n) q)))) in
     let r : State = insert_template tag s in
     let top = template-topped tag s in
-    let aside = template-Aside tag s in
+    let aside = template-keeps aside_kept tag s in
     let x : Open = record { number = top.number; namespace = Html; name = tag.name } in
     let listed : are_formatting r.active_formatting ≡ true = rw top.entries is.listed in
     elim (taken-out n x q.open_elems) [
@@ -245,7 +246,7 @@ unfolding remove_from_stack
 either-bare None q k = k.held
 either-bare (Some n) q k =
     let s : State = push_head (Some n) q in
-    still-tame q (remove_from_stack n s) k.held (alone n q.open_elems) k.held.listed (after q s (remove_from_stack n s) (push_head-Aside (Some n) q) (unopened-Aside (Some n) s))
+    still-tame q (remove_from_stack n s) k.held (alone n q.open_elems) k.held.listed (after q s (remove_from_stack n s) (push_head-keeps aside_kept (Some n) q) (unopened-keeps aside_kept (Some n) s))
 
 -- with nothing between
 pub bare-held : (s : State) → IsCalm s → (before : Kind) (t : Token) → is_of before t ≡ true → Held (act RemoveHeadElem t (act (Then ParseError PushHeadElem) t s))

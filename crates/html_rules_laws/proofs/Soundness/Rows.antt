@@ -22,12 +22,13 @@ use Rattle.html_rules_laws.specs.Held.{HasRoot, Held, wanted}
 use Rattle.html_rules_laws.specs.Placing.{stand_well}
 use Rattle.html_rules_laws.specs.Settled.{is_template_mode}
 use Rattle.html_rules_laws.specs.Sound.{is_later}
-use Rattle.html_rules_laws.proofs.Aside.{template-Aside}
+use Rattle.html_rules_laws.proofs.Aside.{aside_kept}
 use Rattle.html_rules_laws.proofs.SetFacts.{all_among, among-all}
 use Rattle.html_rules_laws.proofs.Settling.Kinds.{Kind, Starts, is_of}
 use Rattle.html_rules_laws.proofs.Soundness.Acts.{act-aside, act-tame, plain-of, plain_kind, tame_in}
 use Rattle.html_rules_laws.proofs.Soundness.Moves.{is_loose, free-moved, free-later, is_free, is_text_mode, loose-tame, opened-held, still-tame, template-topped, template_mode-held, text-held}
 use Rattle.html_rules_laws.proofs.Bools.{both, no}
+use Rattle.html_rules_laws.proofs.KeptBySteps.{template-keeps}
 
 -- actions in modes in which any element may come
 
@@ -207,7 +208,7 @@ pub opens-held : (kind : Kind) (a : Action) → opens a ≡ true → starts_temp
 unfolding push_marker frameset_not_ok set_mode push_template_mode
 opens-held (Starts names) (Then InsertMarker (Then FramesetNotOk (Then (SwitchTo mode.InTemplate) (Then (PushTemplateMode mode.InTemplate) InsertTemplate)))) o p (TagToken tag) f s later well h =
     let q : State = push_template_mode mode.InTemplate (set_mode mode.InTemplate (frameset_not_ok (push_marker s))) in
-    opened-held s q (insert_template tag q) tag (among-all tag.name names (names_of set.Template) p (and_parts (is_start_tag tag.kind) _ f).1) later well h refl refl refl refl refl h.listed h.original (template-topped tag q) (template-Aside tag q)
+    opened-held s q (insert_template tag q) tag (among-all tag.name names (names_of set.Template) p (and_parts (is_start_tag tag.kind) _ f).1) later well h refl refl refl refl refl h.listed h.original (template-topped tag q) (template-keeps aside_kept tag q)
 opens-held (Starts names) (Then InsertMarker (Then FramesetNotOk (Then (SwitchTo mode.InTemplate) (Then (PushTemplateMode mode.InTemplate) InsertTemplate)))) o p t f s later well h = no f
 opens-held kind (Then InsertMarker (Then FramesetNotOk (Then (SwitchTo mode.InTemplate) (Then (PushTemplateMode mode.InTemplate) InsertTemplate)))) o p t f s later well h = no p
 opens-held kind a o p t f s later well h = no o

@@ -28,7 +28,7 @@ use Rattle.html_rules.specs.declared.tag_set.TagSet.TheVariants as set
 use Rattle.html_rules_laws.specs.Held.{Held}
 use Rattle.html_rules_laws.specs.Placing.{are_general, is_in_head, may_stand_over, stand_well}
 use Rattle.html_rules_laws.specs.Sound.{are_placed, are_placed_in, are_placed_under, asks_root, comes_from_table, has_its_head, is_later, is_later_original, is_over_head_element, is_own, is_table_mode}
-use Rattle.html_rules_laws.proofs.Aside.{expect_to_close-Aside}
+use Rattle.html_rules_laws.proofs.Aside.{aside_kept}
 use Rattle.html_rules_laws.proofs.Firm.{IsPlain, firm-part, over-plain, part-html}
 use Rattle.html_rules_laws.proofs.SetFacts.{all_among, among-all, in-apart}
 use Rattle.html_rules_laws.proofs.Settling.Kinds.{Kind, Starts, is_of}
@@ -38,6 +38,7 @@ use Rattle.html_rules_laws.proofs.Soundness.Rows.{IsCalm, StandsWell, closes, st
 use Rattle.html_rules_laws.proofs.Standing.{part-but_root, part-from}
 use Rattle.html_rules_laws.proofs.Tame.{behind-listed, expect_to_close-tame}
 use Rattle.html_rules_laws.proofs.Bools.{both, no, not_true, or_true}
+use Rattle.html_rules_laws.proofs.KeptBySteps.{expect_to_close-keeps}
 
 -- templates are closed
 
@@ -54,7 +55,7 @@ unfolding generate_implied_end_tags clear_active_formatting_to_marker pop_templa
 thorough-closed s later well h there =
     let one : State = generate_implied_end_tags set.ThoroughImpliedEnd s in
     let two : State = expect_to_close (is_in set.Template) one in
-    let aside = expect_to_close-Aside (is_in set.Template) one in
+    let aside = expect_to_close-keeps aside_kept (is_in set.Template) one in
     let listed = (expect_to_close-tame (is_in set.Template) one h.listed).listed in
     let zs : List Open = left_from kept_by_implied s.open_elems in
     let count = implied-count s.open_elems in

@@ -26,7 +26,7 @@ use Rattle.html_rules.specs.declared.tag_set.TagSet.TheVariants as set
 use Rattle.html_rules_laws.specs.Held.{HasRoot, Held, wanted}
 use Rattle.html_rules_laws.specs.Placing.{is_in_head, stand_well}
 use Rattle.html_rules_laws.specs.Sound.{are_placed_under, asks_root, is_later, is_over_head_element, is_own}
-use Rattle.html_rules_laws.proofs.Aside.{foreign-Aside}
+use Rattle.html_rules_laws.proofs.Aside.{aside_kept}
 use Rattle.html_rules_laws.proofs.Settling.Kinds.{Kind, Starts, StartsBut, EndsBut, Texts, Nulls, TheEnd, Others, is_of}
 use Rattle.html_rules_laws.proofs.Soundness.Acts.{act-aside, act-tame, tame_in}
 use Rattle.html_rules_laws.proofs.Soundness.Moves.{HoldsTame, is_loose, loose-tame, lost-tame}
@@ -34,6 +34,7 @@ use Rattle.html_rules_laws.proofs.Soundness.Scan.{scan, scan-holds}
 use Rattle.html_rules_laws.proofs.Soundness.Tokens.{Holder, each_kind, foreign_row, foreign_sound, head_names, is_insert_foreign, mode_sound, modes_sound, named_apart, root_names, template_names, uses-held, uses_sound}
 use Rattle.html_rules_laws.proofs.Tame.{foreign-tame}
 use Rattle.html_rules_laws.proofs.Bools.{both, no, or_by}
+use Rattle.html_rules_laws.proofs.KeptBySteps.{foreign-keeps}
 
 -- an element that is foreign is not HTML's
 
@@ -151,7 +152,7 @@ foreign-tames s t h f = by (is_loose s.mode) refl where
 
 insert-foreign : (a : Action) → is_insert_foreign a ≡ true → (t : Token) (s : State) → is_foreign s t ≡ true → Held s → HoldsTame s → Held (act a t s)
 unfolding foreign_start
-insert-foreign InsertForeign h (TagToken tag) s f is tames = tames (foreign_start tag s) (foreign-tame (adjusted_current_node s) tag (foreign-there s (TagToken tag) f) s is.listed) (foreign-Aside (adjusted_current_node s) tag s)
+insert-foreign InsertForeign h (TagToken tag) s f is tames = tames (foreign_start tag s) (foreign-tame (adjusted_current_node s) tag (foreign-there s (TagToken tag) f) s is.listed) (foreign-keeps aside_kept (adjusted_current_node s) tag s)
 insert-foreign InsertForeign h t s f is tames = is
 insert-foreign a h t s f is tames = no h
 

@@ -23,11 +23,12 @@ use Rattle.html_rules.specs.declared.insertion_mode.InsertionMode.{InsertionMode
 use Rattle.html_rules.specs.declared.insertion_mode.InsertionMode.TheVariants as mode
 use Rattle.html_rules.specs.declared.tag_set.TagSet.TheVariants as set
 use Rattle.html_rules_laws.specs.Settled.{are_template_modes, is_template_mode}
-use Rattle.html_rules_laws.proofs.Aside.{IsAside, first-modes, for_tag-Aside, foreign-Aside, insert_element-Aside, parse_error-Aside, push_head-Aside, template-Aside}
+use Rattle.html_rules_laws.proofs.Aside.{IsAside, aside_kept, first-modes}
 use Rattle.html_rules_laws.proofs.FirstFit.{by_fit}
 use Rattle.html_rules_laws.proofs.Settling.Kinds.{Texts}
 use Rattle.html_rules_laws.proofs.Soundness.Acts.{act-aside, tame_in}
 use Rattle.html_rules_laws.proofs.Bools.{no, not_true, or_by}
+use Rattle.html_rules_laws.proofs.KeptBySteps.{for_tag-keeps, foreign-keeps, push_head-keeps, template-keeps}
 
 abbrev pub is_text : InsertionMode → Bool
 is_text mode.Text = true
@@ -129,13 +130,13 @@ act-out ResetMode p t s h = reset-out s h.original h.modes
 act-out PopTemplateMode p t s h = record { mode = h.mode; original = h.original; modes = first-modes s.template_modes h.modes }
 act-out (PushTemplateMode m) p t s h = record { mode = h.mode; original = h.original; modes = rw p h.modes }
 act-out (SetTemplateMode m) p t s h = record { mode = h.mode; original = h.original; modes = rw p (first-modes s.template_modes h.modes) }
-act-out (InsertNew name) p t s h = aside-outside s _ (insert_element-Aside Html name [] false s) h
+act-out (InsertNew name) p t s h = aside-outside s _ (aside_kept.inserts Html name [] false s) h
 act-out CreateRoot p t s h = record { mode = h.mode; original = h.original; modes = h.modes }
 act-out CreateNewRoot p t s h = record { mode = h.mode; original = h.original; modes = h.modes }
-act-out InsertTemplate p t s h = aside-outside s _ (for_tag-Aside insert_template t template-Aside s) h
+act-out InsertTemplate p t s h = aside-outside s _ (for_tag-keeps aside_kept insert_template t (template-keeps aside_kept) s) h
 act-out SetHeadElem p t s h = record { mode = h.mode; original = h.original; modes = h.modes }
-act-out PushHeadElem p t s h = aside-outside s _ (push_head-Aside s.head_elem s) h
-act-out InsertForeign p t s h = aside-outside s _ (for_tag-Aside foreign_start t (λ tag s. foreign-Aside (adjusted_current_node s) tag s) s) h
+act-out PushHeadElem p t s h = aside-outside s _ (push_head-keeps aside_kept s.head_elem s) h
+act-out InsertForeign p t s h = aside-outside s _ (for_tag-keeps aside_kept foreign_start t (λ tag s. foreign-keeps aside_kept (adjusted_current_node s) tag s) s) h
 act-out a p t s h = aside-outside s _ (act-aside Texts a p t s) h
 
 -- actions that do, last of all
@@ -269,7 +270,7 @@ abbrev pub IsOutside : Settled → Type 0
 IsOutside settled = Outside settled.state ⊎ ((settled.state.mode ≡ mode.Text) × IsRaw settled.reply)
 
 pub error-out : (s : State) → Outside s → Outside (parse_error s)
-error-out s o = aside-outside s (parse_error s) (parse_error-Aside s) o
+error-out s o = aside-outside s (parse_error s) (aside_kept.errs s) o
 
 pub check-out : (acknowledged : Bool) (t : Token) (s : State) → Outside s → Outside (check_acknowledged acknowledged t s)
 check-out true t s o = o

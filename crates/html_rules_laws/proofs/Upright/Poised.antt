@@ -26,7 +26,7 @@ use Rattle.html_rules_laws.specs.Ready.{are_formatting}
 use Rattle.html_rules_laws.specs.Soundness.{Standing, is_plain_action}
 use Rattle.html_rules_laws.specs.Upright.{Upright, is_first}
 use Rattle.html_rules_laws.proofs.ActionsStanding.{actions-Standing}
-use Rattle.html_rules_laws.proofs.Aside.{template-Aside}
+use Rattle.html_rules_laws.proofs.Aside.{aside_kept}
 use Rattle.html_rules_laws.proofs.SetFacts.{among-all, in-apart}
 use Rattle.html_rules_laws.proofs.Settling.Kinds.{Kind, Starts, is_of}
 use Rattle.html_rules_laws.proofs.Soundness.Acts.{act-aside, act-tame, tame_in}
@@ -38,6 +38,7 @@ use Rattle.html_rules_laws.proofs.Upright.Acts.{act-eased}
 use Rattle.html_rules_laws.proofs.Upright.Eases.{Eases, eased-after, eased-either, eased-same}
 use Rattle.html_rules_laws.proofs.Upright.Steps.{insert_element-eased, open_element-eased, pop-eased}
 use Rattle.html_rules_laws.proofs.Bools.{both, no, not_true}
+use Rattle.html_rules_laws.proofs.KeptBySteps.{template-keeps}
 
 abbrev pub is_first_original : Option InsertionMode → Bool
 is_first_original None = false
@@ -105,7 +106,7 @@ template-eased tag h s is =
 
 template-poised : (tag : Tag) → is_among tag.name (names_of set.Template) ≡ true → (s : State) → Poised s → Poised (insert_template tag s)
 template-poised tag e s h =
-    let aside = template-Aside tag s in
+    let aside = template-keeps aside_kept tag s in
     let top = template-topped tag s in
     record {
       upright = eased-Upright s (insert_template tag s) h.upright (insert_template-Standing tag s h.upright.standing) (template-eased tag e s h.upright.standing) aside.head aside.context;

@@ -28,7 +28,7 @@ use Rattle.html_rules_laws.specs.Settled.{are_template_modes, is_template_mode}
 use Rattle.html_rules_laws.specs.Sound.{is_later_original}
 use Rattle.html_rules_laws.specs.Soundness.{is_plain_action}
 use Rattle.html_rules_laws.specs.Upright.{MayCome, Upright, is_first, is_head_start}
-use Rattle.html_rules_laws.proofs.Aside.{foreign-Aside}
+use Rattle.html_rules_laws.proofs.Aside.{aside_kept}
 use Rattle.html_rules_laws.proofs.Settling.Kinds.{Kind, Starts, StartsBut, EndsBut, Texts, Nulls, TheEnd, Others, is_of}
 use Rattle.html_rules_laws.proofs.Soundness.Rows.{quiet, quiet-same, quiet-tame}
 use Rattle.html_rules_laws.proofs.Soundness.Scan.{scan, scan-holds}
@@ -43,6 +43,7 @@ use Rattle.html_rules_laws.proofs.Upright.Roots.{rooted-Upright}
 use Rattle.html_rules_laws.proofs.Upright.Rows.{each_kind, head_contents, mode-poised, mode_poised, named_apart, uses_poised}
 use Rattle.html_rules_laws.proofs.Upright.Steps.{foreign_start_at-eased}
 use Rattle.html_rules_laws.proofs.Bools.{both, no, or_by}
+use Rattle.html_rules_laws.proofs.KeptBySteps.{foreign-keeps}
 
 -- the kind of a token
 
@@ -213,14 +214,14 @@ popped-poised a h t kind f s is = no h
 foreign-upright : (tag : Tag) (s : State) → is_foreign s (TagToken tag) ≡ true → Upright s → Upright (foreign_start tag s)
 unfolding foreign_start
 foreign-upright tag s f is =
-    let aside = foreign-Aside (adjusted_current_node s) tag s in
+    let aside = foreign-keeps aside_kept (adjusted_current_node s) tag s in
     eased-Upright s (foreign_start tag s) is (foreign_start-Standing tag s is.context is.standing)
     (foreign_start_at-eased (adjusted_current_node s) tag (own-by s.forest s.context_elem s.open_elems is.context is.standing.opened) (foreign-there s (TagToken tag) f) s is.standing) aside.head aside.context
 
 pub foreign-poised : (tag : Tag) (s : State) → is_foreign s (TagToken tag) ≡ true → Poised s → Poised (foreign_start tag s)
 unfolding foreign_start
 foreign-poised tag s f is =
-    let aside = foreign-Aside (adjusted_current_node s) tag s in
+    let aside = foreign-keeps aside_kept (adjusted_current_node s) tag s in
     record {
       upright = foreign-upright tag s f is.upright;
       listed = (foreign-tame (adjusted_current_node s) tag (foreign-there s (TagToken tag) f) s is.listed).listed;
