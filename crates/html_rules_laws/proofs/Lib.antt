@@ -22,6 +22,7 @@ pub mod Nesting
 pub mod ReachedRows
 pub mod Reopened
 pub mod Replies
+pub mod ResetModes
 pub mod Rises
 pub mod Soundness
 pub mod Standing

@@ -39,7 +39,7 @@ same_part CaptionPart CaptionPart = true
 same_part Columns Columns = true
 same_part p q = false
 
-same-is : (p q : Part) → same_part p q ≡ true → q ≡ p
+pub same-is : (p q : Part) → same_part p q ≡ true → q ≡ p
 same-is Root Root h = refl
 same-is HeadPart HeadPart h = refl
 same-is BodyPart BodyPart h = refl

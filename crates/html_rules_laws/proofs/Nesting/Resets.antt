@@ -21,24 +21,10 @@ use Rattle.html_rules_laws.proofs.Nesting.Fits.{some-part}
 use Rattle.html_rules_laws.proofs.Nesting.Fluid.{base-solid, is_nothing, loose-is}
 use Rattle.html_rules_laws.proofs.Nesting.Runs.{is_template_base, top-base}
 use Rattle.html_rules_laws.proofs.Nesting.Stacks.{loose-takes}
-use Rattle.html_rules_laws.proofs.Nesting.Parts.{has_part, part-set, same_part, set-part}
+use Rattle.html_rules_laws.proofs.Nesting.Parts.{has_part, part-set, same-is, same_part, set-part}
 use Rattle.html_rules_laws.proofs.Bools.{no}
 
 -- whether an element is in a part's set is whether it is that part
-same-is : (q p : Part) → same_part q p ≡ true → p ≡ q
-same-is Root Root h = refl
-same-is HeadPart HeadPart h = refl
-same-is BodyPart BodyPart h = refl
-same-is Frames Frames h = refl
-same-is Contents Contents h = refl
-same-is TablePart TablePart h = refl
-same-is Section Section h = refl
-same-is RowPart RowPart h = refl
-same-is Cell Cell h = refl
-same-is CaptionPart CaptionPart h = refl
-same-is Columns Columns h = refl
-same-is q p h = no h
-
 is-part : (q : Part) → has_part q (set_of q) ≡ true → is_loose q ≡ false → same_part q q ≡ true → (x : Open) → is_in (set_of q) x ≡ same_part q (part_of x)
 is-part q h l s x = by (is_in (set_of q) x) (same_part q (part_of x)) refl refl where
   by : (a b : Bool) → is_in (set_of q) x ≡ a → same_part q (part_of x) ≡ b → a ≡ b

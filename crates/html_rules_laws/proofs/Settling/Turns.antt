@@ -10,17 +10,17 @@ use Rattle.html_rules.specs.Conditions.{holds}
 use Rattle.html_rules.specs.Encodings.{encoding_hint}
 use Rattle.html_rules.specs.ForeignContent.{is_foreign}
 use Rattle.html_rules.specs.Modes.Foreign.{in_foreign_content}
-use Rattle.html_rules.specs.Reset.{current_template_mode, mode_of, mode_of_context, mode_of_html, mode_of_open, reset_insertion_mode}
+use Rattle.html_rules.specs.Reset.{mode_of_html, reset_insertion_mode}
 use Rattle.html_rules.specs.Rules.{Ending, Finished, Again, Replied, Settled, Turn, concluded, encoding_reply, first_fit, four_for_each, most_modes, rows, settle, settled_by, turn, turn_by_row, using_rules_for, within}
 use Rattle.html_rules.specs.Stack.{pop_but_root, pop_until_current}
-use Rattle.html_rules.specs.State.{Open, State, current_number, is_in}
+use Rattle.html_rules.specs.State.{Open, State, current_number}
 use Rattle.html_rules.specs.Table.{Row, Condition, CurrentIs, InScope, Action, Then, ClearBackTo, Pop, ResetMode, TellPendingText, Conclusion, Done, Acknowledged, Reprocess, ReprocessInOriginal, ReprocessInMode, Using, UsingThen, UsingCurrentMode, RawText, PlainText, RunScript, TellEncoding}
 use Rattle.html_rules.specs.Tokens.{attributes_of, class_fits}
 use Rattle.html_rules.specs.declared.insertion_mode.InsertionMode.{InsertionMode}
 use Rattle.html_rules.specs.declared.insertion_mode.InsertionMode.TheVariants as mode
 use Rattle.html_rules.specs.declared.tag_set.TagSet.TheVariants as set
 use Rattle.html_rules_laws.specs.Ready.{are_formatting}
-use Rattle.html_rules_laws.specs.Settled.{are_template_modes, is_template_mode}
+use Rattle.html_rules_laws.specs.Settled.{are_template_modes}
 use Rattle.html_rules_laws.specs.WholeTable.{is_always}
 use Rattle.html_rules_laws.proofs.SetFacts.{apart}
 use Rattle.html_rules_laws.proofs.Settling.Kinds.{Kind, hit, hit-is, is_none, is_of, left, left-is, none-of}
@@ -28,6 +28,7 @@ use Rattle.html_rules_laws.proofs.Settling.Matters.{all_pay, all_pay_or_root, cl
 use Rattle.html_rules_laws.proofs.Settling.Ranks.{Family, again_ok, ends_ok, is_paying, is_reset_mode, is_telling, is_text_mode, kind_of, may_reset, mode-ok, mode_ok, pops_found, pops_scoped, rank, rank_ok, row_ok, rows_ok, uses_ok}
 use Rattle.html_rules_laws.proofs.Settling.Steps.{brought, closes, closes-less, IsMild, is_known, is_mild, known-brings, mild-is, pending-told, resets}
 use Rattle.html_rules_laws.proofs.TotalRows.{always_holds}
+use Rattle.html_rules_laws.proofs.ResetModes.{context-passes, is_asked, open-passes}
 
 -- what a state may still take
 abbrev worth : Family → State → ℕ
@@ -119,48 +120,29 @@ paying-less r h t s k e = by (closes r.does && tells r.on r.when) refl h where
 
 -- the modes that a reset may give
 
-IsReset : InsertionMode → Type 0
+abbrev IsReset : InsertionMode → Type 0
 IsReset m = is_reset_mode m ≡ true
 
-choose-reset : (b : Bool) (x y : Unit {0} → InsertionMode) → is_reset_mode (x tt) ≡ true → is_reset_mode (y tt) ≡ true → is_reset_mode (choose b x y) ≡ true
-choose-reset true x y h k = h
-choose-reset false x y h k = k
+asked-reset : (m : InsertionMode) → is_asked m ≡ true → IsReset m
+asked-reset mode.InCell h = refl
+asked-reset mode.InRow h = refl
+asked-reset mode.InTableBody h = refl
+asked-reset mode.InCaption h = refl
+asked-reset mode.InColumnGroup h = refl
+asked-reset mode.InTable h = refl
+asked-reset mode.InTemplate h = refl
+asked-reset mode.InBody h = refl
+asked-reset mode.InFrameset h = refl
+asked-reset m h = absurd (true≢false (sym h))
 
-template-reset : (m : InsertionMode) → is_template_mode m ≡ true → is_reset_mode m ≡ true
-template-reset mode.InTemplate h = refl
-template-reset mode.InTable h = refl
-template-reset mode.InColumnGroup h = refl
-template-reset mode.InTableBody h = refl
-template-reset mode.InRow h = refl
-template-reset mode.InBody h = refl
-template-reset m h = absurd (true≢false (sym h))
-
-current-reset : (modes : List InsertionMode) → are_template_modes modes ≡ true → is_reset_mode (current_template_mode modes) ≡ true
-current-reset [] h = refl
-current-reset (m ∷ modes) h = template-reset m (and_parts (is_template_mode m) (are_template_modes modes) h).0
-
-html-reset : (o : Option ℕ) → is_reset_mode (mode_of_html o) ≡ true
+html-reset : (o : Option ℕ) → IsReset (mode_of_html o)
 html-reset None = refl
 html-reset (Some n) = refl
-
-mode-reset : (s : State) (x : Open) (before : Unit {0} → InsertionMode) → are_template_modes s.template_modes ≡ true → is_reset_mode (before tt) ≡ true → is_reset_mode (mode_of s x before) ≡ true
-mode-reset s x before h k =
-    choose-reset (is_in set.Tr x) _ _ refl (choose-reset (is_in set.TbodyTfootThead x) _ _ refl (choose-reset (is_in set.Caption x) _ _ refl (choose-reset (is_in set.Colgroup x) _ _ refl (choose-reset (is_in set.Table x) _ _ refl
-    (choose-reset (is_in set.Template x) _ _ (current-reset s.template_modes h) (choose-reset (is_in set.Body x) _ _ refl (choose-reset (is_in set.Frameset x) _ _ refl (choose-reset (is_in set.Html x) _ before (html-reset s.head_elem) k))))))))
-
-context-reset : (s : State) (o : Option Open) → are_template_modes s.template_modes ≡ true → is_reset_mode (mode_of_context s o) ≡ true
-context-reset s None h = html-reset s.head_elem
-context-reset s (Some x) h = mode-reset s x (λ _. mode.InBody) h refl
-
-open-reset : (s : State) (xs : List Open) → are_template_modes s.template_modes ≡ true → is_reset_mode (mode_of_open s xs) ≡ true
-open-reset s [] h = refl
-open-reset s (x ∷ xs) h =
-    choose-reset (is_in set.TdTh x) _ _ refl (choose-reset (is_in set.Head x) _ _ refl (choose-reset (is_in set.Html x) _ _ (context-reset s s.context_elem h) (mode-reset s x (λ _. mode_of_open s xs) h (open-reset s xs h))))
 
 resets-mode : (a : Action) → resets a ≡ true → is_known a ≡ true → (t : Token) (s : State) → are_template_modes s.template_modes ≡ true → is_reset_mode (act a t s).mode ≡ true
 unfolding reset_insertion_mode
 resets-mode (Then a b) h k t s m = let parts = and_parts (is_known a) (is_known b) k in resets-mode b h parts.1 t (act a t s) ((known-brings a parts.0 t s).modes m)
-resets-mode ResetMode h k t s m = open-reset s s.open_elems m
+resets-mode ResetMode h k t s m = open-passes IsReset asked-reset s s.open_elems m refl (context-passes IsReset asked-reset s s.context_elem m (html-reset s.head_elem))
 resets-mode a h k t s m = absurd (true≢false (sym h))
 
 -- where the token is taken again

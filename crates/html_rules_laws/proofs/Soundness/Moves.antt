@@ -10,7 +10,7 @@ use Rattle.html_rules.specs.Conditions.{context_is}
 use Rattle.html_rules.specs.ForeignContent.{is_html_element}
 use Rattle.html_rules.specs.Names.{Html}
 use Rattle.html_rules.specs.Places.{insert_element, insert_element_for, open_element, with_element}
-use Rattle.html_rules.specs.Reset.{current_template_mode, mode_of, mode_of_context, mode_of_html, mode_of_open, reset_insertion_mode}
+use Rattle.html_rules.specs.Reset.{mode_of, mode_of_context, mode_of_html, mode_of_open, reset_insertion_mode}
 use Rattle.html_rules.specs.Sets.{is_among, mathml_names_of, names_of, svg_names_of}
 use Rattle.html_rules.specs.Shape.{one_if}
 use Rattle.html_rules.specs.Stack.{has_open, left_below, left_from, nothing, open_templates, pop}
@@ -30,6 +30,7 @@ use Rattle.html_rules_laws.proofs.SetFacts.{in-apart}
 use Rattle.html_rules_laws.proofs.Standing.{part-below}
 use Rattle.html_rules_laws.proofs.Tame.{IsTame}
 use Rattle.html_rules_laws.proofs.Bools.{both, or_true}
+use Rattle.html_rules_laws.proofs.ResetModes.{choose-passes, element-passes, is_asked, open-passes}
 
 -- modes in which any element may come
 abbrev pub is_free : InsertionMode → Bool
@@ -235,32 +236,24 @@ opened-held s q r tag name later well h elements modes at head context listed ke
 
 -- the mode is reset
 
-template-free : (m : InsertionMode) → is_template_mode m ≡ true → is_free m ≡ true
-template-free mode.InTemplate h = refl
-template-free mode.InTable h = refl
-template-free mode.InColumnGroup h = refl
-template-free mode.InTableBody h = refl
-template-free mode.InRow h = refl
-template-free mode.InBody h = refl
-template-free m h = absurd (true≢false (sym h))
+abbrev IsFree : InsertionMode → Type 0
+IsFree m = is_free m ≡ true
 
-current-free : (modes : List InsertionMode) → are_template_modes modes ≡ true → is_free (current_template_mode modes) ≡ true
-current-free [] h = refl
-current-free (m ∷ modes) h = template-free m (and_parts (is_template_mode m) (are_template_modes modes) h).0
-
-choose-free : (b : Bool) (x y : Unit {0} → InsertionMode) → (b ≡ true → is_free (x tt) ≡ true) → (b ≡ false → is_free (y tt) ≡ true) → is_free (choose b x y) ≡ true
-choose-free true x y h k = h refl
-choose-free false x y h k = k refl
+asked-free : (m : InsertionMode) → is_asked m ≡ true → IsFree m
+asked-free mode.InCell h = refl
+asked-free mode.InRow h = refl
+asked-free mode.InTableBody h = refl
+asked-free mode.InCaption h = refl
+asked-free mode.InColumnGroup h = refl
+asked-free mode.InTable h = refl
+asked-free mode.InTemplate h = refl
+asked-free mode.InBody h = refl
+asked-free mode.InFrameset h = refl
+asked-free m h = absurd (true≢false (sym h))
 
 html-free : (o : Option ℕ) → is_some o ≡ true → is_free (mode_of_html o) ≡ true
 html-free None h = absurd (true≢false (sym h))
 html-free (Some n) h = refl
-
-mode-free : (s : State) (x : Open) (before : Unit {0} → InsertionMode) → are_template_modes s.template_modes ≡ true → (is_in set.Html x ≡ true → is_some s.head_elem ≡ true) → (is_in set.Template x ≡ false → is_in set.Html x ≡ false → is_free (before tt) ≡ true) → is_free (mode_of s x before) ≡ true
-mode-free s x before h root rest =
-    choose-free (is_in set.Tr x) _ _ (λ e. refl) (λ e. choose-free (is_in set.TbodyTfootThead x) _ _ (λ e. refl) (λ e. choose-free (is_in set.Caption x) _ _ (λ e. refl) (λ e. choose-free (is_in set.Colgroup x) _ _ (λ e. refl) (λ e. choose-free (is_in set.Table x) _ _ (λ e. refl)
-    (λ e. choose-free (is_in set.Template x) _ _ (λ e. current-free s.template_modes h) (λ t. choose-free (is_in set.Body x) _ _ (λ e. refl) (λ e. choose-free (is_in set.Frameset x) _ _ (λ e. refl)
-    (λ e. choose-free (is_in set.Html x) _ before (λ e. html-free s.head_elem (root e)) (λ e. rest t e)))))))))
 
 or_some : (a b : Bool) → (a || not b) ≡ true → b ≡ true → a ≡ true
 or_some true b h e = refl
@@ -268,17 +261,17 @@ or_some false b h e = absurd (true≢false (sym (rw e at h)))
 
 context-free : (s : State) (o : Option Open) → o ≡ s.context_elem → are_template_modes s.template_modes ≡ true → (is_some s.head_elem || not (asks_root s.context_elem)) ≡ true → is_free (mode_of_context s o) ≡ true
 context-free s None e h k = html-free s.head_elem (or_some (is_some s.head_elem) (asks_root s.context_elem) k (rw (← e) refl))
-context-free s (Some x) e h k = mode-free s x (λ _. mode.InBody) h (λ html. or_some (is_some s.head_elem) (asks_root s.context_elem) k (rw (← e) html)) (λ t html. refl)
+context-free s (Some x) e h k = element-passes IsFree asked-free s x (λ _. mode.InBody) h (λ html. html-free s.head_elem (or_some (is_some s.head_elem) (asks_root s.context_elem) k (rw (← e) html))) (λ t html. refl)
 
 open-free : (s : State) (xs : List Open) → are_template_modes s.template_modes ≡ true → (is_some s.head_elem || not (asks_root s.context_elem)) ≡ true → stand_well xs ≡ true → is_in_head xs ≡ false → has_open set.Html xs ≡ true
     → is_free (mode_of_open s xs) ≡ true
 open-free s [] h k w g root = refl
 open-free s (x ∷ xs) h k w g root =
     let parts = and_parts (may_stand_over x xs) (stand_well xs) w in
-    choose-free (is_in set.TdTh x) _ _ (λ e. refl)
-    (λ e. choose-free (is_in set.Head x) _ _ (λ head. absurd (no-head head))
-    (λ head. choose-free (is_in set.Html x) _ _ (λ e. context-free s s.context_elem refl h k)
-    (λ html. mode-free s x (λ _. mode_of_open s xs) h (λ e. absurd (true≢false (sym e ∙ html))) (λ t html. open-free s xs h k parts.1 (over-plain x xs parts.0 t) (behind html)))))
+    choose-passes IsFree asked-free (is_in set.TdTh x) _ _ (λ e. refl)
+    (λ e. choose-passes IsFree asked-free (is_in set.Head x) _ _ (λ head. absurd (no-head head))
+    (λ head. choose-passes IsFree asked-free (is_in set.Html x) _ _ (λ e. context-free s s.context_elem refl h k)
+    (λ html. element-passes IsFree asked-free s x (λ _. mode_of_open s xs) h (λ e. absurd (true≢false (sym e ∙ html))) (λ t html. open-free s xs h k parts.1 (over-plain x xs parts.0 t) (behind html)))))
   where
     behind : is_in set.Html x ≡ false → has_open set.Html xs ≡ true
     behind e = rw e at root
@@ -317,25 +310,8 @@ some-head : (m : InsertionMode) (head : Option ℕ) (context : Option Open) → 
 some-head m head context l h = rw l h
 
 -- a reset gives a later mode
-mode-later : (s : State) (x : Open) (before : Unit {0} → InsertionMode) → are_template_modes s.template_modes ≡ true → (is_in set.Html x ≡ true → is_some s.head_elem ≡ true) → is_later (before tt) ≡ true → is_later (mode_of s x before) ≡ true
-mode-later s x before h root rest =
-    choose-later (is_in set.Tr x) _ _ (λ e. refl) (λ e. choose-later (is_in set.TbodyTfootThead x) _ _ (λ e. refl) (λ e. choose-later (is_in set.Caption x) _ _ (λ e. refl) (λ e. choose-later (is_in set.Colgroup x) _ _ (λ e. refl) (λ e. choose-later (is_in set.Table x) _ _ (λ e. refl)
-    (λ e. choose-later (is_in set.Template x) _ _ (λ e. free-later _ (current-free s.template_modes h)) (λ t. choose-later (is_in set.Body x) _ _ (λ e. refl) (λ e. choose-later (is_in set.Frameset x) _ _ (λ e. refl)
-    (λ e. choose-later (is_in set.Html x) _ before (λ e. free-later _ (html-free s.head_elem (root e))) (λ e. rest)))))))))
-  where
-    choose-later : (b : Bool) (x y : Unit {0} → InsertionMode) → (b ≡ true → is_later (x tt) ≡ true) → (b ≡ false → is_later (y tt) ≡ true) → is_later (choose b x y) ≡ true
-    choose-later true x y h k = h refl
-    choose-later false x y h k = k refl
-
 open-later : (s : State) (xs : List Open) → are_template_modes s.template_modes ≡ true → (is_some s.head_elem || not (asks_root s.context_elem)) ≡ true → is_later (mode_of_open s xs) ≡ true
-open-later s [] h k = refl
-open-later s (x ∷ xs) h k = by (is_in set.TdTh x) (is_in set.Head x) (is_in set.Html x) refl (open-later s xs h k) where
-  by : (a b c : Bool) → is_in set.Html x ≡ c → is_later (mode_of_open s xs) ≡ true
-      → is_later (choose a (λ _. mode.InCell) (λ _. choose b (λ _. mode.InHead) (λ _. choose c (λ _. mode_of_context s s.context_elem) (λ _. mode_of s x (λ _. mode_of_open s xs))))) ≡ true
-  by true b c e rest = refl
-  by false true c e rest = refl
-  by false false true e rest = free-later _ (context-free s s.context_elem refl h k)
-  by false false false e rest = mode-later s x (λ _. mode_of_open s xs) h (λ html. absurd (true≢false (sym html ∙ e))) rest
+open-later s xs h k = open-passes (λ m. is_later m ≡ true) (λ m asked. free-later m (asked-free m asked)) s xs h refl (free-later _ (context-free s s.context_elem refl h k))
 
 -- by a step behind which the elements stand well
 pub reset-held : (q : State) → are_formatting q.active_formatting ≡ true → is_later_original q.orig_mode ≡ true → are_template_modes q.template_modes ≡ true → (is_some q.head_elem || not (asks_root q.context_elem)) ≡ true → wanted q ≤ length q.template_modes

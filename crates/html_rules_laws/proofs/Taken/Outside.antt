@@ -12,11 +12,11 @@ use Rattle.html_rules.specs.ForeignContent.{foreign_start, is_foreign}
 use Rattle.html_rules.specs.Modes.Foreign.{in_foreign_content}
 use Rattle.html_rules.specs.Names.{Html}
 use Rattle.html_rules.specs.Places.{create_root}
-use Rattle.html_rules.specs.Reset.{current_template_mode, mode_of, mode_of_context, mode_of_html, mode_of_open, reset_insertion_mode}
+use Rattle.html_rules.specs.Reset.{mode_of_html, mode_of_open, reset_insertion_mode}
 use Rattle.html_rules.specs.Rules.{Ending, Finished, Again, Replied, Settled, Turn, check_acknowledged, concluded, first_fit, fits, four_for_each, is_self_closing, most_modes, rows, settle, settled_by, turn, turn_by_row, using_rules_for, within}
 use Rattle.html_rules.specs.Sets.{names_of}
 use Rattle.html_rules.specs.Stack.{parse_error}
-use Rattle.html_rules.specs.State.{Open, State, adjusted_current_node, current_number, is_in}
+use Rattle.html_rules.specs.State.{Open, State, adjusted_current_node, current_number}
 use Rattle.html_rules.specs.Table.{Row, Action, Then, When, InsertNew, CreateRoot, CreateNewRoot, InsertTemplate, SetHeadElem, PushHeadElem, SwitchTo, KeepMode, BackToOriginal, ResetMode, PushTemplateMode, SetTemplateMode, PopTemplateMode, InsertForeign, Conclusion, Done, Acknowledged, Reprocess, ReprocessInOriginal, ReprocessInMode, Using, UsingThen, UsingCurrentMode, RawText, PlainText, RunScript, TellEncoding}
 use Rattle.html_rules.specs.Templates.{insert_template}
 use Rattle.html_rules.specs.declared.insertion_mode.InsertionMode.{InsertionMode}
@@ -29,6 +29,7 @@ use Rattle.html_rules_laws.proofs.Settling.Kinds.{Texts}
 use Rattle.html_rules_laws.proofs.Soundness.Acts.{act-aside, tame_in}
 use Rattle.html_rules_laws.proofs.Bools.{no, not_true, or_by}
 use Rattle.html_rules_laws.proofs.KeptBySteps.{for_tag-keeps, foreign-keeps, push_head-keeps, template-keeps}
+use Rattle.html_rules_laws.proofs.ResetModes.{context-passes, is_asked, open-passes}
 
 abbrev pub is_text : InsertionMode → Bool
 is_text mode.Text = true
@@ -49,34 +50,18 @@ aside-outside s r aside h = record { mode = ap is_text aside.mode ∙ h.mode; or
 
 -- the mode that is reset
 
-template-mode : (modes : List InsertionMode) → are_template_modes modes ≡ true → is_text (current_template_mode modes) ≡ false
-template-mode [] h = refl
-template-mode (m ∷ modes) h = by m (and_parts (is_template_mode m) (are_template_modes modes) h).0 where
-  by : (m : InsertionMode) → is_template_mode m ≡ true → is_text m ≡ false
-  by mode.Text h = no h
-  by m h = refl
+asked-out : (m : InsertionMode) → is_asked m ≡ true → is_text m ≡ false
+asked-out mode.Text h = no h
+asked-out m h = refl
 
-either-mode : (b : Bool) (x y : Unit {0} → InsertionMode) → is_text (x tt) ≡ false → is_text (y tt) ≡ false → is_text (choose b x y) ≡ false
-either-mode true x y h k = h
-either-mode false x y h k = k
+html-out : (o : Option ℕ) → is_text (mode_of_html o) ≡ false
+html-out None = refl
+html-out (Some n) = refl
 
-html-mode : (o : Option ℕ) → is_text (mode_of_html o) ≡ false
-html-mode None = refl
-html-mode (Some n) = refl
-
-element-mode : (s : State) (x : Open) (before : Unit {0} → InsertionMode) → are_template_modes s.template_modes ≡ true → is_text (before tt) ≡ false → is_text (mode_of s x before) ≡ false
-element-mode s x before h rest =
-    either-mode (is_in set.Tr x) _ _ refl (either-mode (is_in set.TbodyTfootThead x) _ _ refl (either-mode (is_in set.Caption x) _ _ refl (either-mode (is_in set.Colgroup x) _ _ refl (either-mode (is_in set.Table x) _ _ refl
-    (either-mode (is_in set.Template x) _ _ (template-mode s.template_modes h) (either-mode (is_in set.Body x) _ _ refl (either-mode (is_in set.Frameset x) _ _ refl (either-mode (is_in set.Html x) _ before (html-mode s.head_elem) rest))))))))
-
-context-mode : (s : State) (o : Option Open) → are_template_modes s.template_modes ≡ true → is_text (mode_of_context s o) ≡ false
-context-mode s None h = html-mode s.head_elem
-context-mode s (Some x) h = element-mode s x (λ _. mode.InBody) h refl
-
-open-mode : (s : State) (xs : List Open) → are_template_modes s.template_modes ≡ true → is_text (mode_of_open s xs) ≡ false
-open-mode s [] h = refl
-open-mode s (x ∷ xs) h =
-    either-mode (is_in set.TdTh x) _ _ refl (either-mode (is_in set.Head x) _ _ refl (either-mode (is_in set.Html x) _ _ (context-mode s s.context_elem h) (element-mode s x (λ _. mode_of_open s xs) h (open-mode s xs h))))
+open-out : (s : State) (xs : List Open) → are_template_modes s.template_modes ≡ true → is_text (mode_of_open s xs) ≡ false
+open-out s xs h =
+    let P : InsertionMode → Type 0 = λ m. is_text m ≡ false in
+    open-passes P asked-out s xs h refl (context-passes P asked-out s s.context_elem h (html-out s.head_elem))
 
 -- actions that do not switch to it
 
@@ -117,7 +102,7 @@ back-out s k o m = record { mode = or-out s.orig_mode s.mode o k; original = ref
 
 pub reset-out : (s : State) → is_text_original s.orig_mode ≡ false → are_template_modes s.template_modes ≡ true → Outside (reset_insertion_mode s)
 unfolding reset_insertion_mode
-reset-out s o m = record { mode = open-mode s s.open_elems m; original = o; modes = m }
+reset-out s o m = record { mode = open-out s s.open_elems m; original = o; modes = m }
 
 act-out : (a : Action) → out_in a ≡ true → (t : Token) (s : State) → Outside s → Outside (act a t s)
 unfolding keep_mode pop_template_mode push_template_mode set_template_mode create_root set_head_elem push_head_elem foreign_start
