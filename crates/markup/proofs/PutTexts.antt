@@ -188,22 +188,22 @@ previous-IsNode f (Before p s) n is e = is.in_range p n (is_among-those_before n
 
 -- attributes
 
+pub is_contents-with_attributes : (d : NodeData) (others : List Attribute) → is_contents (with_attributes d others) ≡ is_contents d
+is_contents-with_attributes Document others = refl
+is_contents-with_attributes Contents others = refl
+is_contents-with_attributes (Doctype a b c) others = refl
+is_contents-with_attributes (Text a) others = refl
+is_contents-with_attributes (Comment a) others = refl
+is_contents-with_attributes (ProcessingInstruction a b) others = refl
+is_contents-with_attributes (Element a b c d) others = refl
+
 IsKind-with_attributes : (f : Forest) (n : ℕ) (others : List Attribute) → IsForest f → IsKind f n (with_attributes (data_of f n) others)
 IsKind-with_attributes f n others is = record {
-  contents = contents (data_of f n);
+  contents = is_contents-with_attributes (data_of f n) others;
   holds = holds (data_of f n);
   first = λ first. rw (first, is.document_first) refl;
 }
   where
-    contents : (d : NodeData) → is_contents (with_attributes d others) ≡ is_contents d
-    contents Document = refl
-    contents Contents = refl
-    contents (Doctype a b c) = refl
-    contents (Text a) = refl
-    contents (Comment a) = refl
-    contents (ProcessingInstruction a b) = refl
-    contents (Element a b c d) = refl
-
     holds : (d : NodeData) → holds_children (with_attributes d others) ≡ holds_children d
     holds Document = refl
     holds Contents = refl

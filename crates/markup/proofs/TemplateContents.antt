@@ -9,7 +9,7 @@ use Rattle.markup.specs.declared.names.QualName.{QualName}
 use Rattle.markup.specs.declared.attributes.Attribute.{Attribute}
 use Rattle.markup.specs.declared.flags.ElementFlags.{ElementFlags}
 use Rattle.markup.proofs.Parents.{data_of-past, data_of-with_children, data_of-with_data, data_of-with_data_other, data_of-with_node_new, data_of-with_node_old, node_count-with_node}
-use Rattle.markup.proofs.PutTexts.{element_name-with_attributes, template_of-with_attributes, text-IsNode, text_of-is}
+use Rattle.markup.proofs.PutTexts.{element_name-with_attributes, is_contents-with_attributes, template_of-with_attributes, text-IsNode, text_of-is}
 
 -- alike as to templates and contents
 pub record IsAlike (d e : NodeData) : Type 0 where
@@ -170,19 +170,10 @@ HasContents-put_text f place characters has =
 
 pub IsAlike-with_attributes : (d : NodeData) (others : List Attribute) → IsAlike (with_attributes d others) d
 IsAlike-with_attributes d others = record {
-  contents = contents d;
+  contents = is_contents-with_attributes d others;
   template = template_of-with_attributes d others;
   name = element_name-with_attributes d others;
 }
-  where
-    contents : (d : NodeData) → is_contents (with_attributes d others) ≡ is_contents d
-    contents Document = refl
-    contents Contents = refl
-    contents (Doctype a b c) = refl
-    contents (Text a) = refl
-    contents (Comment a) = refl
-    contents (ProcessingInstruction a b) = refl
-    contents (Element a b c d) = refl
 
 pub HasContents-add_attributes : (f : Forest) (n : ℕ) (others : List Attribute) → n < node_count f → HasContents f → HasContents (add_attributes f n others)
 HasContents-add_attributes f n others there has =
