@@ -21,7 +21,7 @@ use Rattle.html_rules.specs.Names.{Html, element_name_of, flags_of, namespace_of
 use Rattle.html_rules.specs.State.{Open, State, is_in}
 use Rattle.html_rules.specs.declared.tag_set.TagSet.TheVariants as set
 use Rattle.html_rules_laws.specs.EachText.{IsEachTextTaken}
-use Rattle.html_rules_laws.proofs.Larger.{root-larger}
+use Rattle.html_rules_laws.proofs.Frames.Larger.{root-larger}
 use Rattle.html_tokenizer.specs.declared.tokenizer.Tokenizer.{Tokenizer}
 use Rattle.html_tree_builder.specs.States.{context_in, named_open}
 use Rattle.html_tree_builder.specs.declared.builder.TreeBuilder.{TreeBuilder}

@@ -16,11 +16,11 @@ use Rattle.html_rules.specs.State.{State, hushed}
 use Rattle.html_rules.specs.Step.{answered, behind_line_feed, is_barred, is_idle, is_quiet, step, taken, text_taken, untouched}
 use Rattle.html_rules.specs.declared.insertion_mode.InsertionMode.{InsertionMode}
 use Rattle.html_rules.specs.declared.insertion_mode.InsertionMode.TheVariants.{Text}
-use Rattle.html_rules_laws.proofs.Rises.{rises, taken-hushed}
+use Rattle.html_rules_laws.proofs.ErrorsMonotone.Rises.{rises, taken-hushed}
 use Rattle.html_rules_laws.proofs.StepLaws.{idle-step, refusal_with, step-is}
 use Rattle.html_rules_laws.specs.Coming.{IsTaken, came_of}
 use Rattle.html_rules_laws.specs.Usable.{Usable}
-use Rattle.html_rules_laws.proofs.UsableTokens.{usable-fit, usable-step}
+use Rattle.html_rules_laws.proofs.Progress.UsableTokens.{usable-fit, usable-step}
 
 -- the refusals
 

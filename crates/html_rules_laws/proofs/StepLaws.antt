@@ -18,7 +18,7 @@ use Rattle.html_rules_laws.specs.Lawful.{AreTokensTakenLawfully, TextSound}
 use Rattle.html_rules_laws.specs.Ready.{Ready}
 use Rattle.html_rules_laws.proofs.CharacterTurns.{text-keeps}
 use Rattle.html_rules_laws.proofs.Replies.{taken-well}
-use Rattle.html_rules_laws.proofs.Rises.{rises-none, taken-hushed}
+use Rattle.html_rules_laws.proofs.ErrorsMonotone.Rises.{rises-none, taken-hushed}
 
 -- text in two pieces
 

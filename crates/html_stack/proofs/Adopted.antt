@@ -14,10 +14,10 @@ use Rattle.html_rules.specs.Formatting.{Listed, with_in_place, without_entry}
 use Rattle.html_rules.specs.Names.{Html, element_name_of}
 use Rattle.html_rules.specs.State.{Entry, Element, Marker, Open}
 use Rattle.html_rules_laws.specs.Soundness.{AreOpened, IsApart, IsClear, IsOpened, IsStanding}
-use Rattle.html_rules_laws.proofs.AdoptionOrder.{NoneAbove, apart-between, apart-right, named-opened}
-use Rattle.html_rules_laws.proofs.AdoptionStanding.{not_above_document}
-use Rattle.html_rules_laws.proofs.AdoptionTurn.{Placed}
-use Rattle.html_rules_laws.proofs.AdoptionWalk.{AreClear, Walked, walk-Walked}
+use Rattle.html_rules_laws.proofs.TreePreserved.AdoptionOrder.{NoneAbove, apart-between, apart-right, named-opened}
+use Rattle.html_rules_laws.proofs.TreePreserved.AdoptionStanding.{not_above_document}
+use Rattle.html_rules_laws.proofs.TreePreserved.AdoptionTurn.{Placed}
+use Rattle.html_rules_laws.proofs.TreePreserved.AdoptionWalk.{AreClear, Walked, walk-Walked}
 use Rattle.html_stack.specs.Found.{IsNewest}
 use Rattle.html_stack.specs.Stacks.{open_of, opens_of}
 use Rattle.html_stack.specs.declared.entries.OpenElement.{OpenElement}

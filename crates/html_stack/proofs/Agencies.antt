@@ -17,8 +17,8 @@ use Rattle.html_rules.specs.Stack.{expect_to_close, finds_generic, generate_impl
 use Rattle.html_rules.specs.State.{Entry, Element, Marker, Open, State, current_is, current_number, is_in, is_named}
 use Rattle.html_rules.specs.declared.tag_set.TagSet.TheVariants as set
 use Rattle.html_rules_laws.specs.Soundness.{AreListed, IsStanding}
-use Rattle.html_rules_laws.proofs.AdoptionAgency.{turn-Standing}
-use Rattle.html_rules_laws.proofs.StandingSteps.{parse_error-Standing}
+use Rattle.html_rules_laws.proofs.TreePreserved.AdoptionAgency.{turn-Standing}
+use Rattle.html_rules_laws.proofs.TreePreserved.StandingSteps.{parse_error-Standing}
 use Rattle.html_stack.specs.Adopting.{IsTurnOf, came_to, told, turned, with_all}
 use Rattle.html_stack.specs.Found.{IsFurthest, IsNewest}
 use Rattle.html_stack.specs.Stacks.{Stacked, entries_of, entry_of, joined, open_of, opens_of}

@@ -7,8 +7,8 @@ use Rattle.html_rules.specs.Formatting.{count_equal, create_formatting_element_f
 use Rattle.html_rules.specs.Places.{insert_element, insert_element_for}
 use Rattle.html_rules.specs.State.{Entry, Element, Marker, Open, State}
 use Rattle.html_rules_laws.specs.Soundness.{AreListed, IsStanding}
-use Rattle.html_rules_laws.proofs.AdoptionWalk.{choose-listed}
-use Rattle.html_rules_laws.proofs.StandingSteps.{formatting-Standing}
+use Rattle.html_rules_laws.proofs.TreePreserved.AdoptionWalk.{choose-listed}
+use Rattle.html_rules_laws.proofs.TreePreserved.StandingSteps.{formatting-Standing}
 use Rattle.html_stack.specs.Stacks.{Stacked, joined}
 use Rattle.html_stack.proofs.States.{some_state}
 

@@ -3,7 +3,7 @@ use Rattle.std.proofs.Common.{◌≡◌, Bool, false, refl, sym, subst}
 use Rattle.markup.specs.Forest.{Forest}
 use Rattle.html_rules.specs.State.{State}
 use Rattle.html_rules_laws.specs.Soundness.{IsStanding, Standing}
-use Rattle.html_rules_laws.proofs.StandingSteps.{Keeps}
+use Rattle.html_rules_laws.proofs.TreePreserved.StandingSteps.{Keeps}
 use Rattle.html_stack.specs.Stacks.{Stacked, joined}
 use Rattle.html_stack.proofs.States.{some_state}
 

@@ -21,8 +21,8 @@ use Rattle.html_rules.specs.Stack.{number_from, root_number}
 use Rattle.html_rules.specs.State.{Entry, Open, State, current_is, current_node, current_number, is_in}
 use Rattle.html_rules.specs.declared.tag_set.TagSet.TheVariants as set
 use Rattle.html_rules_laws.specs.Soundness.{AreOpened, IsOpened, IsOwn, IsStanding}
-use Rattle.html_rules_laws.proofs.Standing.{IsPart, Stays, changed-Standing, gone, opened-Standing, part-opened, part-same}
-use Rattle.html_rules_laws.proofs.StandingTrees.{Made, made-Made, put-Made}
+use Rattle.html_rules_laws.proofs.TreePreserved.Standing.{IsPart, Stays, changed-Standing, gone, opened-Standing, part-opened, part-same}
+use Rattle.html_rules_laws.proofs.TreePreserved.StandingTrees.{Made, made-Made, put-Made}
 use Rattle.html_stack.specs.Inserting.{IsFor, IsPoint, LeavesStanding, inserted, opened_as, place_at, with_made, with_put}
 use Rattle.html_stack.specs.Stacks.{Stacked, joined, open_of, opens_of}
 use Rattle.html_stack.specs.declared.entries.InsertionPoint.{InsertionPoint}

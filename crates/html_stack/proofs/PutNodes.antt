@@ -11,8 +11,8 @@ use Rattle.markup.specs.declared.attributes.Attribute.{Attribute}
 use Rattle.html_rules.specs.Places.{append_comment, append_comment_to_doc, append_comment_to_html, append_text, place_for}
 use Rattle.html_rules.specs.Stack.{add_attributes_to_body, add_attributes_to_root, body_elem, root_number}
 use Rattle.html_rules.specs.State.{State, current_node}
-use Rattle.html_rules_laws.proofs.Standing.{Stays}
-use Rattle.html_rules_laws.proofs.StandingTrees.{stays-put_new, stays-text}
+use Rattle.html_rules_laws.proofs.TreePreserved.Standing.{Stays}
+use Rattle.html_rules_laws.proofs.TreePreserved.StandingTrees.{stays-put_new, stays-text}
 use Rattle.html_stack.specs.Inserting.{IsPoint, LeavesStanding, place_at}
 use Rattle.html_stack.specs.Stacks.{Stacked, joined}
 use Rattle.html_stack.specs.declared.entries.InsertionPoint.{InsertionPoint}

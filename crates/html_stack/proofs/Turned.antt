@@ -17,12 +17,12 @@ use Rattle.html_rules.specs.Names.{element_name_of}
 use Rattle.html_rules.specs.Places.{place_for}
 use Rattle.html_rules.specs.State.{Entry, Element, Open, State, current_node}
 use Rattle.html_rules_laws.specs.Soundness.{AreOpened, IsApart, IsOpened, IsStanding}
-use Rattle.html_rules_laws.proofs.AdoptionAgency.{has-place}
-use Rattle.html_rules_laws.proofs.AdoptionOrder.{NoneAbove, named-opened}
-use Rattle.html_rules_laws.proofs.AdoptionStanding.{begun, element-plain}
-use Rattle.html_rules_laws.proofs.AdoptionTurn.{Placed, walked-Placed}
-use Rattle.html_rules_laws.proofs.AdoptionWalk.{AreNew, Walked, last-out, walk-Walked}
-use Rattle.html_rules_laws.proofs.Standing.{changed-Standing}
+use Rattle.html_rules_laws.proofs.TreePreserved.AdoptionAgency.{has-place}
+use Rattle.html_rules_laws.proofs.TreePreserved.AdoptionOrder.{NoneAbove, named-opened}
+use Rattle.html_rules_laws.proofs.TreePreserved.AdoptionStanding.{begun, element-plain}
+use Rattle.html_rules_laws.proofs.TreePreserved.AdoptionTurn.{Placed, walked-Placed}
+use Rattle.html_rules_laws.proofs.TreePreserved.AdoptionWalk.{AreNew, Walked, last-out, walk-Walked}
+use Rattle.html_rules_laws.proofs.TreePreserved.Standing.{changed-Standing}
 use Rattle.html_stack.specs.Adopting.{IsMovable, IsRelisted, IsTurn, turned, with_all}
 use Rattle.html_stack.specs.Stacks.{open_of, opens_of}
 use Rattle.html_stack.specs.declared.entries.OpenElement.{OpenElement}

@@ -14,8 +14,8 @@ use Rattle.html_names.specs.ElementNames.{Named}
 use Rattle.html_rules.specs.Places.{with_element}
 use Rattle.html_rules.specs.State.{Entry, Element, Open}
 use Rattle.html_rules_laws.specs.Soundness.{AreListed, IsOpened, IsStanding}
-use Rattle.html_rules_laws.proofs.AdoptionStanding.{begun, begun-Walked, element-plain, not_above_document}
-use Rattle.html_rules_laws.proofs.AdoptionWalk.{Walked, walk-Walked}
+use Rattle.html_rules_laws.proofs.TreePreserved.AdoptionStanding.{begun, begun-Walked, element-plain, not_above_document}
+use Rattle.html_rules_laws.proofs.TreePreserved.AdoptionWalk.{Walked, walk-Walked}
 use Rattle.html_stack.specs.Adopting.{IsMovable, adopted, walk_of, wrapped}
 use Rattle.html_stack.specs.Found.{IsNewest, renamed}
 use Rattle.html_stack.specs.Inserting.{IsFor, with_made}

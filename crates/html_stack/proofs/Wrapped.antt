@@ -7,14 +7,14 @@ use Rattle.markup.proofs.Forests.{IsMade-create_element, IsRemoved-remove}
 use Rattle.markup.proofs.PutTexts.{IsParent-element, element-IsNode}
 use Rattle.markup.proofs.Reparented.{IsReparented-reparent_children}
 use Rattle.markup.proofs.Trees.{IsTree-remove, IsTree-reparent_children}
-use Rattle.html_rules_laws.proofs.AdoptionTurn.{child-not_above, only-itself}
+use Rattle.html_rules_laws.proofs.TreePreserved.AdoptionTurn.{child-not_above, only-itself}
 use Rattle.markup.proofs.Walks.{Above-IsNode, Above-less, Above-moved, Above-moved_free}
 use Rattle.markup.specs.declared.names.QualName.{QualName}
 use Rattle.html_rules.specs.Names.{Html, element_name_of, flags_of, namespace_of}
 use Rattle.html_rules.specs.State.{Entry, Element, Marker, Open}
 use Rattle.html_rules_laws.specs.Soundness.{AreListed, AreOpened, IsApart, IsClear, IsStanding}
-use Rattle.html_rules_laws.proofs.Standing.{Stays, changed-Standing}
-use Rattle.html_rules_laws.proofs.StandingTrees.{made-Made}
+use Rattle.html_rules_laws.proofs.TreePreserved.Standing.{Stays, changed-Standing}
+use Rattle.html_rules_laws.proofs.TreePreserved.StandingTrees.{made-Made}
 use Rattle.html_stack.specs.Adopting.{IsMovable}
 use Rattle.html_stack.specs.Inserting.{LeavesStanding, with_made}
 use Rattle.html_stack.specs.declared.inserting.new_element.NewElement.{NewElement}

@@ -12,7 +12,7 @@ use Rattle.html_rules.specs.Names.{Html, MathMl, Svg, Other, element_name_of, ma
 use Rattle.html_rules.specs.State.{State, hushed}
 use Rattle.html_rules_laws.specs.Soundness.{IsOwn}
 use Rattle.html_rules_laws.specs.Usable.{Usable}
-use Rattle.html_rules_laws.proofs.UsableTokens.{states-usable}
+use Rattle.html_rules_laws.proofs.Progress.UsableTokens.{states-usable}
 use Rattle.html_tree_builder.specs.States.{context_in, named_open}
 
 -- the tree that the sink has

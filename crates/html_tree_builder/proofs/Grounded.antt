@@ -15,9 +15,9 @@ use Rattle.html_rules.specs.Places.{appropriate_place, insert_and_pop_element_fo
 use Rattle.html_rules.specs.State.{Open, State, current_number}
 use Rattle.html_rules.specs.Table.{Action, Then, When, SetHeadElem, SetFormElem, ForgetFormElem, InsertFormVoid, InsertVoid, PushHeadElem, InsertForeign, EnterForeign}
 use Rattle.html_rules_laws.specs.Soundness.{AreOpened, IsClear, IsOwn, Standing, is_plain_action}
-use Rattle.html_rules_laws.proofs.ActionsStanding.{actions-Standing}
+use Rattle.html_rules_laws.proofs.TreePreserved.ActionsStanding.{actions-Standing}
 use Rattle.html_tree_builder.specs.Acting.{Grounded, MayAct}
-use Rattle.html_rules_laws.proofs.Grown.{IsKept, act-grows, count-put, grown-more, sets_pointer}
+use Rattle.html_rules_laws.proofs.Frames.Grown.{IsKept, act-grows, count-put, grown-more, sets_pointer}
 
 node-grown : (f g : Forest) (o : Option ℕ) → node_count f ≤ node_count g → IfSome o (IsNode f) → IfSome o (IsNode g)
 node-grown f g None less h = tt

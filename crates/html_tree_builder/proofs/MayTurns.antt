@@ -28,10 +28,10 @@ use Rattle.html_rules_laws.specs.Soundness.{IsClear}
 use Rattle.html_rules_laws.specs.Upright.{MayCome, Upright, is_first, is_head_start}
 use Rattle.html_rules_laws.proofs.Bools.{both, no, or_by}
 use Rattle.html_rules_laws.proofs.FirstFit.{by_fit, class_of_fits}
-use Rattle.html_rules_laws.proofs.Settling.Kinds.{Kind, StartsBut, EndsBut, Texts, Nulls, TheEnd, Others, is_of}
-use Rattle.html_rules_laws.proofs.Upright.Heads.{root-clear}
-use Rattle.html_rules_laws.proofs.Upright.Poised.{Poised, act-poised}
-use Rattle.html_rules_laws.proofs.Upright.Turns.{is_pop, poised-of, popped-mode, popped-poised, popped-root}
+use Rattle.html_rules_laws.proofs.Termination.Kinds.{Kind, StartsBut, EndsBut, Texts, Nulls, TheEnd, Others, is_of}
+use Rattle.html_rules_laws.proofs.TreePreserved.Heads.{root-clear}
+use Rattle.html_rules_laws.proofs.TreePreserved.Poised.{Poised, act-poised}
+use Rattle.html_rules_laws.proofs.TreePreserved.Turns.{is_pop, poised-of, popped-mode, popped-poised, popped-root}
 use Rattle.html_tree_builder.specs.Acting.{MayAct}
 use Rattle.html_tree_builder.specs.Turning.{MayConclude, MayTakeRow, MayTurn, MayUse}
 

@@ -7,7 +7,7 @@ use Rattle.html_rules.specs.Rules.{Ending, Finished, Again, Replied, Settled, ch
 use Rattle.html_rules.specs.State.{Open, State}
 use Rattle.html_rules_laws.specs.Upright.{MayCome}
 use Rattle.html_rules_laws.proofs.Bools.{no}
-use Rattle.html_rules_laws.proofs.Upright.Turns.{turn-again}
+use Rattle.html_rules_laws.proofs.TreePreserved.Turns.{turn-again}
 use Rattle.html_tree_builder.specs.Turns.{most_turns}
 
 -- no turn is left

@@ -24,8 +24,8 @@ use Rattle.html_rules.specs.declared.insertion_mode.InsertionMode as modes
 use Rattle.html_rules.specs.declared.insertion_mode.InsertionMode.TheVariants as mode
 use Rattle.html_rules.specs.declared.tag_set.TagSet.TheVariants as set
 use Rattle.html_rules_laws.specs.Soundness.{Standing, is_plain_action}
-use Rattle.html_rules_laws.proofs.ActionsStanding.{actions-Standing}
-use Rattle.html_rules_laws.proofs.StandingTrees.{current-Place}
+use Rattle.html_rules_laws.proofs.TreePreserved.ActionsStanding.{actions-Standing}
+use Rattle.html_rules_laws.proofs.TreePreserved.StandingTrees.{current-Place}
 use Rattle.html_rules_laws.proofs.Bools.{no}
 use Rattle.html_tree_builder.specs.Running.{run_action, run_at, run_in, run_of, takes_text}
 use Rattle.html_tree_builder.specs.declared.runs.Run.{Run}

@@ -12,7 +12,7 @@ use Rattle.html_rules_laws.proofs.Replies.{taken-well}
 use Rattle.html_names.proofs.FirstBytes.{no-text}
 use Rattle.html_rules_laws.specs.Coming.{came_of}
 use Rattle.html_rules_laws.specs.Usable.{Usable}
-use Rattle.html_rules_laws.proofs.TokensTaken.{form-node, head-node, unlined-going, unlined-usable}
+use Rattle.html_rules_laws.proofs.Progress.TokensTaken.{form-node, head-node, unlined-going, unlined-usable}
 use Rattle.html_tree_builder.specs.Running.{run_action, run_of}
 use Rattle.html_tree_builder.specs.States.{Building, Stands, state_of}
 use Rattle.html_tree_builder.specs.Texts.{IsSplit}

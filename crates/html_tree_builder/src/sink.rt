@@ -150,7 +150,7 @@ impl<Sink: TreeSink> TokenSink for TreeBuilder<Sink> {
     ghost use Rattle.html_rules.specs.ForeignContent.{asks_cdata};
     ghost use Rattle.html_rules.specs.State.{State, hushed};
     ghost use Rattle.html_rules.specs.Step.{ended, is_quiet, step};
-    ghost use Rattle.html_rules_laws.proofs.UsableTokens.{usable_laws};
+    ghost use Rattle.html_rules_laws.proofs.Progress.UsableTokens.{usable_laws};
     ghost use Rattle.html_rules_laws.specs.Usable.{Usable};
     ghost use Rattle.html_tree_builder.specs.States.{built};
 

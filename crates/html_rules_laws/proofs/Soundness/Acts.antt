@@ -19,16 +19,16 @@ use Rattle.html_rules.specs.Table.{Action, Nothing, Then, When, ParseError, Inse
 use Rattle.html_rules.specs.Tokens.{attributes_of, name_of, text_of}
 use Rattle.html_rules.specs.declared.tag_set.TagSet.{TagSet}
 use Rattle.html_rules.specs.declared.tag_set.TagSet.TheVariants as set
-use Rattle.html_rules_laws.proofs.Aside.{Asides, after, aside_kept, other, same}
+use Rattle.html_rules_laws.proofs.Frames.Aside.{Asides, after, aside_kept, other, same}
 use Rattle.html_rules_laws.proofs.Names.{disjoint, shares_name}
 use Rattle.html_rules_laws.proofs.SetFacts.{all_among, among-all}
-use Rattle.html_rules_laws.proofs.Settling.Kinds.{Kind, Starts, StartsBut, Ends, EndsBut, is_of}
-use Rattle.html_rules_laws.proofs.Firm.{IsPlain}
-use Rattle.html_rules_laws.proofs.Standing.{part-but_root, part-same}
-use Rattle.html_rules_laws.proofs.StandingActions.{foreign_end-part}
-use Rattle.html_rules_laws.proofs.Tame.{Tames, after-tame, agency-tame, append_text-tame, behind-listed, body-tame, check-tame, close_by-tame, close_item-tame, close_p-tame, either-tame, enter-tame, except-tame, expect_to_close-tame, formatting-tame, generic-tame, implied-tame, insert_element-tame, misnested-tame, parse_error-tame, part-tame, plain-name, pop_until-tame, pop_until_current-tame, put_element-tame, reconstruct-tame, remove_if-tame, same-tame, special_names, tell-tame, unopened-tame}
+use Rattle.html_rules_laws.proofs.Termination.Kinds.{Kind, Starts, StartsBut, Ends, EndsBut, is_of}
+use Rattle.html_rules_laws.proofs.Frames.Firm.{IsPlain}
+use Rattle.html_rules_laws.proofs.TreePreserved.Standing.{part-but_root, part-same}
+use Rattle.html_rules_laws.proofs.TreePreserved.StandingActions.{foreign_end-part}
+use Rattle.html_rules_laws.proofs.Frames.Tame.{Tames, after-tame, agency-tame, append_text-tame, behind-listed, body-tame, check-tame, close_by-tame, close_item-tame, close_p-tame, either-tame, enter-tame, except-tame, expect_to_close-tame, formatting-tame, generic-tame, implied-tame, insert_element-tame, misnested-tame, parse_error-tame, part-tame, plain-name, pop_until-tame, pop_until_current-tame, put_element-tame, reconstruct-tame, remove_if-tame, same-tame, special_names, tell-tame, unopened-tame}
 use Rattle.html_rules_laws.proofs.Bools.{no, not_true}
-use Rattle.html_rules_laws.proofs.KeptBySteps.{agency-keeps, check-keeps, close_by-keeps, close_item-keeps, close_p-keeps, enter-keeps, except-keeps, expect_to_close-keeps, for_tag-keeps, generic-keeps, insert-keeps, list-keeps, misnested-keeps, pop_until-keeps, pop_until_current-keeps, reconstruct-keeps, tell-keeps, unopened-keeps, either-keeps}
+use Rattle.html_rules_laws.proofs.Frames.KeptBySteps.{agency-keeps, check-keeps, close_by-keeps, close_item-keeps, close_p-keeps, enter-keeps, except-keeps, expect_to_close-keeps, for_tag-keeps, generic-keeps, insert-keeps, list-keeps, misnested-keeps, pop_until-keeps, pop_until_current-keeps, reconstruct-keeps, tell-keeps, unopened-keeps, either-keeps}
 
 -- kinds of tokens none of which is a tag `html`, `head` or `template`
 abbrev pub plain_kind : Kind → Bool

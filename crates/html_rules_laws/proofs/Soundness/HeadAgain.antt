@@ -25,15 +25,15 @@ use Rattle.html_rules_laws.specs.Held.{Held}
 use Rattle.html_rules_laws.specs.Placing.{are_general, stand_well}
 use Rattle.html_rules_laws.specs.Ready.{are_formatting}
 use Rattle.html_rules_laws.specs.Sound.{is_later, is_own}
-use Rattle.html_rules_laws.proofs.Aside.{after, aside_kept}
-use Rattle.html_rules_laws.proofs.Firm.{IsPlain}
-use Rattle.html_rules_laws.proofs.Settling.Kinds.{Kind, Starts, is_of}
+use Rattle.html_rules_laws.proofs.Frames.Aside.{after, aside_kept}
+use Rattle.html_rules_laws.proofs.Frames.Firm.{IsPlain}
+use Rattle.html_rules_laws.proofs.Termination.Kinds.{Kind, Starts, is_of}
 use Rattle.html_rules_laws.proofs.Soundness.Acts.{act-aside, act-tame, plain-of}
 use Rattle.html_rules_laws.proofs.Soundness.Moves.{held-some, not_html-template, still-tame, template-general, template-topped}
 use Rattle.html_rules_laws.proofs.Soundness.Rows.{IsCalm, opens, opens-held, quiet-held, raw_text_only, raw_only-held, starts_plain, starts_template, tame-calm, void-same}
 use Rattle.html_rules_laws.proofs.Soundness.Specials.{calm-well}
 use Rattle.html_rules_laws.proofs.Bools.{both, no}
-use Rattle.html_rules_laws.proofs.KeptBySteps.{push_head-keeps, template-keeps, unopened-keeps}
+use Rattle.html_rules_laws.proofs.Frames.KeptBySteps.{push_head-keeps, template-keeps, unopened-keeps}
 
 -- the head again
 abbrev pub again : ℕ → Open

@@ -24,11 +24,11 @@ use Rattle.html_rules_laws.specs.Placing.{are_general, is_in_head, may_stand_ove
 use Rattle.html_rules_laws.specs.Ready.{are_formatting}
 use Rattle.html_rules_laws.specs.Settled.{are_template_modes, is_template_mode}
 use Rattle.html_rules_laws.specs.Sound.{are_placed, are_placed_in, asks_root, comes_from_table, has_its_head, is_later, is_later_original, is_own}
-use Rattle.html_rules_laws.proofs.Aside.{IsAside, first-modes}
-use Rattle.html_rules_laws.proofs.Firm.{IsPlain, html_head, over-plain, part-html}
+use Rattle.html_rules_laws.proofs.Frames.Aside.{IsAside, first-modes}
+use Rattle.html_rules_laws.proofs.Frames.Firm.{IsPlain, html_head, over-plain, part-html}
 use Rattle.html_rules_laws.proofs.SetFacts.{in-apart}
-use Rattle.html_rules_laws.proofs.Standing.{part-below}
-use Rattle.html_rules_laws.proofs.Tame.{IsTame}
+use Rattle.html_rules_laws.proofs.TreePreserved.Standing.{part-below}
+use Rattle.html_rules_laws.proofs.Frames.Tame.{IsTame}
 use Rattle.html_rules_laws.proofs.Bools.{both, or_true}
 use Rattle.html_rules_laws.proofs.ResetModes.{choose-passes, element-passes, is_asked, open-passes}
 

@@ -22,13 +22,13 @@ use Rattle.html_rules_laws.specs.Held.{HasRoot, Held, wanted}
 use Rattle.html_rules_laws.specs.Placing.{stand_well}
 use Rattle.html_rules_laws.specs.Settled.{is_template_mode}
 use Rattle.html_rules_laws.specs.Sound.{is_later}
-use Rattle.html_rules_laws.proofs.Aside.{aside_kept}
+use Rattle.html_rules_laws.proofs.Frames.Aside.{aside_kept}
 use Rattle.html_rules_laws.proofs.SetFacts.{all_among, among-all}
-use Rattle.html_rules_laws.proofs.Settling.Kinds.{Kind, Starts, is_of}
+use Rattle.html_rules_laws.proofs.Termination.Kinds.{Kind, Starts, is_of}
 use Rattle.html_rules_laws.proofs.Soundness.Acts.{act-aside, act-tame, plain-of, plain_kind, tame_in}
 use Rattle.html_rules_laws.proofs.Soundness.Moves.{is_loose, free-moved, free-later, is_free, is_text_mode, loose-tame, opened-held, still-tame, template-topped, template_mode-held, text-held}
 use Rattle.html_rules_laws.proofs.Bools.{both, no}
-use Rattle.html_rules_laws.proofs.KeptBySteps.{template-keeps}
+use Rattle.html_rules_laws.proofs.Frames.KeptBySteps.{template-keeps}
 
 -- actions in modes in which any element may come
 

@@ -10,8 +10,8 @@ use Rattle.html_rules.specs.State.{State}
 use Rattle.html_rules.specs.Table.{Row, row, AnythingElse, Nothing, Done}
 use Rattle.html_rules.specs.Tokens.{class_fits}
 use Rattle.html_rules_laws.specs.WholeTable.{is_always}
-use Rattle.html_rules_laws.proofs.Settling.Kinds.{Kind, hit, hit-is, is_none, is_of, left, left-is, none-of}
-use Rattle.html_rules_laws.proofs.TotalRows.{always_holds}
+use Rattle.html_rules_laws.proofs.Termination.Kinds.{Kind, hit, hit-is, is_none, is_of, left, left-is, none-of}
+use Rattle.html_rules_laws.proofs.Progress.TotalRows.{always_holds}
 
 abbrev pub scan_row : (Kind → Row → Bool) → Kind → Row → Bool
 scan_row ok kind r = choose (is_none (hit kind r.on)) (λ _. true) (λ _. ok (hit kind r.on) r)

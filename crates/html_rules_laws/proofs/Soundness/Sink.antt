@@ -29,9 +29,9 @@ use Rattle.html_rules_laws.specs.Ready.{fits_head, is_over_head, is_over_root}
 use Rattle.html_rules_laws.specs.Settled.{are_template_modes}
 use Rattle.html_rules_laws.specs.Sink.{AreRulesLawful}
 use Rattle.html_rules_laws.specs.Sound.{Sound, are_placed_in, has_its_head, is_later, is_over_head_element, is_own}
-use Rattle.html_rules_laws.proofs.Firm.{html_head}
+use Rattle.html_rules_laws.proofs.Frames.Firm.{html_head}
 use Rattle.html_rules_laws.proofs.SetFacts.{in-apart}
-use Rattle.html_rules_laws.proofs.Settling.Settled.{each_token_is_settled}
+use Rattle.html_rules_laws.proofs.Termination.Settled.{each_token_is_settled}
 use Rattle.html_rules_laws.proofs.Soundness.Moves.{free-later, free-placed, is_free}
 use Rattle.html_rules_laws.proofs.Soundness.Steps.{erred, settle-held, text-held}
 use Rattle.html_rules_laws.proofs.Soundness.Tokens.{initial-held}

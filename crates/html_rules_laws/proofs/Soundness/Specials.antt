@@ -28,17 +28,17 @@ use Rattle.html_rules.specs.declared.tag_set.TagSet.TheVariants as set
 use Rattle.html_rules_laws.specs.Held.{Held}
 use Rattle.html_rules_laws.specs.Placing.{are_general, is_in_head, may_stand_over, stand_well}
 use Rattle.html_rules_laws.specs.Sound.{are_placed, are_placed_in, are_placed_under, asks_root, comes_from_table, has_its_head, is_later, is_later_original, is_over_head_element, is_own, is_table_mode}
-use Rattle.html_rules_laws.proofs.Aside.{aside_kept}
-use Rattle.html_rules_laws.proofs.Firm.{IsPlain, firm-part, over-plain, part-html}
+use Rattle.html_rules_laws.proofs.Frames.Aside.{aside_kept}
+use Rattle.html_rules_laws.proofs.Frames.Firm.{IsPlain, firm-part, over-plain, part-html}
 use Rattle.html_rules_laws.proofs.SetFacts.{all_among, among-all, in-apart}
-use Rattle.html_rules_laws.proofs.Settling.Kinds.{Kind, Starts, is_of}
+use Rattle.html_rules_laws.proofs.Termination.Kinds.{Kind, Starts, is_of}
 use Rattle.html_rules_laws.proofs.Soundness.Acts.{act-aside, act-tame, plain-of, tame_in}
 use Rattle.html_rules_laws.proofs.Soundness.Moves.{closed-held, from-well, free-placed, free-later, held-some, implied-count, is_loose, kept_by_implied, loose-tame, reset-held}
 use Rattle.html_rules_laws.proofs.Soundness.Rows.{IsCalm, StandsWell, closes, starts_plain, tame-calm}
-use Rattle.html_rules_laws.proofs.Standing.{part-but_root, part-from}
-use Rattle.html_rules_laws.proofs.Tame.{behind-listed, expect_to_close-tame}
+use Rattle.html_rules_laws.proofs.TreePreserved.Standing.{part-but_root, part-from}
+use Rattle.html_rules_laws.proofs.Frames.Tame.{behind-listed, expect_to_close-tame}
 use Rattle.html_rules_laws.proofs.Bools.{both, no, not_true, or_true}
-use Rattle.html_rules_laws.proofs.KeptBySteps.{expect_to_close-keeps}
+use Rattle.html_rules_laws.proofs.Frames.KeptBySteps.{expect_to_close-keeps}
 
 -- templates are closed
 

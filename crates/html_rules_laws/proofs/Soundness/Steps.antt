@@ -26,15 +26,15 @@ use Rattle.html_rules.specs.declared.tag_set.TagSet.TheVariants as set
 use Rattle.html_rules_laws.specs.Held.{HasRoot, Held, wanted}
 use Rattle.html_rules_laws.specs.Placing.{is_in_head, stand_well}
 use Rattle.html_rules_laws.specs.Sound.{are_placed_under, asks_root, is_later, is_over_head_element, is_own}
-use Rattle.html_rules_laws.proofs.Aside.{aside_kept}
-use Rattle.html_rules_laws.proofs.Settling.Kinds.{Kind, Starts, StartsBut, EndsBut, Texts, Nulls, TheEnd, Others, is_of}
+use Rattle.html_rules_laws.proofs.Frames.Aside.{aside_kept}
+use Rattle.html_rules_laws.proofs.Termination.Kinds.{Kind, Starts, StartsBut, EndsBut, Texts, Nulls, TheEnd, Others, is_of}
 use Rattle.html_rules_laws.proofs.Soundness.Acts.{act-aside, act-tame, tame_in}
 use Rattle.html_rules_laws.proofs.Soundness.Moves.{HoldsTame, is_loose, loose-tame, lost-tame}
 use Rattle.html_rules_laws.proofs.Soundness.Scan.{scan, scan-holds}
 use Rattle.html_rules_laws.proofs.Soundness.Tokens.{Holder, each_kind, foreign_row, foreign_sound, head_names, is_insert_foreign, mode_sound, modes_sound, named_apart, root_names, template_names, uses-held, uses_sound}
-use Rattle.html_rules_laws.proofs.Tame.{foreign-tame}
+use Rattle.html_rules_laws.proofs.Frames.Tame.{foreign-tame}
 use Rattle.html_rules_laws.proofs.Bools.{both, no, or_by}
-use Rattle.html_rules_laws.proofs.KeptBySteps.{foreign-keeps}
+use Rattle.html_rules_laws.proofs.Frames.KeptBySteps.{foreign-keeps}
 
 -- an element that is foreign is not HTML's
 

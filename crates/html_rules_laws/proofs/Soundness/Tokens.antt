@@ -16,7 +16,7 @@ use Rattle.html_rules.specs.declared.insertion_mode.InsertionMode.TheVariants as
 use Rattle.html_rules_laws.specs.Held.{Held}
 use Rattle.html_rules_laws.specs.Placing.{is_in_head}
 use Rattle.html_rules_laws.specs.Sound.{is_later, is_table_mode}
-use Rattle.html_rules_laws.proofs.Settling.Kinds.{Kind, Starts, StartsBut, EndsBut, Texts, Nulls, TheEnd, Others, is_of}
+use Rattle.html_rules_laws.proofs.Termination.Kinds.{Kind, Starts, StartsBut, EndsBut, Texts, Nulls, TheEnd, Others, is_of}
 use Rattle.html_rules_laws.proofs.Soundness.Acts.{act-aside, tame_in}
 use Rattle.html_rules_laws.proofs.Soundness.HeadAgain.{bare-held, head_again-held, head_row}
 use Rattle.html_rules_laws.proofs.Soundness.Moves.{free-later, free-moved, free-placed, held-some, is_free, is_text_mode}

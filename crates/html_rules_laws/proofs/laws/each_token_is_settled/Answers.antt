@@ -1,4 +1,4 @@
-use Rattle.html_rules_laws.proofs.Settling.Settled.{each_token_is_settled}
+use Rattle.html_rules_laws.proofs.Termination.Settled.{each_token_is_settled}
 use Rattle.html_rules_laws.proofs.laws.each_token_is_settled.Goals as goal
 
 pub returns : goal.returns

@@ -1,6 +1,6 @@
 use Rattle.html_rules.specs.State.{is_in}
 use Rattle.html_rules.specs.declared.tag_set.TagSet.TheVariants.{Html}
-use Rattle.html_rules_laws.proofs.Standing.{fewer-Standing, part-from}
+use Rattle.html_rules_laws.proofs.TreePreserved.Standing.{fewer-Standing, part-from}
 use Rattle.html_stack_tests.proofs.formatting.close_all.Goals as goal
 
 pub returns : goal.returns

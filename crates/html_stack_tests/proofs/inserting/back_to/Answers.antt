@@ -1,5 +1,5 @@
 use Rattle.html_rules.specs.State.{is_in}
-use Rattle.html_rules_laws.proofs.Standing.{fewer-Standing, part-from}
+use Rattle.html_rules_laws.proofs.TreePreserved.Standing.{fewer-Standing, part-from}
 use Rattle.html_stack_tests.proofs.inserting.back_to.Goals as goal
 
 pub returns : goal.returns

@@ -6,7 +6,7 @@ use Rattle.markup.specs.Forest.{Last, node_count, put, remove, reparent_children
 use Rattle.html_rules.specs.Adoption.{Walk, listed_as, relist, walk, with_copy}
 use Rattle.html_rules.specs.Places.{place_for}
 use Rattle.html_rules.specs.State.{Element, Open, current_node}
-use Rattle.html_rules_laws.proofs.AdoptionStanding.{begun}
+use Rattle.html_rules_laws.proofs.TreePreserved.AdoptionStanding.{begun}
 use Rattle.html_rules_laws.specs.Soundness.{IsStanding}
 use Rattle.html_stack.specs.Adopting.{IsRelisted, walk_of}
 use Rattle.markup.proofs.PutTexts.{element-IsNode}

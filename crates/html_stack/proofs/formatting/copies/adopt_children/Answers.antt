@@ -1,4 +1,4 @@
-use Rattle.html_rules_laws.proofs.Standing.{changed-Standing}
+use Rattle.html_rules_laws.proofs.TreePreserved.Standing.{changed-Standing}
 use Rattle.html_stack.specs.Inserting.{with_made}
 use Rattle.html_stack.proofs.Results.{on-err}
 use Rattle.html_stack.proofs.Wrapped.{fresh, may-adopt}

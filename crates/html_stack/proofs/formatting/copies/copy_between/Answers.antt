@@ -1,8 +1,8 @@
 use Rattle.std.proofs.Common.{◌≡◌, ◌∙◌, ◌<◌, map, sym, ap, subst, arith, eq-zero-or-pos, inl, inr}
 use Rattle.std.proofs.Math.Seq.{take-length}
 use Rattle.html_rules.specs.Adoption.{walk}
-use Rattle.html_rules_laws.proofs.AdoptionStanding.{begun}
-use Rattle.html_rules_laws.proofs.AdoptionWalk.{Walked}
+use Rattle.html_rules_laws.proofs.TreePreserved.AdoptionStanding.{begun}
+use Rattle.html_rules_laws.proofs.TreePreserved.AdoptionWalk.{Walked}
 use Rattle.html_stack.specs.Adopting.{walk_of}
 use Rattle.html_stack.specs.Stacks.{entries_of, open_of, opens_of}
 use Rattle.html_stack.proofs.Results.{on-err}

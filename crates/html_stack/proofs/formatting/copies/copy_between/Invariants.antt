@@ -1,6 +1,6 @@
 use Rattle.std.proofs.Common.{◌≡◌, ◌≤◌, [], length, take}
 use Rattle.html_rules.specs.Adoption.{walk}
-use Rattle.html_rules_laws.proofs.AdoptionWalk.{Walked}
+use Rattle.html_rules_laws.proofs.TreePreserved.AdoptionWalk.{Walked}
 use Rattle.html_stack.specs.Adopting.{walk_of}
 use Rattle.html_stack.specs.Stacks.{entries_of, opens_of}
 use Rattle.html_stack.proofs.formatting.copies.copy_between.Given as goal

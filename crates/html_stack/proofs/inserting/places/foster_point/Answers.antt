@@ -3,7 +3,7 @@ use Rattle.html_rules.specs.Places.{foster_place}
 use Rattle.html_rules.specs.Stack.{root_number}
 use Rattle.html_rules.specs.Templates.{foster_intended_parent}
 use Rattle.markup.proofs.PutTexts.{IsParent-document}
-use Rattle.html_rules_laws.proofs.StandingTrees.{root-Parent, template-Parent}
+use Rattle.html_rules_laws.proofs.TreePreserved.StandingTrees.{root-Parent, template-Parent}
 use Rattle.html_stack.specs.Stacks.{open_of, opens_of}
 use Rattle.html_stack.proofs.Points.{current-Parent, opened-IsNode, opened-at, template-named}
 use Rattle.html_stack.proofs.WalksBack.{walk-at, walk-none, walk-on}

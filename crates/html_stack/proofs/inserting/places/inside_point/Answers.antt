@@ -1,5 +1,5 @@
 use Rattle.std.proofs.Common.{sym}
-use Rattle.html_rules_laws.proofs.StandingTrees.{template-Parent}
+use Rattle.html_rules_laws.proofs.TreePreserved.StandingTrees.{template-Parent}
 use Rattle.html_stack.specs.Stacks.{open_of}
 use Rattle.html_stack.proofs.Points.{opened-IsParent, template-named}
 use Rattle.html_stack.proofs.inserting.places.inside_point.Goals as goal

@@ -2,7 +2,7 @@ use Rattle.std.proofs.Common.{◌≤◌, arith}
 use Rattle.markup.specs.Forest.{add_attributes, node_count}
 use Rattle.markup.proofs.PutTexts.{IsInPlace-add_attributes}
 use Rattle.html_rules.specs.Stack.{add_attributes_to_body}
-use Rattle.html_rules_laws.proofs.StandingActions.{body_attributes-Standing}
+use Rattle.html_rules_laws.proofs.TreePreserved.StandingActions.{body_attributes-Standing}
 use Rattle.html_stack.proofs.KeptSteps.{kept-always}
 use Rattle.html_stack.proofs.PutNodes.{body_attributes-step, no_body-step}
 use Rattle.html_stack.proofs.Results.{either-case, either-on, ok-on}

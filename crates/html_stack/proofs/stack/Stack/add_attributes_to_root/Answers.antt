@@ -1,6 +1,6 @@
 use Rattle.std.proofs.Common.{◌≡◌, ◌∙◌}
 use Rattle.html_rules.specs.Stack.{add_attributes_to_root}
-use Rattle.html_rules_laws.proofs.StandingActions.{root_attributes-Standing}
+use Rattle.html_rules_laws.proofs.TreePreserved.StandingActions.{root_attributes-Standing}
 use Rattle.html_stack.proofs.KeptSteps.{kept-always}
 use Rattle.html_stack.proofs.PutNodes.{root_attributes-step}
 use Rattle.html_stack.proofs.Results.{either-case, ok-on}

@@ -5,7 +5,7 @@ use Rattle.html_rules.specs.Adoption.{adoption_turn}
 use Rattle.html_rules.specs.Formatting.{Listed, last_named}
 use Rattle.html_rules.specs.Stack.{process_end_tag_in_body}
 use Rattle.html_rules.specs.State.{State}
-use Rattle.html_rules_laws.proofs.StandingSteps.{generic-Standing}
+use Rattle.html_rules_laws.proofs.TreePreserved.StandingSteps.{generic-Standing}
 use Rattle.html_rules_laws.specs.Soundness.{IsStanding}
 use Rattle.html_stack.specs.Adopting.{IsFormatting}
 use Rattle.html_stack.specs.Stacks.{Stacked, entries_of, joined, opens_of}

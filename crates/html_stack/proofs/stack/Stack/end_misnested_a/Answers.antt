@@ -3,7 +3,7 @@ use Rattle.html_rules.specs.Adoption.{handle_misnested_a_tags}
 use Rattle.html_rules.specs.Formatting.{Listed, last_named}
 use Rattle.html_rules.specs.Stack.{without_number}
 use Rattle.html_rules.specs.State.{State}
-use Rattle.html_rules_laws.proofs.AdoptionAgency.{misnested_a-Standing}
+use Rattle.html_rules_laws.proofs.TreePreserved.AdoptionAgency.{misnested_a-Standing}
 use Rattle.html_stack.specs.Adopting.{IsFormatting}
 use Rattle.html_stack.specs.Stacks.{Stacked, entries_of, joined}
 use Rattle.html_stack.proofs.Agencies.{error-stands, misnested-ended, misnested-none}

@@ -1,6 +1,6 @@
 use Rattle.std.proofs.Common.{refl}
 use Rattle.html_rules.specs.Stack.{pop_until_current, remove_body}
-use Rattle.html_rules_laws.proofs.StandingActions.{remove_body-Standing}
+use Rattle.html_rules_laws.proofs.TreePreserved.StandingActions.{remove_body-Standing}
 use Rattle.html_stack.proofs.KeptSteps.{kept-always}
 use Rattle.html_stack.proofs.stack.Stack.remove_body.Goals as goal
 

@@ -1,7 +1,7 @@
 use Rattle.std.proofs.Common.{◌∙◌, ap}
 use Rattle.html_rules.specs.Stack.{root_number}
 use Rattle.markup.proofs.PutTexts.{IsParent-document}
-use Rattle.html_rules_laws.proofs.StandingTrees.{root-Parent}
+use Rattle.html_rules_laws.proofs.TreePreserved.StandingTrees.{root-Parent}
 use Rattle.html_stack.proofs.stack.Stack.root_or_document.Goals as goal
 
 pub returns-clause-number : goal.returns-clause-number

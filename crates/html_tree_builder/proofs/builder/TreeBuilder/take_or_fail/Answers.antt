@@ -1,6 +1,6 @@
 use Rattle.std.proofs.Common.{rules, subst, sym}
 use Rattle.html_rules_laws.specs.Usable.{Usable}
-use Rattle.html_rules_laws.proofs.UsableTokens.{usable-unhushed}
+use Rattle.html_rules_laws.proofs.Progress.UsableTokens.{usable-unhushed}
 use Rattle.html_tree_builder.specs.States.{built}
 use Rattle.html_tree_builder.proofs.builder.TreeBuilder.take_or_fail.Goals as goal
 

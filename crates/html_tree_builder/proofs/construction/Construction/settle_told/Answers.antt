@@ -1,6 +1,6 @@
 use Rattle.html_tree_builder.specs.States.{built}
 use Rattle.html_tree_builder.specs.Told.{token_of}
-use Rattle.html_rules_laws.proofs.TokensTaken.{is-settled, may-come}
+use Rattle.html_rules_laws.proofs.Progress.TokensTaken.{is-settled, may-come}
 use Rattle.html_tree_builder.proofs.Acted.{its_answers}
 use Rattle.html_tree_builder.proofs.Settles.{at-most}
 use Rattle.html_tree_builder.proofs.TextsTaken.{usable-stands}

@@ -1,7 +1,7 @@
 use Rattle.std.proofs.Common.{◌∙◌, ap, refl, subst, sym}
 use Rattle.std.specs.Str.{chars}
 use Rattle.html_tokens.specs.declared.token.Token.TheVariants.{CharacterTokens}
-use Rattle.html_rules_laws.proofs.TokensTaken.{settled-going, settled-usable}
+use Rattle.html_rules_laws.proofs.Progress.TokensTaken.{settled-going, settled-usable}
 use Rattle.html_rules_laws.specs.Usable.{Usable}
 use Rattle.html_tree_builder.specs.States.{built}
 use Rattle.html_tree_builder.proofs.Acted.{its_answers}

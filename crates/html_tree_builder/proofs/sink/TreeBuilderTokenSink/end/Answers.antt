@@ -1,7 +1,7 @@
 use Rattle.std.proofs.Common.{◌∙◌, ap}
 use Rattle.html_rules.specs.State.{hushed}
 use Rattle.html_rules.specs.Step.{ended}
-use Rattle.html_rules_laws.proofs.UsableTokens.{usable-unhushed}
+use Rattle.html_rules_laws.proofs.Progress.UsableTokens.{usable-unhushed}
 use Rattle.html_tree_builder.specs.States.{built}
 use Rattle.html_tree_builder.proofs.sink.TreeBuilderTokenSink.end.Goals as goal
 

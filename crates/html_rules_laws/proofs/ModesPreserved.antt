@@ -1,0 +1,21 @@
+-- Why every token leaves the open elements nested, as the mode wants them.
+pub mod Begins
+pub mod Bodies
+pub mod Fits
+pub mod Flows
+pub mod Fluid
+pub mod ForeignRows
+pub mod Framesets
+pub mod HeadAgain
+pub mod Heads
+pub mod Likes
+pub mod Openings
+pub mod Parts
+pub mod Resets
+pub mod Rows
+pub mod Runs
+pub mod Smooth
+pub mod Stacks
+pub mod Steps
+pub mod Tokens
+pub mod Turns

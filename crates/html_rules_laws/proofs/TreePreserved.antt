@@ -1,0 +1,23 @@
+-- Why every token keeps the tree a tree, and the open elements standing in it.
+pub mod ActionsStanding
+pub mod Acts
+pub mod Adoption
+pub mod AdoptionAgency
+pub mod AdoptionOrder
+pub mod AdoptionPlace
+pub mod AdoptionStanding
+pub mod AdoptionTurn
+pub mod AdoptionWalk
+pub mod Again
+pub mod Eases
+pub mod Heads
+pub mod Poised
+pub mod Roots
+pub mod Rows
+pub mod Standing
+pub mod StandingActions
+pub mod StandingSteps
+pub mod StandingTrees
+pub mod Steps
+pub mod Tokens
+pub mod Turns
