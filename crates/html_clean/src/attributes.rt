@@ -81,7 +81,7 @@ fn is_kept_attribute(
     attribute: &Attribute,
 ) -> Result<bool, ParseFault>
     ensures ok { IfOk result (λ kept. kept ≡ is_kept_attribute policy.now element.now attribute.now) }
-    ensures err { IfErr result (λ fault. fault ≡ Memory) }
+    ensures fault { IfErr result (λ fault. fault ≡ Memory) }
 {
     if !is_safe_attribute_name(&attribute.name)
         || !is_named_for(policy, element, &attribute.name.local)
@@ -98,7 +98,7 @@ fn is_kept_attribute(
 /// An attribute with its plain value.
 fn plain_attribute(alloc: Global, attribute: &Attribute) -> Result<Attribute, ParseFault>
     ensures ok { IfOk result (λ made. made ≡ plain_attribute attribute.now) }
-    ensures err { IfErr result (λ fault. fault ≡ Memory) }
+    ensures fault { IfErr result (λ fault. fault ≡ Memory) }
 {
     Ok(Attribute {
         name: attribute.name.copy(alloc)?,
@@ -115,7 +115,7 @@ fn add(
     attribute: &Attribute,
 ) -> Result<(), ParseFault>
     ensures ok { OnOk result (kept.new ≡ kept_with policy.now element.now kept.old attribute.now) }
-    ensures err { IfErr result (λ fault. fault ≡ Memory) }
+    ensures fault { IfErr result (λ fault. fault ≡ Memory) }
 {
     let plain = plain_attribute(alloc, attribute)?;
     let allowed = is_kept_attribute(alloc, policy, element, &plain)?;
@@ -133,7 +133,7 @@ pub(crate) fn kept_attributes(
     attributes: &[Attribute],
 ) -> Result<Attributes, ParseFault>
     ensures ok { IfOk result (λ kept. kept ≡ kept_attributes policy.now element.now attributes.now) }
-    ensures err { IfErr result (λ fault. fault ≡ Memory) }
+    ensures fault { IfErr result (λ fault. fault ≡ Memory) }
 {
     let mut kept = Attributes::new(alloc);
     for attribute in attributes {

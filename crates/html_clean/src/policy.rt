@@ -42,7 +42,7 @@ pub struct Policy {
 /// The names of these texts.
 pub(crate) fn names_of(alloc: Global, list: &[&str]) -> Result<Vec<LocalName>, ParseFault>
     ensures ok { IfOk result (λ names. names.items ≡ map (λ name. chars name.now) list.now) }
-    ensures err { IfErr result (λ fault. fault ≡ Memory) }
+    ensures fault { IfErr result (λ fault. fault ≡ Memory) }
 {
     let mut names = Vec::with_capacity(alloc, list.len())?;
     for name in list {
@@ -55,7 +55,7 @@ impl Rule {
     /// A rule for an element, with these attributes.
     pub fn new(alloc: Global, element: &str, attributes: &[&str]) -> Result<Rule, ParseFault>
         ensures ok { IfOk result (λ rule. rule_names rule ≡ (chars element.now, map (λ name. chars name.now) attributes.now)) }
-        ensures err { IfErr result (λ fault. fault ≡ Memory) }
+        ensures fault { IfErr result (λ fault. fault ≡ Memory) }
     {
         Ok(Rule {
             element: LocalName::from_str(alloc, element)?,
@@ -96,7 +96,7 @@ impl Policy {
         ensures ok { OnOk result (map rule_names self.new.kept.items ≡ map rule_names self.old.kept.items ++ (chars element.now, map (λ name. chars name.now) attributes.now) ∷ []) }
         ensures same { self.new ≡ record self.old { kept = self.new.kept } }
         ensures refused { OnErr result (self.new.kept.items ≡ self.old.kept.items) }
-        ensures err { IfErr result (λ fault. fault ≡ Memory) }
+        ensures fault { IfErr result (λ fault. fault ≡ Memory) }
     {
         self.kept.push(Rule::new(alloc, element, attributes)?)?;
         Ok(())

@@ -140,7 +140,7 @@ const SCHEMES: [&str; 25] = [
 /// The texts of these.
 fn texts_of(alloc: Global, list: &[&str]) -> Result<Vec<Text>, ParseFault>
     ensures ok { IfOk result (λ texts. texts.items ≡ map (λ text. chars text.now) list.now) }
-    ensures err { IfErr result (λ fault. fault ≡ Memory) }
+    ensures fault { IfErr result (λ fault. fault ≡ Memory) }
 {
     let mut texts = Vec::with_capacity(alloc, list.len())?;
     for text in list {
@@ -152,7 +152,7 @@ fn texts_of(alloc: Global, list: &[&str]) -> Result<Vec<Text>, ParseFault>
 /// Adds rules for elements without attributes of their own.
 fn push_plain(alloc: Global, list: &[&str], rules: &mut Vec<Rule>) -> Result<(), ParseFault>
     ensures ok { OnOk result (map rule_names rules.new.items ≡ map rule_names rules.old.items ++ map (λ name. (chars name.now, [])) list.now) }
-    ensures err { IfErr result (λ fault. fault ≡ Memory) }
+    ensures fault { IfErr result (λ fault. fault ≡ Memory) }
 {
     for name in list {
         rules.push(Rule::new(alloc, name, &[])?)?;
@@ -167,7 +167,7 @@ fn push_rules(
     rules: &mut Vec<Rule>,
 ) -> Result<(), ParseFault>
     ensures ok { OnOk result (map rule_names rules.new.items ≡ map rule_names rules.old.items ++ map (λ row. (chars row.0.now, map (λ name. chars name.now) row.1.now)) list.now) }
-    ensures err { IfErr result (λ fault. fault ≡ Memory) }
+    ensures fault { IfErr result (λ fault. fault ≡ Memory) }
 {
     for (name, attributes) in list {
         rules.push(Rule::new(alloc, name, attributes)?)?;
@@ -178,7 +178,7 @@ fn push_rules(
 /// The rules of the policy.
 fn rules(alloc: Global) -> Result<Vec<Rule>, ParseFault>
     ensures ok { IfOk result (λ rules. map rule_names rules.items ≡ ready_rules) }
-    ensures err { IfErr result (λ fault. fault ≡ Memory) }
+    ensures fault { IfErr result (λ fault. fault ≡ Memory) }
 {
     let mut rules = Vec::new(alloc);
     push_plain(alloc, &PLAIN_ELEMENTS, &mut rules)?;
@@ -193,7 +193,7 @@ impl Policy {
     /// Dropped with what they have are scripts, styles, the head of a document, templates, frames and what is shown without scripts.
     pub fn text_and_links(alloc: Global) -> Result<Policy, ParseFault>
         ensures ok { IfOk result IsTextAndLinks }
-        ensures err { IfErr result (λ fault. fault ≡ Memory) }
+        ensures fault { IfErr result (λ fault. fault ≡ Memory) }
     {
         Ok(Policy {
             kept: rules(alloc)?,

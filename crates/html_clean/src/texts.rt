@@ -21,7 +21,7 @@ fn is_plain_character(c: char) -> bool
 /// A text without U+0000 and U+000D, character by character.
 fn filtered_text(alloc: Global, text: &str) -> Result<Text, ParseFault>
     ensures ok { IfOk result (λ made. made ≡ plain_text (chars text.now)) }
-    ensures err { IfErr result (λ fault. fault ≡ Memory) }
+    ensures fault { IfErr result (λ fault. fault ≡ Memory) }
 {
     let mut made = Text::empty(alloc);
     for c in text.chars() {
@@ -42,7 +42,7 @@ fn is_plain(text: &str) -> bool
 /// A text without U+0000 and U+000D.
 pub(crate) fn plain_text(alloc: Global, text: &str) -> Result<Text, ParseFault>
     ensures ok { IfOk result (λ made. made ≡ plain_text (chars text.now)) }
-    ensures err { IfErr result (λ fault. fault ≡ Memory) }
+    ensures fault { IfErr result (λ fault. fault ≡ Memory) }
 {
     if is_plain(text) {
         return Text::from_str(alloc, text);
@@ -101,7 +101,7 @@ fn may_follow(made: &Text, c: char) -> bool
 /// A text without U+FEFF at its front.
 fn without_marks(alloc: Global, text: &str) -> Result<Text, ParseFault>
     ensures ok { IfOk result (λ made. made ≡ policies.without_marks (chars text.now)) }
-    ensures err { IfErr result (λ fault. fault ≡ Memory) }
+    ensures fault { IfErr result (λ fault. fault ≡ Memory) }
 {
     let mut made = Text::empty(alloc);
     for c in text.chars() {
@@ -115,7 +115,7 @@ fn without_marks(alloc: Global, text: &str) -> Result<Text, ParseFault>
 /// What is passed on of a text, in front of which nothing was passed on, or something.
 pub(crate) fn text_at(alloc: Global, front: bool, text: &str) -> Result<Text, ParseFault>
     ensures ok { IfOk result (λ made. made ≡ text_at front (chars text.now)) }
-    ensures err { IfErr result (λ fault. fault ≡ Memory) }
+    ensures fault { IfErr result (λ fault. fault ≡ Memory) }
 {
     let plain = plain_text(alloc, text)?;
     if front {

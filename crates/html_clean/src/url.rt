@@ -36,7 +36,7 @@ fn takes(begun: bool, c: char) -> bool
 /// A value as the URL parser takes it.
 fn url_text(alloc: Global, value: &str) -> Result<Text, ParseFault>
     ensures ok { IfOk result (λ text. text ≡ url_text (chars value.now)) }
-    ensures err { IfErr result (λ fault. fault ≡ Memory) }
+    ensures fault { IfErr result (λ fault. fault ≡ Memory) }
 {
     let mut made = Text::empty(alloc);
     let mut begun = false;
@@ -80,7 +80,7 @@ fn step_of(name: &Text, c: char) -> SchemeStep
 /// The scheme of such a value, if it has one.
 fn scheme_of(alloc: Global, text: &str) -> Result<Option<Text>, ParseFault>
     ensures ok { IfOk result (λ scheme. scheme ≡ scheme_of (chars text.now)) }
-    ensures err { IfErr result (λ fault. fault ≡ Memory) }
+    ensures fault { IfErr result (λ fault. fault ≡ Memory) }
 {
     let mut name = Text::empty(alloc);
     for c in text.chars() {
@@ -121,7 +121,7 @@ fn begins_with_host(text: &str) -> bool
 /// What the URL of a value begins with.
 pub fn url_kind(alloc: Global, value: &str) -> Result<UrlKind, ParseFault>
     ensures ok { IfOk result (λ kind. kind ≡ url_kind (chars value.now)) }
-    ensures err { IfErr result (λ fault. fault ≡ Memory) }
+    ensures fault { IfErr result (λ fault. fault ≡ Memory) }
 {
     let text = url_text(alloc, value)?;
     match scheme_of(alloc, text.as_str())? {

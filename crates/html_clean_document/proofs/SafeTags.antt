@@ -22,7 +22,7 @@ use Rattle.html_rules.specs.Modes.Foreign.{in_foreign_content}
 use Rattle.html_rules.specs.Rules.{Ending, Finished, Again, Replied, Settled, Turn, concluded, first_fit, fits, four_for_each, most_modes, rows, settle, settled_by, turn, turn_by_row, using_rules_for, within}
 use Rattle.html_rules.specs.State.{Open, State, current_number, hushed}
 use Rattle.html_rules.specs.Step.{refusal_of, step, step_by, taken}
-use Rattle.html_rules.specs.Table.{Row, Class, StartTags, EndTags, Conclusion, Done, Acknowledged, Reprocess, ReprocessInOriginal, ReprocessInMode, Using, UsingThen, UsingCurrentMode, RawText, PlainText, RunScript, TellEncoding}
+use Rattle.html_rules.specs.Table.{Row, Class, StartTags, EndTags, Conclusion, Done, Acknowledged, Reprocess, ReprocessInOriginal, ReprocessInMode, Using, UsingThen, UsingCurrentMode, RawText, PlainText, RunScript, ReportEncoding}
 use Rattle.html_rules.specs.Tokens.{class_fits}
 use Rattle.html_rules.specs.declared.insertion_mode.InsertionMode.{InsertionMode}
 use Rattle.html_rules.specs.declared.insertion_mode.InsertionMode.TheVariants.{Initial, BeforeHtml, BeforeHead, InHead, InHeadNoscript, AfterHead, InBody, Text, InTable, InTableText, InCaption, InColumnGroup, InTableBody, InRow, InCell, InTemplate, AfterBody, InFrameset, AfterFrameset, AfterAfterBody, AfterAfterFrameset}
@@ -42,7 +42,7 @@ abbrev replies_well : Class → Conclusion → Bool
 replies_well c (RawText kind) = is_unsafe_class c
 replies_well c PlainText = is_unsafe_class c
 replies_well c RunScript = is_unsafe_class c
-replies_well c TellEncoding = is_unsafe_class c
+replies_well c ReportEncoding = is_unsafe_class c
 replies_well c _ = true
 
 abbrev all_reply_well : List Row → Bool
@@ -121,7 +121,7 @@ module _ (t : Token) (safe : IsSafeTag t) where
   concluded-well using go c (RawText kind) b h n s = absurd (unsafe-none t c safe h b)
   concluded-well using go c PlainText b h n s = absurd (unsafe-none t c safe h b)
   concluded-well using go c RunScript b h n s = absurd (unsafe-none t c safe h b)
-  concluded-well using go c TellEncoding b h n s = absurd (unsafe-none t c safe h b)
+  concluded-well using go c ReportEncoding b h n s = absurd (unsafe-none t c safe h b)
 
   first-well : (using : InsertionMode → Token → State → Turn) → ((m : InsertionMode) (s : State) → EndsWell (using m t s).ends)
       → (rs : List Row) → all_reply_well rs ≡ true → (s : State) → EndsWell (turn_by_row using (first_fit rs t s) t s).ends

@@ -122,8 +122,8 @@ action_of action.AdoptionAgency = rules.AdoptionAgency
 action_of action.AdoptNobr = rules.AdoptNobr
 action_of action.CloseMisnestedA = rules.CloseMisnestedA
 action_of (action.SwitchTo a) = rules.SwitchTo a
-action_of action.KeepMode = rules.KeepMode
-action_of action.BackToOriginal = rules.BackToOriginal
+action_of action.SaveMode = rules.SaveMode
+action_of action.RestoreMode = rules.RestoreMode
 action_of action.ResetMode = rules.ResetMode
 action_of (action.PushTemplateMode a) = rules.PushTemplateMode a
 action_of (action.SetTemplateMode a) = rules.SetTemplateMode a
@@ -135,7 +135,7 @@ action_of action.IgnoreLineFeed = rules.IgnoreLineFeed
 action_of action.EnableFosterParenting = rules.EnableFosterParenting
 action_of action.DisableFosterParenting = rules.DisableFosterParenting
 action_of action.KeepText = rules.KeepText
-action_of action.TellPendingText = rules.TellPendingText
+action_of action.InsertPendingText = rules.InsertPendingText
 action_of (action.EnterForeign a) = rules.EnterForeign (namespace_of a)
 action_of action.InsertForeign = rules.InsertForeign
 action_of action.PopForeign = rules.PopForeign
@@ -153,7 +153,7 @@ conclusion_of conclusion.UsingCurrentMode = rules.UsingCurrentMode
 conclusion_of (conclusion.RawText a) = rules.RawText a
 conclusion_of conclusion.PlainText = rules.PlainText
 conclusion_of conclusion.RunScript = rules.RunScript
-conclusion_of conclusion.TellEncoding = rules.TellEncoding
+conclusion_of conclusion.ReportEncoding = rules.ReportEncoding
 
 abbrev pub row_of : Row → rules.Row
 row_of r = record { on = class_of r.on; when = condition_of r.when; does = action_of r.does; ends = conclusion_of r.ends }

@@ -246,9 +246,9 @@ pub enum Action {
     /// "Switch the insertion mode".
     SwitchTo(InsertionMode),
     /// The mode is kept as the original one, for the end of what comes.
-    KeepMode,
+    SaveMode,
     /// The original mode becomes the mode.
-    BackToOriginal,
+    RestoreMode,
     /// "Reset the insertion mode appropriately".
     ResetMode,
     /// A template insertion mode is pushed.
@@ -272,7 +272,7 @@ pub enum Action {
     /// The token's text waits in the pending table character tokens.
     KeepText,
     /// The pending table character tokens go where the table's text goes.
-    TellPendingText,
+    InsertPendingText,
     /// A `math` or an `svg` element is inserted.
     EnterForeign(Foreign),
     /// An element is inserted in the namespace of the adjusted current node.
@@ -309,7 +309,7 @@ pub enum Conclusion {
     /// The script that was the current node is to run.
     RunScript,
     /// Done, and the encoding is told that the tag names, if it names one.
-    TellEncoding,
+    ReportEncoding,
 }
 
 /// A row: which tokens it is for, what it asks for, what is done, and how it ends.

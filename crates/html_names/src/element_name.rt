@@ -68,7 +68,7 @@ fn known_namespace(kind: ElementNamespace) -> KnownNamespace
 /// A name that takes memory.
 fn rare(alloc: Global, namespace: &Namespace, name: &LocalName) -> Result<NameForm, ParseFault>
     ensures ok { IfOk result (λ form. IsRareForm form namespace.now name.now) }
-    ensures err { IfErr result (λ fault. fault ≡ Memory) }
+    ensures fault { IfErr result (λ fault. fault ≡ Memory) }
 {
     let copied = RareName {
         namespace: namespace.copy(alloc)?,
@@ -86,7 +86,7 @@ fn form_of(
 ) -> Result<NameForm, ParseFault>
     requires { IsClassOf (namespace_of namespace.now) name.now class }
     ensures ok { IfOk result (λ form. Holds class.namespace form (namespace_of namespace.now) name.now) }
-    ensures err { IfErr result (λ fault. fault ≡ Memory) }
+    ensures fault { IfErr result (λ fault. fault ≡ Memory) }
 {
     match (class.namespace, class.known) {
         (ElementNamespace::Other, _) => rare(alloc, namespace, name),
@@ -119,7 +119,7 @@ impl ElementName {
         name: &LocalName,
     ) -> Result<ElementName, ParseFault>
         ensures ok { IfOk result (λ made. made ≡ record { namespace = namespace_of namespace.now; name = name.now }) }
-        ensures err { IfErr result (λ fault. fault ≡ Memory) }
+        ensures fault { IfErr result (λ fault. fault ≡ Memory) }
     {
         let class = ElementClass::named(namespace, name);
         ElementName::with_class(alloc, class, namespace, name)
@@ -134,7 +134,7 @@ impl ElementName {
     ) -> Result<ElementName, ParseFault>
         requires { IsClassOf (namespace_of namespace.now) name.now class }
         ensures ok { IfOk result (λ made. made ≡ record { namespace = namespace_of namespace.now; name = name.now }) }
-        ensures err { IfErr result (λ fault. fault ≡ Memory) }
+        ensures fault { IfErr result (λ fault. fault ≡ Memory) }
     {
         let form = form_of(alloc, class, namespace, name)?;
         Ok(ElementName {
@@ -168,7 +168,7 @@ impl ElementName {
     /// The namespace, as a value of its own. One that is none of the three is copied.
     pub fn namespace(&self, alloc: Global) -> Result<Namespace, ParseFault>
         ensures ok { IfOk result (λ namespace. namespace_of namespace ≡ self.now.namespace) }
-        ensures err { IfErr result (λ fault. fault ≡ Memory) }
+        ensures fault { IfErr result (λ fault. fault ≡ Memory) }
     {
         match &self.form {
             NameForm::Known(_) => Ok(Namespace::from_known(known_namespace(self.namespace))),

@@ -143,7 +143,7 @@ fn renamed_place(table: &[Rename], place: u16) -> u16
 fn known_name(alloc: Global, place: u16) -> Result<LocalName, ParseFault>
     requires { place < length names }
     ensures ok { IfOk result (λ name. name ≡ slice_index_or names place []) }
-    ensures err { IfErr result (λ fault. fault ≡ Memory) }
+    ensures fault { IfErr result (λ fault. fault ≡ Memory) }
 {
     LocalName::from_str(alloc, KnownName { place }.as_str())
 }
@@ -155,7 +155,7 @@ fn renamed_name(
     name: LocalName,
 ) -> Result<LocalName, ParseFault>
     ensures ok { IfOk result (λ adjusted. adjusted ≡ renamed (names_of renames) name) }
-    ensures err { IfErr result (λ fault. fault ≡ Memory) }
+    ensures fault { IfErr result (λ fault. fault ≡ Memory) }
 {
     match name.known() {
         None => Ok(name),
@@ -172,7 +172,7 @@ fn renamed_known(
 ) -> Result<LocalName, ParseFault>
     requires { IsNameAt known.place name }
     ensures ok { IfOk result (λ adjusted. adjusted ≡ renamed (names_of renames) name) }
-    ensures err { IfErr result (λ fault. fault ≡ Memory) }
+    ensures fault { IfErr result (λ fault. fault ≡ Memory) }
 {
     let place = renamed_place(table(renames), known.place);
     if place == known.place {
@@ -190,7 +190,7 @@ pub fn adjust_tag_name(
     name: LocalName,
 ) -> Result<LocalName, ParseFault>
     ensures ok { (space : Space) → kind_of space ≡ namespace → IfOk result (λ adjusted. adjusted ≡ adjust_tag_name space name) }
-    ensures err { IfErr result (λ fault. fault ≡ Memory) }
+    ensures fault { IfErr result (λ fault. fault ≡ Memory) }
 {
     match namespace {
         ElementNamespace::Svg => renamed_name(alloc, RenameTable::SvgTags, name),
@@ -231,7 +231,7 @@ fn foreign_row(name: &LocalName) -> Option<ForeignName>
 /// The name of an attribute with its namespace ("adjust foreign attributes").
 fn adjust_foreign_name(alloc: Global, name: QualName) -> Result<QualName, ParseFault>
     ensures ok { IfOk result (λ adjusted. adjusted ≡ foreign_named foreign_attribute_names name) }
-    ensures err { IfErr result (λ fault. fault ≡ Memory) }
+    ensures fault { IfErr result (λ fault. fault ≡ Memory) }
 {
     match foreign_row(&name.local) {
         None => Ok(name),
@@ -250,7 +250,7 @@ fn adjust_local(
     name: LocalName,
 ) -> Result<LocalName, ParseFault>
     ensures ok { IfOk result (λ adjusted. adjusted ≡ adjust_local namespace name) }
-    ensures err { IfErr result (λ fault. fault ≡ Memory) }
+    ensures fault { IfErr result (λ fault. fault ≡ Memory) }
 {
     match namespace {
         ElementNamespace::MathMl => renamed_name(alloc, RenameTable::MathMlAttributes, name),
@@ -266,7 +266,7 @@ fn adjust_attribute(
     attribute: Attribute,
 ) -> Result<Attribute, ParseFault>
     ensures ok { IfOk result (λ adjusted. adjusted ≡ adjust_attribute namespace attribute) }
-    ensures err { IfErr result (λ fault. fault ≡ Memory) }
+    ensures fault { IfErr result (λ fault. fault ≡ Memory) }
 {
     let Attribute { name, value } = attribute;
     let QualName { prefix, ns, local } = name;
@@ -282,7 +282,7 @@ fn adjust_each(
     attributes: Attributes,
 ) -> Result<Attributes, ParseFault>
     ensures ok { IfOk result (λ adjusted. adjusted ≡ map (adjust_attribute namespace) attributes) }
-    ensures err { IfErr result (λ fault. fault ≡ Memory) }
+    ensures fault { IfErr result (λ fault. fault ≡ Memory) }
 {
     let mut adjusted = Vec::with_capacity(alloc, attributes.len())?;
     for attribute in attributes.into_vec() {
@@ -300,7 +300,7 @@ pub fn adjust_attributes(
     attributes: Attributes,
 ) -> Result<Attributes, ParseFault>
     ensures ok { (space : Space) → kind_of space ≡ namespace → IfOk result (λ adjusted. adjusted ≡ adjust_attributes space attributes) }
-    ensures err { IfErr result (λ fault. fault ≡ Memory) }
+    ensures fault { IfErr result (λ fault. fault ≡ Memory) }
 {
     adjust_each(alloc, namespace, attributes)
 }

@@ -31,7 +31,7 @@ impl ParseOpts {
     /// Options of their own with the same values.
     pub fn copy(&self, alloc: Global) -> Result<ParseOpts, ParseFault>
         ensures ok { IfOk result (λ copied. copied ≡ self.now) }
-        ensures err { IfErr result (λ fault. fault ≡ Memory) }
+        ensures fault { IfErr result (λ fault. fault ≡ Memory) }
     {
         Ok(ParseOpts {
             tokenizer: self.tokenizer.copy(alloc)?,

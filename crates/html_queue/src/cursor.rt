@@ -62,7 +62,7 @@ impl Cursor {
         requires some { 0 < width }
         requires whole { IsCharBoundary self.now width }
         ensures ok { IfOk result (λ text. text ≡ chars (take width self.now)) }
-        ensures err { IfErr result (λ fault. fault ≡ Memory) }
+        ensures fault { IfErr result (λ fault. fault ≡ Memory) }
     {
         match &self.text {
             Some(text) => Text::from_str(

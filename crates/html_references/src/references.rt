@@ -34,7 +34,7 @@ fn push_row(
 ) -> Result<(), TableFault>
     requires { IsTrue (is_plain name.now) }
     ensures ok { OnOk result (rows.new.items ≡ rows.old.items ++ row_of name.now value ∷ []) }
-    ensures err { IfErr result (λ fault. fault ≡ Memory) }
+    ensures fault { IfErr result (λ fault. fault ≡ Memory) }
 {
     rows.push(make_row(alloc, name, value)?)?;
     Ok(())
@@ -43,7 +43,7 @@ fn push_row(
 // Puts the rows of the five names that a written text needs behind others.
 fn push_five(alloc: Global, rows: &mut Vec<ReferenceRow>) -> Result<(), TableFault>
     ensures ok { OnOk result (rows.new.items ≡ rows.old.items ++ five_rows) }
-    ensures err { IfErr result (λ fault. fault ≡ Memory) }
+    ensures fault { IfErr result (λ fault. fault ≡ Memory) }
 {
     push_row(alloc, rows, "amp;", 0x26)?;
     push_row(alloc, rows, "lt;", 0x3C)?;
@@ -55,7 +55,7 @@ fn push_five(alloc: Global, rows: &mut Vec<ReferenceRow>) -> Result<(), TableFau
 // Rows of their own with the same names and values.
 fn copy_rows(alloc: Global, rows: &[ReferenceRow]) -> Result<Vec<ReferenceRow>, TableFault>
     ensures ok { IfOk result (λ copied. copied.items ≡ rows.now) }
-    ensures err { IfErr result (λ fault. fault ≡ Memory) }
+    ensures fault { IfErr result (λ fault. fault ≡ Memory) }
 {
     let mut copied = Vec::with_capacity(alloc, rows.len())?;
     for row in rows {
@@ -123,7 +123,7 @@ impl References {
     /// The table of the five names that a written text needs: `amp;`, `lt;`, `gt;`, `quot;` and `nbsp;`.
     pub fn five(alloc: Global) -> Result<References, TableFault>
         ensures ok { IfOk result (λ table. table ≡ five_rows) }
-        ensures err { IfErr result (λ fault. fault ≡ Memory) }
+        ensures fault { IfErr result (λ fault. fault ≡ Memory) }
     {
         let mut rows = Vec::with_capacity(alloc, 5)?;
         push_five(alloc, &mut rows)?;
@@ -133,7 +133,7 @@ impl References {
     /// A table of its own with the same rows.
     pub fn copy(&self, alloc: Global) -> Result<References, TableFault>
         ensures ok { IfOk result (λ copied. copied ≡ self.now) }
-        ensures err { IfErr result (λ fault. fault ≡ Memory) }
+        ensures fault { IfErr result (λ fault. fault ≡ Memory) }
     {
         let rows = copy_rows(alloc, &self.rows)?;
         let order = Vec::from_slice(alloc, &self.order)?;

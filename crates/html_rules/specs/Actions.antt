@@ -16,7 +16,7 @@ use Rattle.html_rules.specs.Places.{append_comment, append_comment_to_doc, appen
 use Rattle.html_rules.specs.Reset.{reset_insertion_mode}
 use Rattle.html_rules.specs.Stack.{add_attributes_to_body, add_attributes_to_root, check_body_end, close_item, close_p_element_in_button_scope, expect_to_close, generate_implied_end_except, generate_implied_end_tags, parse_error, pop_but_root, pop_until, pop_until_current, process_end_tag_in_body, remove_body, remove_from_stack}
 use Rattle.html_rules.specs.State.{State, current_number, is_in, is_named}
-use Rattle.html_rules.specs.Table.{Action, Nothing, Then, When, ParseError, InsertElement, InsertVoid, InsertVoidAs, InsertFormVoid, InsertNew, InsertNewVoid, CreateRoot, CreateNewRoot, AppendText, AppendReplacement, AppendComment, AppendCommentToDocument, AppendCommentToRoot, InsertTemplate, AddAttributesToRoot, AddAttributesToBody, RemoveBody, Pop, PopUntil, ClearBackTo, Close, CloseToken, CloseP, CloseItem, ImpliedEndTags, ImpliedEndTagsExcept, ImpliedEndTagsExceptToken, ImpliedEndTagsThoroughly, AnyOtherEndTag, CheckBodyEnd, SetHeadElem, PushHeadElem, RemoveHeadElem, SetFormElem, ForgetFormElem, RemoveFormElem, Reconstruct, InsertFormatting, InsertMarker, ClearToMarker, AdoptionAgency, AdoptNobr, CloseMisnestedA, SwitchTo, KeepMode, BackToOriginal, ResetMode, PushTemplateMode, SetTemplateMode, PopTemplateMode, SetQuirks, FramesetNotOk, FramesetNotOkUnlessWhite, IgnoreLineFeed, EnableFosterParenting, DisableFosterParenting, KeepText, TellPendingText, EnterForeign, InsertForeign, PopForeign, CloseForeign}
+use Rattle.html_rules.specs.Table.{Action, Nothing, Then, When, ParseError, InsertElement, InsertVoid, InsertVoidAs, InsertFormVoid, InsertNew, InsertNewVoid, CreateRoot, CreateNewRoot, AppendText, AppendReplacement, AppendComment, AppendCommentToDocument, AppendCommentToRoot, InsertTemplate, AddAttributesToRoot, AddAttributesToBody, RemoveBody, Pop, PopUntil, ClearBackTo, Close, CloseToken, CloseP, CloseItem, ImpliedEndTags, ImpliedEndTagsExcept, ImpliedEndTagsExceptToken, ImpliedEndTagsThoroughly, AnyOtherEndTag, CheckBodyEnd, SetHeadElem, PushHeadElem, RemoveHeadElem, SetFormElem, ForgetFormElem, RemoveFormElem, Reconstruct, InsertFormatting, InsertMarker, ClearToMarker, AdoptionAgency, AdoptNobr, CloseMisnestedA, SwitchTo, SaveMode, RestoreMode, ResetMode, PushTemplateMode, SetTemplateMode, PopTemplateMode, SetQuirks, FramesetNotOk, FramesetNotOkUnlessWhite, IgnoreLineFeed, EnableFosterParenting, DisableFosterParenting, KeepText, InsertPendingText, EnterForeign, InsertForeign, PopForeign, CloseForeign}
 use Rattle.html_rules.specs.Templates.{insert_template}
 use Rattle.html_rules.specs.Tokens.{attributes_of, is_white, name_of, text_of}
 use Rattle.html_rules.specs.declared.insertion_mode.InsertionMode.{InsertionMode}
@@ -28,16 +28,16 @@ unfoldable pub set_mode : InsertionMode → State → State
 set_mode mode s = record s { mode = mode }
 
 -- the present mode becomes the original one
-unfoldable pub keep_mode : State → State
-keep_mode s = record s { orig_mode = Some s.mode }
+unfoldable pub save_mode : State → State
+save_mode s = record s { orig_mode = Some s.mode }
 
 abbrev pub or_mode : Option InsertionMode → InsertionMode → InsertionMode
 or_mode None mode = mode
 or_mode (Some original) mode = original
 
 -- the original mode becomes the present one, and there is no original mode then
-unfoldable pub back_to_original : State → State
-back_to_original s = record s { mode = or_mode s.orig_mode s.mode; orig_mode = None }
+unfoldable pub restore_mode : State → State
+restore_mode s = record s { mode = or_mode s.orig_mode s.mode; orig_mode = None }
 
 abbrev pub without_first : {A : Type 0} → List A → List A
 without_first [] = []
@@ -106,8 +106,8 @@ keep_text text s = record s { pending_table_text = s.pending_table_text ++ text 
 abbrev pub append_in_body : List ℕ → State → State
 append_in_body text s = append_text text (frameset_not_ok_unless_white text (reconstruct_active_formatting_elements s))
 
-abbrev pub tell_text : List ℕ → State → State
-tell_text text s =
+abbrev pub insert_table_text : List ℕ → State → State
+insert_table_text text s =
     choose (is_white text)
     (λ _. append_text text s)
     (λ _. set_foster_parenting false (append_in_body text (set_foster_parenting true (parse_error s))))
@@ -116,8 +116,8 @@ abbrev pub without_pending_text : State → State
 without_pending_text s = record s { pending_table_text = [] }
 
 -- the pending table characters go where the table's text goes: white space is appended, any other text is fostered
-unfoldable pub tell_pending_text : State → State
-tell_pending_text s = without_pending_text (tell_text s.pending_table_text s)
+unfoldable pub insert_pending_text : State → State
+insert_pending_text s = without_pending_text (insert_table_text s.pending_table_text s)
 
 -- for a tag
 
@@ -178,8 +178,8 @@ act AdoptionAgency t s = adoption_agency (name_of t) s
 act AdoptNobr t s = adoption_agency (codes "nobr") s
 act CloseMisnestedA t s = handle_misnested_a_tags s
 act (SwitchTo mode) t s = set_mode mode s
-act KeepMode t s = keep_mode s
-act BackToOriginal t s = back_to_original s
+act SaveMode t s = save_mode s
+act RestoreMode t s = restore_mode s
 act ResetMode t s = reset_insertion_mode s
 act (PushTemplateMode mode) t s = push_template_mode mode s
 act (SetTemplateMode mode) t s = set_template_mode mode s
@@ -191,7 +191,7 @@ act IgnoreLineFeed t s = set_ignore_lf true s
 act EnableFosterParenting t s = set_foster_parenting true s
 act DisableFosterParenting t s = set_foster_parenting false s
 act KeepText t s = keep_text (text_of t) s
-act TellPendingText t s = tell_pending_text s
+act InsertPendingText t s = insert_pending_text s
 act (EnterForeign namespace) t s = for_tag (enter_foreign namespace) t s
 act InsertForeign t s = for_tag foreign_start t s
 act PopForeign t s = pop_foreign s

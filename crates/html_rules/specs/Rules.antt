@@ -4,7 +4,7 @@ use Rattle.html_tokens.specs.Sink.{Reply}
 use Rattle.html_tokens.specs.declared.replies.TokenSinkResult.TheVariants as reply
 use Rattle.html_tokens.specs.declared.token.Token.{Token}
 use Rattle.html_tokens.specs.declared.token.Token.TheVariants.{TagToken}
-use Rattle.html_rules.specs.Actions.{act, back_to_original, set_mode}
+use Rattle.html_rules.specs.Actions.{act, restore_mode, set_mode}
 use Rattle.html_rules.specs.Choice.{choose}
 use Rattle.html_rules.specs.Conditions.{holds}
 use Rattle.html_rules.specs.Encodings.{encoding_hint}
@@ -33,7 +33,7 @@ use Rattle.html_rules.specs.Modes.Initial.{initial}
 use Rattle.html_rules.specs.Modes.Text.{text}
 use Rattle.html_rules.specs.Stack.{parse_error}
 use Rattle.html_rules.specs.State.{Open, State, current_number}
-use Rattle.html_rules.specs.Table.{Row, Action, AnythingElse, Nothing, Conclusion, Done, Acknowledged, Reprocess, ReprocessInOriginal, ReprocessInMode, Using, UsingThen, UsingCurrentMode, RawText, PlainText, RunScript, TellEncoding, row}
+use Rattle.html_rules.specs.Table.{Row, Action, AnythingElse, Nothing, Conclusion, Done, Acknowledged, Reprocess, ReprocessInOriginal, ReprocessInMode, Using, UsingThen, UsingCurrentMode, RawText, PlainText, RunScript, ReportEncoding, row}
 use Rattle.html_rules.specs.Tokens.{attributes_of, class_fits}
 use Rattle.html_rules.specs.declared.insertion_mode.InsertionMode.{InsertionMode}
 use Rattle.html_rules.specs.declared.insertion_mode.InsertionMode.TheVariants as mode
@@ -99,7 +99,7 @@ abbrev pub concluded : (InsertionMode → Token → State → Turn) → Conclusi
 concluded using Done t script s = turn_of s (Finished false)
 concluded using Acknowledged t script s = turn_of s (Finished true)
 concluded using (Reprocess m) t script s = turn_of (set_mode m s) Again
-concluded using ReprocessInOriginal t script s = turn_of (back_to_original s) Again
+concluded using ReprocessInOriginal t script s = turn_of (restore_mode s) Again
 concluded using ReprocessInMode t script s = turn_of s Again
 concluded using (Using m) t script s = using m t s
 concluded using (UsingThen m after) t script s = turn_then after t (using m t s)
@@ -107,7 +107,7 @@ concluded using UsingCurrentMode t script s = using s.mode t s
 concluded using (RawText kind) t script s = turn_of s (Replied (reply.RawData kind))
 concluded using PlainText t script s = turn_of s (Replied reply.Plaintext)
 concluded using RunScript t script s = turn_of s (Replied (reply.Script script))
-concluded using TellEncoding t script s = turn_of s (encoding_reply (encoding_hint (attributes_of t)))
+concluded using ReportEncoding t script s = turn_of s (encoding_reply (encoding_hint (attributes_of t)))
 
 abbrev pub turn_by_row : (InsertionMode → Token → State → Turn) → Row → Token → State → Turn
 turn_by_row using r t s = concluded using r.ends t (current_number s.open_elems) (act r.does t s)

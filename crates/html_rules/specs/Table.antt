@@ -133,8 +133,8 @@ pub data Action : Type 0 where
   CloseMisnestedA : Action
   -- modes and flags
   SwitchTo : (mode : InsertionMode) → Action
-  KeepMode : Action
-  BackToOriginal : Action
+  SaveMode : Action
+  RestoreMode : Action
   ResetMode : Action
   PushTemplateMode : (mode : InsertionMode) → Action
   SetTemplateMode : (mode : InsertionMode) → Action
@@ -147,7 +147,7 @@ pub data Action : Type 0 where
   DisableFosterParenting : Action
   -- the pending table character tokens
   KeepText : Action
-  TellPendingText : Action
+  InsertPendingText : Action
   -- foreign content: `math` or `svg`; any start tag; back to HTML; the end tag's elements leave
   EnterForeign : Namespace → Action
   InsertForeign : Action
@@ -175,7 +175,7 @@ pub data Conclusion : Type 0 where
   -- the script that was the current node is to run
   RunScript : Conclusion
   -- done, and the encoding is told that the tag names, if it names one
-  TellEncoding : Conclusion
+  ReportEncoding : Conclusion
 
 pub record Row : Type 0 where
   pub on : Class
@@ -196,7 +196,7 @@ a ▸ b = Then a b
 
 -- "generic raw text element parsing algorithm" (section 13.2.6.2), but for the tokenizer's state
 abbrev pub insert_raw_text : Action
-insert_raw_text = InsertElement ▸ KeepMode ▸ SwitchTo Text
+insert_raw_text = InsertElement ▸ SaveMode ▸ SwitchTo Text
 
 -- as in a body, with foster parenting enabled
 abbrev pub fostered : Conclusion

@@ -4,7 +4,7 @@ use Rattle.std.specs.Prelude.{◌&&◌, ◌+◌, not, is_some, length, nat_eq}
 use Rattle.std.proofs.lemmas.Bool.{and_parts}
 use Rattle.html_tokens.specs.declared.token.Token.{Token}
 use Rattle.html_tokens.specs.declared.token.Token.TheVariants.{CharacterTokens}
-use Rattle.html_rules.specs.Actions.{append_in_body, frameset_not_ok_unless_white, keep_mode, keep_text, set_foster_parenting, set_head_elem, set_mode, set_quirks_mode}
+use Rattle.html_rules.specs.Actions.{append_in_body, frameset_not_ok_unless_white, save_mode, keep_text, set_foster_parenting, set_head_elem, set_mode, set_quirks_mode}
 use Rattle.html_rules.specs.Choice.{choose}
 use Rattle.html_rules.specs.Conditions.{context_is, holds, is_nonempty}
 use Rattle.html_rules.specs.ForeignContent.{is_foreign}
@@ -144,7 +144,7 @@ body-keeps n m flows c s is =
 -- by the rules for a table
 table-keeps : (n : ℕ) (m : InsertionMode) → Flows m → ((original : Option InsertionMode) (xs : List Open) (head : Option ℕ) (modes : List InsertionMode) → fits_mode m original xs head modes ≡ true → fits_in m xs head modes ≡ true)
     → (c : ℕ) (s : State) → ReadyIn m s → Ready (using_rules_for (suc (suc n)) InTable (character c) s).state
-unfolding using_rules_for rows set_mode keep_mode set_foster_parenting parse_error
+unfolding using_rules_for rows set_mode save_mode set_foster_parenting parse_error
 table-keeps n m flows plain c s is =
     let foster : State = set_foster_parenting true (parse_error s) in
     let fostered = body-keeps n m flows c foster (record { mode = is.mode; ready = is.ready }) in

@@ -17,7 +17,7 @@ use Rattle.html_rules.specs.Modes.Foreign.{in_foreign_content}
 use Rattle.html_rules.specs.Rules.{Ending, Finished, Again, Replied, Settled, Turn, concluded, encoding_reply, first_fit, fits, four_for_each, most_modes, rows, settle, settled_by, turn, turn_by_row, using_rules_for, within}
 use Rattle.html_rules.specs.State.{Open, State, current_number}
 use Rattle.html_rules.specs.Step.{behind, behind_line_feed, taken, taken_by, text_taken, untouched}
-use Rattle.html_rules.specs.Table.{Row, Class, StartTags, EndTags, AnyStartTag, AnyEndTag, Conclusion, Done, Acknowledged, Reprocess, ReprocessInOriginal, ReprocessInMode, Using, UsingThen, UsingCurrentMode, RawText, PlainText, RunScript, TellEncoding}
+use Rattle.html_rules.specs.Table.{Row, Class, StartTags, EndTags, AnyStartTag, AnyEndTag, Conclusion, Done, Acknowledged, Reprocess, ReprocessInOriginal, ReprocessInMode, Using, UsingThen, UsingCurrentMode, RawText, PlainText, RunScript, ReportEncoding}
 use Rattle.html_rules.specs.Tokens.{attributes_of, class_fits}
 use Rattle.html_rules.specs.declared.insertion_mode.InsertionMode.{InsertionMode}
 use Rattle.html_rules.specs.declared.insertion_mode.InsertionMode.TheVariants.{Initial, BeforeHtml, BeforeHead, InHead, InHeadNoscript, AfterHead, InBody, Text, InTable, InTableText, InCaption, InColumnGroup, InTableBody, InRow, InCell, InTemplate, AfterBody, InFrameset, AfterFrameset, AfterAfterBody, AfterAfterFrameset}
@@ -35,7 +35,7 @@ abbrev replies_well : Class → Conclusion → Bool
 replies_well c (RawText kind) = is_tag_class c && is_text_state (RawState kind)
 replies_well c PlainText = is_tag_class c
 replies_well c RunScript = is_tag_class c
-replies_well c TellEncoding = is_tag_class c
+replies_well c ReportEncoding = is_tag_class c
 replies_well c _ = true
 
 abbrev all_reply_well : List Row → Bool
@@ -101,7 +101,7 @@ concluded-well using t go c UsingCurrentMode b h n s = go s.mode s
 concluded-well using t go c (RawText kind) b h n s = let parts = and_parts (is_tag_class c) (is_text_state (RawState kind)) h in to_tag t c (reply.RawData kind) parts.0 b parts.1
 concluded-well using t go c PlainText b h n s = to_tag t c reply.Plaintext h b tt
 concluded-well using t go c RunScript b h n s = to_tag t c (reply.Script n) h b tt
-concluded-well using t go c TellEncoding b h n s = encoding-well (encoding_hint (attributes_of t)) t c h b
+concluded-well using t go c ReportEncoding b h n s = encoding-well (encoding_hint (attributes_of t)) t c h b
 
 first-well : (using : InsertionMode → Token → State → Turn) (t : Token) → ((m : InsertionMode) (s : State) → EndsWell t (using m t s).ends)
     → (rs : List Row) → all_reply_well rs ≡ true → (s : State) → EndsWell t (turn_by_row using (first_fit rs t s) t s).ends

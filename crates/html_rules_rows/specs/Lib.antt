@@ -14,3 +14,4 @@ pub mod RowsOfSettings
 pub mod RowsOfTables
 pub mod RowsOfTemplates
 pub mod RowsOfTokens
+pub mod Trace

@@ -21,7 +21,7 @@ impl SerializeOpts {
     /// The same options, with a name of their own.
     pub fn copy(&self, alloc: Global) -> Result<SerializeOpts, ParseFault>
         ensures ok { IfOk result (λ copied. copied ≡ self.now) }
-        ensures err { IfErr result (λ fault. fault ≡ Memory) }
+        ensures fault { IfErr result (λ fault. fault ≡ Memory) }
     {
         Ok(SerializeOpts {
             scripting_enabled: self.scripting_enabled,

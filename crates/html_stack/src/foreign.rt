@@ -39,7 +39,7 @@ pub fn adjusted<'a, Handle>(
 fn foreign_element(alloc: Global, namespace: Namespace, tag: Tag) -> Result<NewElement, ParseFault>
     ensures of { IfOk result (λ made. IsFor (namespace_of namespace) tag.name (adjust_attributes (namespace_of namespace) tag.attrs) tag.had_duplicate_attributes made) }
     ensures is { IfOk result (λ made. IsNew made) }
-    ensures err { IfErr result (λ fault. fault ≡ Memory) }
+    ensures fault { IfErr result (λ fault. fault ≡ Memory) }
 {
     let kind = ElementNamespace::of(&namespace);
     let class = ElementClass::named(&namespace, &tag.name);

@@ -58,7 +58,7 @@ fn first_in<Handle: Copy>(elements: &[OpenElement<Handle>], set: TagSet) -> Opti
 impl<Sink: TreeSink> Stack<Sink> {
     /// Where the input ends within a script, the current node, the sink is told that the script has started, so that it is never run
     /// (HTML Standard, section 13.2.6.4.8).
-    pub fn tell_cut_off_script(&self, sink: &mut Sink)
+    pub fn report_cut_off_script(&self, sink: &mut Sink)
         requires { AreOpened (Sink.forest sink.old) self.now.open_elems }
         ensures { Sink.forest sink.new ≡ Sink.forest sink.old }
     {
@@ -79,7 +79,7 @@ impl<Sink: TreeSink> Stack<Sink> {
     }
 
     /// Tells the sink of an option that is open no more.
-    fn tell_ended_option(&self, sink: &mut Sink, option: Option<Placed<Sink::Handle>>)
+    fn report_ended_option(&self, sink: &mut Sink, option: Option<Placed<Sink::Handle>>)
         requires { IfSome option (λ placed. IsNode (Sink.forest sink.old) (Sink.node placed.handle)) }
         ensures { Sink.forest sink.new ≡ Sink.forest sink.old }
     {
@@ -99,6 +99,6 @@ impl<Sink: TreeSink> Stack<Sink> {
     {
         let option = self.first_option(class);
         self.process_end_tag_in_body(sink, class, name);
-        self.tell_ended_option(sink, option);
+        self.report_ended_option(sink, option);
     }
 }

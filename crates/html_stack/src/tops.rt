@@ -18,7 +18,7 @@ pub(crate) struct Tops {
 /// The name that an element is found by.
 pub(crate) fn key(alloc: Global, name: &ElementName) -> Result<Text, ParseFault>
     ensures ok { IfOk result (λ key. key ≡ key_of name.now) }
-    ensures err { IfErr result (λ fault. fault ≡ Memory) }
+    ensures fault { IfErr result (λ fault. fault ≡ Memory) }
 {
     let mut key = Text::empty(alloc);
     if name.is_html() {

@@ -148,7 +148,7 @@ module _ {K H : Type 0} (Sink : Ghosts K H) where
   abbrev pub Falls : K → K → {A F : Type 0} → Result A F → ParseFault → Type 0
   Falls old new given fault = Fell old new × Fails old new given fault
 
-  -- The same of a call that was to tell an error: every token fails so.
+  -- The same of a call that was to emit an error: every token fails so.
   abbrev pub FallsAll : K → K → ParseFault → Type 0
   FallsAll old new fault = Fell old new × ((token : Token) (line : ℕ) → Fails old new (Sink.step (Sink.view old) token line) fault)
 

@@ -112,12 +112,12 @@ impl<Sink: TokenSink> Tokenizer<Sink> {
         requires sound { Sink.is_sound (Sink.view self.old.sink) }
         ensures { Keeps Sink.TokenSink self.old self.new c result }
     {
-        self.tell_fault(first_fault(c))?;
-        self.take_before_name(c)
+        self.report_fault(first_fault(c))?;
+        self.consume_before_name(c)
     }
 
     /// The same, where an error of the character was told.
-    fn take_before_name(&mut self, c: char) -> Result<ProcessResult<Sink::Handle>, ParseFault>
+    fn consume_before_name(&mut self, c: char) -> Result<ProcessResult<Sink::Handle>, ParseFault>
         requires at { IsAt self.old state.BeforeAttributeName }
         requires sound { Sink.is_sound (Sink.view self.old.sink) }
         ensures { Keeps Sink.TokenSink self.old self.new c result }
@@ -148,12 +148,12 @@ impl<Sink: TokenSink> Tokenizer<Sink> {
         requires sound { Sink.is_sound (Sink.view self.old.sink) }
         ensures { Keeps Sink.TokenSink self.old self.new c result }
     {
-        self.tell_fault(name_fault(c))?;
-        self.take_in_name(c)
+        self.report_fault(name_fault(c))?;
+        self.consume_in_name(c)
     }
 
     /// The same, where an error of the character was told.
-    fn take_in_name(&mut self, c: char) -> Result<ProcessResult<Sink::Handle>, ParseFault>
+    fn consume_in_name(&mut self, c: char) -> Result<ProcessResult<Sink::Handle>, ParseFault>
         requires at { IsAt self.old state.AttributeName }
         requires sound { Sink.is_sound (Sink.view self.old.sink) }
         ensures { Keeps Sink.TokenSink self.old self.new c result }
@@ -196,12 +196,12 @@ impl<Sink: TokenSink> Tokenizer<Sink> {
         requires sound { Sink.is_sound (Sink.view self.old.sink) }
         ensures { Keeps Sink.TokenSink self.old self.new c result }
     {
-        self.tell_if(c == '>', ErrorCode::MissingAttributeValue)?;
-        self.take_before_value(c)
+        self.report_if(c == '>', ErrorCode::MissingAttributeValue)?;
+        self.consume_before_value(c)
     }
 
     /// The same, where an error of the character was told.
-    fn take_before_value(&mut self, c: char) -> Result<ProcessResult<Sink::Handle>, ParseFault>
+    fn consume_before_value(&mut self, c: char) -> Result<ProcessResult<Sink::Handle>, ParseFault>
         requires at { IsAt self.old state.BeforeAttributeValue }
         requires sound { Sink.is_sound (Sink.view self.old.sink) }
         ensures { Keeps Sink.TokenSink self.old self.new c result }
@@ -250,12 +250,15 @@ impl<Sink: TokenSink> Tokenizer<Sink> {
         requires sound { Sink.is_sound (Sink.view self.old.sink) }
         ensures { Keeps Sink.TokenSink self.old self.new c result }
     {
-        self.tell_fault(unquoted_fault(c))?;
-        self.take_in_unquoted_value(c)
+        self.report_fault(unquoted_fault(c))?;
+        self.consume_in_unquoted_value(c)
     }
 
     /// The same, where an error of the character was told.
-    fn take_in_unquoted_value(&mut self, c: char) -> Result<ProcessResult<Sink::Handle>, ParseFault>
+    fn consume_in_unquoted_value(
+        &mut self,
+        c: char,
+    ) -> Result<ProcessResult<Sink::Handle>, ParseFault>
         requires at { IsAt self.old (state.AttributeValue value.Unquoted) }
         requires sound { Sink.is_sound (Sink.view self.old.sink) }
         ensures { Keeps Sink.TokenSink self.old self.new c result }
@@ -274,29 +277,29 @@ impl<Sink: TokenSink> Tokenizer<Sink> {
     }
 
     /// Tells of each error in a run of a value without quotes.
-    fn tell_unquoted_faults(&mut self, run: &str) -> Result<(), ParseFault>
+    fn report_unquoted_faults(&mut self, run: &str) -> Result<(), ParseFault>
         requires sound { Sink.is_sound (Sink.view self.old.sink) }
         ensures { Errs Sink.TokenSink (owed_for_each is_odd_unquoted (chars run.now)) self.old self.new result }
     {
         for c in run.chars() {
-            self.tell_fault(unquoted_fault(c))?;
+            self.report_fault(unquoted_fault(c))?;
         }
         Ok(())
     }
 
     /// Takes a run of a value without quotes.
-    fn take_unquoted_run(&mut self, run: &Text) -> Result<(), ParseFault>
+    fn consume_unquoted_run(&mut self, run: &Text) -> Result<(), ParseFault>
         requires run { IsRunAt self.old run.now }
         requires at { self.old.state ≡ state.AttributeValue value.Unquoted }
         requires sound { Sink.is_sound (Sink.view self.old.sink) }
         ensures { KeepsRun Sink.TokenSink self.old self.new run.now result }
     {
-        self.tell_unquoted_faults(run.as_str())?;
+        self.report_unquoted_faults(run.as_str())?;
         self.attribute_value.append(run)
     }
 
     /// Takes a run of a value.
-    pub(crate) fn take_value_run(
+    pub(crate) fn consume_value_run(
         &mut self,
         kind: AttrValueKind,
         run: &Text,
@@ -307,7 +310,7 @@ impl<Sink: TokenSink> Tokenizer<Sink> {
         ensures { KeepsRun Sink.TokenSink self.old self.new run.now result }
     {
         match kind {
-            AttrValueKind::Unquoted => self.take_unquoted_run(run),
+            AttrValueKind::Unquoted => self.consume_unquoted_run(run),
             _ => self.attribute_value.append(run),
         }
     }
@@ -324,12 +327,12 @@ impl<Sink: TokenSink> Tokenizer<Sink> {
         requires sound { Sink.is_sound (Sink.view self.old.sink) }
         ensures { Keeps Sink.TokenSink self.old self.new c result }
     {
-        self.tell_null(c)?;
-        self.take_in_quoted_value(kind, quote, c)
+        self.report_null(c)?;
+        self.consume_in_quoted_value(kind, quote, c)
     }
 
     /// The same, where an error of the character was told.
-    fn take_in_quoted_value(
+    fn consume_in_quoted_value(
         &mut self,
         kind: AttrValueKind,
         quote: char,
@@ -362,15 +365,15 @@ impl<Sink: TokenSink> Tokenizer<Sink> {
         requires sound { Sink.is_sound (Sink.view self.old.sink) }
         ensures { Keeps Sink.TokenSink self.old self.new c result }
     {
-        self.tell_if(
+        self.report_if(
             !ends_tag_name(c),
             ErrorCode::MissingWhitespaceBetweenAttributes,
         )?;
-        self.take_behind_value(c)
+        self.consume_after_value(c)
     }
 
     /// The same, where an error of the character was told.
-    fn take_behind_value(&mut self, c: char) -> Result<ProcessResult<Sink::Handle>, ParseFault>
+    fn consume_after_value(&mut self, c: char) -> Result<ProcessResult<Sink::Handle>, ParseFault>
         requires at { IsAt self.old state.AfterAttributeValueQuoted }
         requires sound { Sink.is_sound (Sink.view self.old.sink) }
         ensures { Keeps Sink.TokenSink self.old self.new c result }

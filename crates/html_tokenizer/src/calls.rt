@@ -111,12 +111,12 @@ impl<Sink: TokenSink> Tokenizer<Sink> {
     }
 
     /// Hands out what is held, and then the end of the input.
-    fn tell_end(&mut self) -> Result<(), ParseFault>
+    fn emit_end(&mut self) -> Result<(), ParseFault>
         requires ready { IsReadyIf Sink.TokenSink None self.old }
         ensures { TellsEnd Sink.TokenSink self.old self.new result }
     {
-        self.tell_held()?;
-        self.tell_end_of_input()
+        self.emit_held()?;
+        self.emit_end_of_file()
     }
 
     /// Ends the input: tells what is held, then `EOFToken`, then the sink's `end`.
@@ -131,7 +131,7 @@ impl<Sink: TokenSink> Tokenizer<Sink> {
         ensures loans { Sink.references self.new.sink ≡ Sink.references self.old.sink }
     {
         self.stream.refuses()?;
-        match self.tell_end() {
+        match self.emit_end() {
             Ok(()) => {
                 self.stream.has_ended = true;
                 self.sink.end();

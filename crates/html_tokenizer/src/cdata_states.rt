@@ -23,9 +23,9 @@ impl<Sink: TokenSink> Tokenizer<Sink> {
             return Ok(ProcessResult::Continue);
         }
         if c == '\0' {
-            return self.take_null();
+            return self.consume_null();
         }
-        self.take_char(c)
+        self.consume_char(c)
     }
 
     /// Section 13.2.5.70.
@@ -42,7 +42,7 @@ impl<Sink: TokenSink> Tokenizer<Sink> {
             return Ok(ProcessResult::Continue);
         }
         self.state = State::CdataSection;
-        self.tell_char(']')?;
+        self.emit_char(']')?;
         self.cdata_section_state(c)
     }
 
@@ -60,10 +60,10 @@ impl<Sink: TokenSink> Tokenizer<Sink> {
             return Ok(ProcessResult::Continue);
         }
         if c == ']' {
-            return self.take_char(']');
+            return self.consume_char(']');
         }
         self.state = State::CdataSection;
-        self.tell_two(']', ']')?;
+        self.emit_two(']', ']')?;
         self.cdata_section_state(c)
     }
 }

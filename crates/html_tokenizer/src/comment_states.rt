@@ -21,7 +21,7 @@ impl<Sink: TokenSink> Tokenizer<Sink> {
     {
         let comment = mem::replace(&mut self.comment, Text::empty(self.stream.alloc));
         self.state = State::Data;
-        self.tell(Token::CommentToken(comment))
+        self.emit(Token::CommentToken(comment))
     }
 
     /// Hands out a comment that is a parse error. What follows is data.
@@ -29,7 +29,7 @@ impl<Sink: TokenSink> Tokenizer<Sink> {
         requires sound { Sink.is_sound (Sink.view self.old.sink) }
         ensures { Tells Sink.TokenSink a_fault (CommentToken self.old.comment) (record self.old { comment = []; state = state.Data }) self.new result }
     {
-        self.tell_error(code)?;
+        self.report_error(code)?;
         self.emit_comment()
     }
 
@@ -50,12 +50,15 @@ impl<Sink: TokenSink> Tokenizer<Sink> {
         requires sound { Sink.is_sound (Sink.view self.old.sink) }
         ensures { Keeps Sink.TokenSink self.old self.new c result }
     {
-        self.tell_null(c)?;
-        self.take_in_bogus_comment(c)
+        self.report_null(c)?;
+        self.consume_in_bogus_comment(c)
     }
 
     /// The same, where an error of the character was told.
-    fn take_in_bogus_comment(&mut self, c: char) -> Result<ProcessResult<Sink::Handle>, ParseFault>
+    fn consume_in_bogus_comment(
+        &mut self,
+        c: char,
+    ) -> Result<ProcessResult<Sink::Handle>, ParseFault>
         requires at { IsAt self.old state.BogusComment }
         requires sound { Sink.is_sound (Sink.view self.old.sink) }
         ensures { Keeps Sink.TokenSink self.old self.new c result }
@@ -119,12 +122,12 @@ impl<Sink: TokenSink> Tokenizer<Sink> {
         requires sound { Sink.is_sound (Sink.view self.old.sink) }
         ensures { Keeps Sink.TokenSink self.old self.new c result }
     {
-        self.tell_null(c)?;
-        self.take_in_comment(c)
+        self.report_null(c)?;
+        self.consume_in_comment(c)
     }
 
     /// The same, where an error of the character was told.
-    fn take_in_comment(&mut self, c: char) -> Result<ProcessResult<Sink::Handle>, ParseFault>
+    fn consume_in_comment(&mut self, c: char) -> Result<ProcessResult<Sink::Handle>, ParseFault>
         requires at { IsAt self.old state.Comment }
         requires sound { Sink.is_sound (Sink.view self.old.sink) }
         ensures { Keeps Sink.TokenSink self.old self.new c result }
@@ -163,12 +166,12 @@ impl<Sink: TokenSink> Tokenizer<Sink> {
         ensures { Keeps Sink.TokenSink self.old self.new c result }
     {
         let is_nested = c != '>' && self.comment.as_str().as_bytes().ends_with(b"<!");
-        self.tell_if(is_nested, ErrorCode::NestedComment)?;
-        self.take_behind_dashes(c)
+        self.report_if(is_nested, ErrorCode::NestedComment)?;
+        self.consume_after_dashes(c)
     }
 
     /// The same, where an error of the character was told.
-    fn take_behind_dashes(&mut self, c: char) -> Result<ProcessResult<Sink::Handle>, ParseFault>
+    fn consume_after_dashes(&mut self, c: char) -> Result<ProcessResult<Sink::Handle>, ParseFault>
         requires at { IsAt self.old state.CommentEnd }
         requires sound { Sink.is_sound (Sink.view self.old.sink) }
         ensures { Keeps Sink.TokenSink self.old self.new c result }

@@ -79,13 +79,13 @@ fn abrupt_end(kind: DoctypeIdKind) -> ErrorCode {
 
 impl<Sink: TokenSink> Tokenizer<Sink> {
     /// Hands out the doctype, where its error was told. What follows is data.
-    fn tell_doctype(&mut self) -> Result<(), ParseFault>
+    fn emit_doctype_token(&mut self) -> Result<(), ParseFault>
         requires sound { Sink.is_sound (Sink.view self.old.sink) }
         ensures { Tells Sink.TokenSink nothing_owed (DoctypeToken self.old.doctype) (record self.old { doctype = Doctypes.no_doctype; state = state.Data }) self.new result }
     {
         let doctype = mem::replace(&mut self.doctype, no_doctype());
         self.state = State::Data;
-        self.tell(Token::DoctypeToken(doctype))
+        self.emit(Token::DoctypeToken(doctype))
     }
 
     /// Hands out the doctype. What follows is data.
@@ -102,8 +102,8 @@ impl<Sink: TokenSink> Tokenizer<Sink> {
         requires sound { Sink.is_sound (Sink.view self.old.sink) }
         ensures { Tells Sink.TokenSink (owed_for (grave_if self.old.doctype.force_quirks)) (DoctypeToken self.old.doctype) (record self.old { doctype = Doctypes.no_doctype; state = state.Data }) self.new result }
     {
-        self.tell_if(self.doctype.force_quirks, fault)?;
-        self.tell_doctype()
+        self.report_if(self.doctype.force_quirks, fault)?;
+        self.emit_doctype_token()
     }
 
     pub(crate) fn doctype_state(
@@ -114,12 +114,12 @@ impl<Sink: TokenSink> Tokenizer<Sink> {
         requires sound { Sink.is_sound (Sink.view self.old.sink) }
         ensures { Keeps Sink.TokenSink self.old self.new c result }
     {
-        self.tell_if(!ends_word(c), ErrorCode::MissingWhitespaceBeforeDoctypeName)?;
-        self.take_behind_doctype(c)
+        self.report_if(!ends_word(c), ErrorCode::MissingWhitespaceBeforeDoctypeName)?;
+        self.consume_after_doctype(c)
     }
 
     /// The same, where an error of the character was told.
-    fn take_behind_doctype(&mut self, c: char) -> Result<ProcessResult<Sink::Handle>, ParseFault>
+    fn consume_after_doctype(&mut self, c: char) -> Result<ProcessResult<Sink::Handle>, ParseFault>
         requires at { IsAt self.old state.Doctype }
         requires sound { Sink.is_sound (Sink.view self.old.sink) }
         ensures { Keeps Sink.TokenSink self.old self.new c result }
@@ -167,12 +167,15 @@ impl<Sink: TokenSink> Tokenizer<Sink> {
         requires sound { Sink.is_sound (Sink.view self.old.sink) }
         ensures { Keeps Sink.TokenSink self.old self.new c result }
     {
-        self.tell_null(c)?;
-        self.take_in_doctype_name(c)
+        self.report_null(c)?;
+        self.consume_in_doctype_name(c)
     }
 
     /// The same, where an error of the character was told.
-    fn take_in_doctype_name(&mut self, c: char) -> Result<ProcessResult<Sink::Handle>, ParseFault>
+    fn consume_in_doctype_name(
+        &mut self,
+        c: char,
+    ) -> Result<ProcessResult<Sink::Handle>, ParseFault>
         requires at { IsAt self.old state.DoctypeName }
         requires sound { Sink.is_sound (Sink.view self.old.sink) }
         ensures { Keeps Sink.TokenSink self.old self.new c result }
@@ -201,12 +204,12 @@ impl<Sink: TokenSink> Tokenizer<Sink> {
         requires sound { Sink.is_sound (Sink.view self.old.sink) }
         ensures { Keeps Sink.TokenSink self.old self.new c result }
     {
-        self.tell_fault(keyword_fault(kind, c))?;
-        self.take_behind_keyword(kind, c)
+        self.report_fault(keyword_fault(kind, c))?;
+        self.consume_after_keyword(kind, c)
     }
 
     /// The same, where an error of the character was told.
-    fn take_behind_keyword(
+    fn consume_after_keyword(
         &mut self,
         kind: DoctypeIdKind,
         c: char,
@@ -267,12 +270,12 @@ impl<Sink: TokenSink> Tokenizer<Sink> {
         requires sound { Sink.is_sound (Sink.view self.old.sink) }
         ensures { Keeps Sink.TokenSink self.old self.new c result }
     {
-        self.tell_null(c)?;
-        self.take_in_double_quoted(kind, c)
+        self.report_null(c)?;
+        self.consume_in_double_quoted(kind, c)
     }
 
     /// The same, where an error of the character was told.
-    fn take_in_double_quoted(
+    fn consume_in_double_quoted(
         &mut self,
         kind: DoctypeIdKind,
         c: char,
@@ -305,12 +308,12 @@ impl<Sink: TokenSink> Tokenizer<Sink> {
         requires sound { Sink.is_sound (Sink.view self.old.sink) }
         ensures { Keeps Sink.TokenSink self.old self.new c result }
     {
-        self.tell_null(c)?;
-        self.take_in_single_quoted(kind, c)
+        self.report_null(c)?;
+        self.consume_in_single_quoted(kind, c)
     }
 
     /// The same, where an error of the character was told.
-    fn take_in_single_quoted(
+    fn consume_in_single_quoted(
         &mut self,
         kind: DoctypeIdKind,
         c: char,
@@ -343,12 +346,12 @@ impl<Sink: TokenSink> Tokenizer<Sink> {
         requires sound { Sink.is_sound (Sink.view self.old.sink) }
         ensures { Keeps Sink.TokenSink self.old self.new c result }
     {
-        self.tell_fault(identifier_fault(kind, c))?;
-        self.take_behind_identifier(kind, c)
+        self.report_fault(identifier_fault(kind, c))?;
+        self.consume_after_identifier(kind, c)
     }
 
     /// The same, where an error of the character was told.
-    fn take_behind_identifier(
+    fn consume_after_identifier(
         &mut self,
         kind: DoctypeIdKind,
         c: char,
@@ -420,12 +423,15 @@ impl<Sink: TokenSink> Tokenizer<Sink> {
         requires sound { Sink.is_sound (Sink.view self.old.sink) }
         ensures { Keeps Sink.TokenSink self.old self.new c result }
     {
-        self.tell_null(c)?;
-        self.take_in_bogus_doctype(c)
+        self.report_null(c)?;
+        self.consume_in_bogus_doctype(c)
     }
 
     /// The same, where an error of the character was told.
-    fn take_in_bogus_doctype(&mut self, c: char) -> Result<ProcessResult<Sink::Handle>, ParseFault>
+    fn consume_in_bogus_doctype(
+        &mut self,
+        c: char,
+    ) -> Result<ProcessResult<Sink::Handle>, ParseFault>
         requires at { IsAt self.old state.BogusDoctype }
         requires sound { Sink.is_sound (Sink.view self.old.sink) }
         ensures { Keeps Sink.TokenSink self.old self.new c result }

@@ -38,11 +38,11 @@ fn is_escaped(state: State) -> bool
 
 impl<Sink: TokenSink> Tokenizer<Sink> {
     /// Tells of the end of the input, if it stands in a script's escaped text.
-    fn tell_escaped_end(&mut self) -> Result<(), ParseFault>
+    fn emit_escaped_end(&mut self) -> Result<(), ParseFault>
         requires sound { Sink.is_sound (Sink.view self.old.sink) }
         ensures { Errs Sink.TokenSink (owed_for (grave_if (is_escaped self.old.state))) self.old self.new result }
     {
-        self.tell_if(
+        self.report_if(
             is_escaped(self.state),
             ErrorCode::EofInScriptHtmlCommentLikeText,
         )
@@ -56,7 +56,7 @@ impl<Sink: TokenSink> Tokenizer<Sink> {
         ensures { Closes Sink.TokenSink self.old self.new result }
     {
         let _letters = self.word.as_str();
-        self.tell_escaped_end()
+        self.emit_escaped_end()
     }
 
     /// The input ends behind `<`, which was text.
@@ -65,7 +65,7 @@ impl<Sink: TokenSink> Tokenizer<Sink> {
         requires sound { Sink.is_sound (Sink.view self.old.sink) }
         ensures { Closes Sink.TokenSink self.old self.new result }
     {
-        self.tell_unopened(ErrorCode::EofBeforeTagName)
+        self.emit_unopened(ErrorCode::EofBeforeTagName)
     }
 
     /// The input ends behind `</`, which was text.
@@ -74,7 +74,7 @@ impl<Sink: TokenSink> Tokenizer<Sink> {
         requires sound { Sink.is_sound (Sink.view self.old.sink) }
         ensures { Closes Sink.TokenSink self.old self.new result }
     {
-        self.tell_unopened_end(ErrorCode::EofBeforeTagName)
+        self.emit_unopened_end(ErrorCode::EofBeforeTagName)
     }
 
     /// The input ends in raw text behind `<`, which is held where it may begin the fitting end tag.
@@ -84,10 +84,10 @@ impl<Sink: TokenSink> Tokenizer<Sink> {
         ensures { Closes Sink.TokenSink self.old self.new result }
     {
         if !ends_at_tag(kind) {
-            return self.tell_escaped_end();
+            return self.emit_escaped_end();
         }
-        self.tell_char('<')?;
-        self.tell_escaped_end()
+        self.emit_char('<')?;
+        self.emit_escaped_end()
     }
 
     /// The input ends in raw text behind `</`, which was text.
@@ -96,8 +96,8 @@ impl<Sink: TokenSink> Tokenizer<Sink> {
         requires sound { Sink.is_sound (Sink.view self.old.sink) }
         ensures { Closes Sink.TokenSink self.old self.new result }
     {
-        self.tell_two('<', '/')?;
-        self.tell_escaped_end()
+        self.emit_two('<', '/')?;
+        self.emit_escaped_end()
     }
 
     /// The input ends in raw text behind `</` and letters, which were text.
@@ -106,8 +106,8 @@ impl<Sink: TokenSink> Tokenizer<Sink> {
         requires sound { Sink.is_sound (Sink.view self.old.sink) }
         ensures { Closes Sink.TokenSink self.old self.new result }
     {
-        self.tell_end_tag()?;
-        self.tell_escaped_end()
+        self.emit_end_tag()?;
+        self.emit_escaped_end()
     }
 
     /// The input ends in a CDATA section.
@@ -116,7 +116,7 @@ impl<Sink: TokenSink> Tokenizer<Sink> {
         requires sound { Sink.is_sound (Sink.view self.old.sink) }
         ensures { Closes Sink.TokenSink self.old self.new result }
     {
-        self.tell_error(ErrorCode::EofInCdata)
+        self.report_error(ErrorCode::EofInCdata)
     }
 
     /// The input ends in a CDATA section behind `]`, which was text.
@@ -125,8 +125,8 @@ impl<Sink: TokenSink> Tokenizer<Sink> {
         requires sound { Sink.is_sound (Sink.view self.old.sink) }
         ensures { Closes Sink.TokenSink self.old self.new result }
     {
-        self.tell_char(']')?;
-        self.tell_error(ErrorCode::EofInCdata)
+        self.emit_char(']')?;
+        self.report_error(ErrorCode::EofInCdata)
     }
 
     /// The input ends in a CDATA section behind `]]`, which was text.
@@ -135,8 +135,8 @@ impl<Sink: TokenSink> Tokenizer<Sink> {
         requires sound { Sink.is_sound (Sink.view self.old.sink) }
         ensures { Closes Sink.TokenSink self.old self.new result }
     {
-        self.tell_two(']', ']')?;
-        self.tell_error(ErrorCode::EofInCdata)
+        self.emit_two(']', ']')?;
+        self.report_error(ErrorCode::EofInCdata)
     }
 
     /// The input ends in a tag, which is not told.
@@ -146,7 +146,7 @@ impl<Sink: TokenSink> Tokenizer<Sink> {
         requires sound { Sink.is_sound (Sink.view self.old.sink) }
         ensures { Closes Sink.TokenSink self.old self.new result }
     {
-        self.tell_error(ErrorCode::EofInTag)
+        self.report_error(ErrorCode::EofInTag)
     }
 
     /// The input ends where no reference is held.
@@ -192,7 +192,7 @@ impl<Sink: TokenSink> Tokenizer<Sink> {
         requires sound { Sink.is_sound (Sink.view self.old.sink) }
         ensures { Closes Sink.TokenSink (record self.old { char_ref = Some (Held held.now) }) self.new result }
     {
-        self.tell_reference(held)
+        self.emit_reference(held)
     }
 
     /// The input ends behind a reference in text with references that only its end tag ends.
@@ -202,7 +202,7 @@ impl<Sink: TokenSink> Tokenizer<Sink> {
         requires sound { Sink.is_sound (Sink.view self.old.sink) }
         ensures { Closes Sink.TokenSink (record self.old { char_ref = Some (Held held.now) }) self.new result }
     {
-        self.tell_reference(held)
+        self.emit_reference(held)
     }
 
     /// The input ends behind a reference in an attribute's value, whose tag is not told.
@@ -216,7 +216,7 @@ impl<Sink: TokenSink> Tokenizer<Sink> {
         requires sound { Sink.is_sound (Sink.view self.old.sink) }
         ensures { Closes Sink.TokenSink (record self.old { char_ref = Some (Held held.now) }) self.new result }
     {
-        self.tell_error(ErrorCode::EofInTag)
+        self.report_error(ErrorCode::EofInTag)
     }
 
     /// The input ends where a reference was held.
@@ -247,7 +247,7 @@ impl<Sink: TokenSink> Tokenizer<Sink> {
     }
 
     /// Hands out what is held where the input ends.
-    pub(crate) fn tell_held(&mut self) -> Result<(), ParseFault>
+    pub(crate) fn emit_held(&mut self) -> Result<(), ParseFault>
         requires fits { fits_in (rows_of self.old) self.old.char_ref self.old.state ≡ true }
         requires sound { Sink.is_sound (Sink.view self.old.sink) }
         ensures { Closes Sink.TokenSink self.old self.new result }

@@ -19,12 +19,12 @@ use markup::{ParseFault, Text, TokenizerResult};
 impl<Sink: TokenSink> Tokenizer<Sink> {
     /// Takes a run of text, and goes on.
     #[inline(always)]
-    fn take_text(&mut self, run: Text) -> Result<ProcessResult<Sink::Handle>, ParseFault>
+    fn consume_text(&mut self, run: Text) -> Result<ProcessResult<Sink::Handle>, ParseFault>
         requires run { IsRunAt self.old run }
         requires sound { Sink.is_sound (Sink.view self.old.sink) }
         ensures { KeepsText Sink.TokenSink self.old self.new run result }
     {
-        self.take_run(run)?;
+        self.consume_run(run)?;
         Ok(ProcessResult::Continue)
     }
 
@@ -63,7 +63,7 @@ impl<Sink: TokenSink> Tokenizer<Sink> {
         let made = Text::from_str(self.stream.alloc, run)?;
         self.stream.ignore_lf = false;
         input.skip(width);
-        self.take_text(made)
+        self.consume_text(made)
     }
 
     /// Takes what comes next of the input: a run of text where runs are read, or else a character.
@@ -105,7 +105,7 @@ impl<Sink: TokenSink> Tokenizer<Sink> {
         }
         let lines = Text::from_str(self.stream.alloc, &text[..width])?;
         input.skip(width);
-        self.tell_lines(lines, breaks)?;
+        self.emit_lines(lines, breaks)?;
         Ok(ProcessResult::Continue)
     }
 
@@ -129,7 +129,7 @@ impl<Sink: TokenSink> Tokenizer<Sink> {
         let width = text.len() - rest.len();
         self.stream.ignore_lf = false;
         input.skip(width);
-        self.tell_whole_name(&held)?;
+        self.emit_whole_name(&held)?;
         Ok(ProcessResult::Continue)
     }
 
@@ -154,7 +154,7 @@ impl<Sink: TokenSink> Tokenizer<Sink> {
         let width = text.len() - rest.len();
         self.stream.ignore_lf = false;
         input.skip(width);
-        self.take_whole_name(kind, &held)?;
+        self.consume_whole_name(kind, &held)?;
         Ok(ProcessResult::Continue)
     }
 
@@ -173,7 +173,7 @@ impl<Sink: TokenSink> Tokenizer<Sink> {
             return self.move_by_reference(input);
         };
         self.stream.ignore_lf = false;
-        let rest = self.take_opening(opening)?;
+        let rest = self.consume_opening(opening)?;
         let width = text.len() - rest.len();
         input.skip(width);
         Ok(ProcessResult::Continue)
@@ -212,7 +212,7 @@ impl<Sink: TokenSink> Tokenizer<Sink> {
         };
         self.stream.ignore_lf = false;
         self.begin_attribute(name)?;
-        let rest = self.take_equals(after)?;
+        let rest = self.consume_equals(after)?;
         let width = text.len() - rest.len();
         input.skip(width);
         Ok(ProcessResult::Continue)

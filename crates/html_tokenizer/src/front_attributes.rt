@@ -121,7 +121,7 @@ impl<Sink: TokenSink> Tokenizer<Sink> {
 
     /// Takes a value, behind its first quote, from the front of a text, as far as its characters stand for themselves: what is
     /// left of the text.
-    fn take_quoted<'a>(
+    fn consume_quoted<'a>(
         &mut self,
         kind: AttrValueKind,
         quote: u8,
@@ -149,7 +149,7 @@ impl<Sink: TokenSink> Tokenizer<Sink> {
 
     /// Takes a value without quotes from the front of a text, if it is one without an error and without a reference: what is
     /// left of the text.
-    fn take_plain<'a>(&mut self, text: &'a str) -> Result<&'a str, ParseFault>
+    fn consume_plain<'a>(&mut self, text: &'a str) -> Result<&'a str, ParseFault>
         requires at { IsAt self.old state.BeforeAttributeValue }
         requires sound { Sink.is_sound (Sink.view self.old.sink) }
         ensures ok { IfOk result (λ rest. TakesFront Sink.TokenSink self.old self.new text.now rest.now) }
@@ -167,7 +167,7 @@ impl<Sink: TokenSink> Tokenizer<Sink> {
     }
 
     /// Takes a value behind `=` from the front of a text, as far as it can be taken at once: what is left of the text.
-    fn take_value<'a>(&mut self, text: &'a str) -> Result<&'a str, ParseFault>
+    fn consume_value<'a>(&mut self, text: &'a str) -> Result<&'a str, ParseFault>
         requires at { IsAt self.old state.BeforeAttributeValue }
         requires sound { Sink.is_sound (Sink.view self.old.sink) }
         ensures ok { IfOk result (λ rest. TakesFront Sink.TokenSink self.old self.new text.now rest.now) }
@@ -176,16 +176,16 @@ impl<Sink: TokenSink> Tokenizer<Sink> {
         ensures sink { self.new.sink ≡ self.old.sink }
     {
         if let Some(inner) = behind(text, b'"') {
-            return self.take_quoted(AttrValueKind::DoubleQuoted, b'"', inner);
+            return self.consume_quoted(AttrValueKind::DoubleQuoted, b'"', inner);
         }
         if let Some(inner) = behind(text, b'\'') {
-            return self.take_quoted(AttrValueKind::SingleQuoted, b'\'', inner);
+            return self.consume_quoted(AttrValueKind::SingleQuoted, b'\'', inner);
         }
-        self.take_plain(text)
+        self.consume_plain(text)
     }
 
     /// Takes what follows an attribute's name, if it is `=`, and the value behind it: what is left of the text.
-    pub(crate) fn take_equals<'a>(&mut self, text: &'a str) -> Result<&'a str, ParseFault>
+    pub(crate) fn consume_equals<'a>(&mut self, text: &'a str) -> Result<&'a str, ParseFault>
         requires at { IsAt self.old state.AttributeName }
         requires sound { Sink.is_sound (Sink.view self.old.sink) }
         ensures ok { IfOk result (λ rest. TakesFront Sink.TokenSink self.old self.new text.now rest.now) }
@@ -197,7 +197,7 @@ impl<Sink: TokenSink> Tokenizer<Sink> {
             return Ok(text);
         };
         self.state = State::BeforeAttributeValue;
-        self.take_value(inner)
+        self.consume_value(inner)
     }
 
     /// The name of an attribute at the front of a text, where one may stand, and what follows it.
@@ -226,7 +226,7 @@ impl<Sink: TokenSink> Tokenizer<Sink> {
     }
 
     /// Takes the attributes at the front of a text, as far as they can be taken at once: what is left of the text.
-    pub(crate) fn take_attributes<'a>(&mut self, text: &'a str) -> Result<&'a str, ParseFault>
+    pub(crate) fn consume_attributes<'a>(&mut self, text: &'a str) -> Result<&'a str, ParseFault>
         requires at { IsInTag self.old }
         requires sound { Sink.is_sound (Sink.view self.old.sink) }
         ensures ok { IfOk result (λ rest. TakesFront Sink.TokenSink self.old self.new text.now rest.now) }
@@ -236,7 +236,7 @@ impl<Sink: TokenSink> Tokenizer<Sink> {
         let mut rest = text;
         while let Some((name, after)) = self.next_name(rest) {
             self.begin_attribute(name)?;
-            rest = self.take_equals(after)?;
+            rest = self.consume_equals(after)?;
         }
         Ok(rest)
     }

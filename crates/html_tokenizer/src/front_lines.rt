@@ -29,7 +29,7 @@ pub(crate) fn behind_lines(text: &str, breaks: u64) -> (&str, u64)
 impl<Sink: TokenSink> Tokenizer<Sink> {
     /// Tells lines of data as one text, behind which so many line breaks were read.
     #[inline(always)]
-    pub(crate) fn tell_lines(&mut self, lines: Text, breaks: u64) -> Result<(), ParseFault>
+    pub(crate) fn emit_lines(&mut self, lines: Text, breaks: u64) -> Result<(), ParseFault>
         requires at { IsAt self.old state.Data }
         requires filled { 0 < length lines }
         requires lines { AreLines lines }
@@ -37,7 +37,7 @@ impl<Sink: TokenSink> Tokenizer<Sink> {
         requires sound { Sink.is_sound (Sink.view self.old.sink) }
         ensures { KeepsLines Sink.TokenSink self.old self.new lines result }
     {
-        self.tell(Token::CharacterTokens(lines))?;
+        self.emit(Token::CharacterTokens(lines))?;
         self.stream.breaks = breaks;
         Ok(())
     }

@@ -58,17 +58,17 @@ impl<Sink: TokenSink> Tokenizer<Sink> {
     }
 
     /// Hands out what a whole name stands for in data.
-    pub(crate) fn tell_whole_name(&mut self, held: &HeldReference) -> Result<(), ParseFault>
+    pub(crate) fn emit_whole_name(&mut self, held: &HeldReference) -> Result<(), ParseFault>
         requires at { IsAt self.old state.Data }
         requires whole { IsWholeName (rows_of self.old) held.now }
         requires sound { Sink.is_sound (Sink.view self.old.sink) }
         ensures { KeepsRun Sink.TokenSink self.old self.new (38 ∷ held.now) result }
     {
-        self.tell_reference(held)
+        self.emit_reference(held)
     }
 
     /// Puts what a whole name stands for behind an attribute's value.
-    pub(crate) fn take_whole_name(
+    pub(crate) fn consume_whole_name(
         &mut self,
         kind: AttrValueKind,
         held: &HeldReference,

@@ -112,7 +112,10 @@ impl<Sink: TokenSink> Tokenizer<Sink> {
     }
 
     /// Takes the beginning of a tag and the attributes behind it: what is left of the text.
-    pub(crate) fn take_opening<'a>(&mut self, opening: Opening<'a>) -> Result<&'a str, ParseFault>
+    pub(crate) fn consume_opening<'a>(
+        &mut self,
+        opening: Opening<'a>,
+    ) -> Result<&'a str, ParseFault>
         requires at { IsAt self.old state.Data }
         requires sound { Sink.is_sound (Sink.view self.old.sink) }
         requires text { IsUtf8 opening.name.now }
@@ -123,6 +126,6 @@ impl<Sink: TokenSink> Tokenizer<Sink> {
         ensures sink { self.new.sink ≡ self.old.sink }
     {
         self.open_tag(opening.kind, opening.name)?;
-        self.take_attributes(opening.rest)
+        self.consume_attributes(opening.rest)
     }
 }

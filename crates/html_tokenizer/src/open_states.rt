@@ -17,21 +17,21 @@ use markup::{ParseFault, Text};
 
 impl<Sink: TokenSink> Tokenizer<Sink> {
     /// Hands out `<` as text, since it opened nothing, which is a parse error.
-    pub(crate) fn tell_unopened(&mut self, code: ErrorCode) -> Result<(), ParseFault>
+    pub(crate) fn emit_unopened(&mut self, code: ErrorCode) -> Result<(), ParseFault>
         requires sound { Sink.is_sound (Sink.view self.old.sink) }
         ensures { Tells Sink.TokenSink (owed_for (Some Slight)) (CharacterTokens (60 ∷ [])) self.old self.new result }
     {
-        self.tell_error(code)?;
-        self.tell_char('<')
+        self.report_error(code)?;
+        self.emit_char('<')
     }
 
     /// Hands out `</` as text, since it opened nothing, which is a parse error.
-    pub(crate) fn tell_unopened_end(&mut self, code: ErrorCode) -> Result<(), ParseFault>
+    pub(crate) fn emit_unopened_end(&mut self, code: ErrorCode) -> Result<(), ParseFault>
         requires sound { Sink.is_sound (Sink.view self.old.sink) }
         ensures { Tells Sink.TokenSink (owed_for (Some Slight)) (CharacterTokens (60 ∷ 47 ∷ [])) self.old self.new result }
     {
-        self.tell_error(code)?;
-        self.tell_two('<', '/')
+        self.report_error(code)?;
+        self.emit_two('<', '/')
     }
 
     /// Section 13.2.5.6.
@@ -63,7 +63,7 @@ impl<Sink: TokenSink> Tokenizer<Sink> {
             self.state = State::BogusComment;
             return self.bogus_comment_state(c);
         }
-        self.tell_unopened(ErrorCode::InvalidFirstCharacterOfTagName)?;
+        self.emit_unopened(ErrorCode::InvalidFirstCharacterOfTagName)?;
         self.state = State::Data;
         self.data_state(c)
     }
@@ -84,7 +84,7 @@ impl<Sink: TokenSink> Tokenizer<Sink> {
             return self.tag_name_state(c);
         }
         if c == '>' {
-            self.tell_error(ErrorCode::MissingEndTagName)?;
+            self.report_error(ErrorCode::MissingEndTagName)?;
             self.state = State::Data;
             return Ok(ProcessResult::Continue);
         }

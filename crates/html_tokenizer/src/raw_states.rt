@@ -55,7 +55,7 @@ impl<Sink: TokenSink> Tokenizer<Sink> {
         if c == '-' {
             return self.raw_dash(kind);
         }
-        self.take_shown(c)
+        self.consume_shown(c)
     }
 
     /// At `<`, which is held where it may begin the fitting end tag.
@@ -71,7 +71,7 @@ impl<Sink: TokenSink> Tokenizer<Sink> {
         if ends_at_tag(kind) {
             Ok(ProcessResult::Continue)
         } else {
-            self.take_char('<')
+            self.consume_char('<')
         }
     }
 
@@ -85,7 +85,7 @@ impl<Sink: TokenSink> Tokenizer<Sink> {
             self.char_ref = Some(Ampersand::Held(HeldReference::new(self.stream.alloc)));
             Ok(ProcessResult::Continue)
         } else {
-            self.take_char('&')
+            self.consume_char('&')
         }
     }
 
@@ -98,9 +98,9 @@ impl<Sink: TokenSink> Tokenizer<Sink> {
         match kind {
             RawKind::ScriptDataEscaped(escape) => {
                 self.state = State::ScriptDataEscapedDash(escape);
-                self.take_char('-')
+                self.consume_char('-')
             }
-            RawKind::Rcdata | RawKind::Rawtext | RawKind::ScriptData => self.take_char('-'),
+            RawKind::Rcdata | RawKind::Rawtext | RawKind::ScriptData => self.consume_char('-'),
         }
     }
 
@@ -141,7 +141,7 @@ impl<Sink: TokenSink> Tokenizer<Sink> {
             return Ok(ProcessResult::Continue);
         }
         self.state = State::RawData(kind);
-        self.tell_char('<')?;
+        self.emit_char('<')?;
         self.raw_data_state(kind, c)
     }
 
@@ -153,7 +153,7 @@ impl<Sink: TokenSink> Tokenizer<Sink> {
     {
         if c == '!' {
             self.state = State::ScriptDataEscapeStart(ScriptEscapeKind::Escaped);
-            return self.take_two('<', '!');
+            return self.consume_two('<', '!');
         }
         self.held_less_than_sign(RawKind::ScriptData, c)
     }
@@ -167,7 +167,7 @@ impl<Sink: TokenSink> Tokenizer<Sink> {
         if c.is_ascii_alphabetic() {
             self.word = Letters::first(self.stream.alloc, c)?;
             self.state = State::ScriptDataEscapeStart(ScriptEscapeKind::DoubleEscaped);
-            return self.take_two('<', c);
+            return self.consume_two('<', c);
         }
         self.held_less_than_sign(RawKind::ScriptDataEscaped(ScriptEscapeKind::Escaped), c)
     }
@@ -184,7 +184,7 @@ impl<Sink: TokenSink> Tokenizer<Sink> {
         if c == '/' {
             self.word = Letters::new(self.stream.alloc);
             self.state = State::ScriptDataDoubleEscapeEnd;
-            return self.take_char('/');
+            return self.consume_char('/');
         }
         let kind = RawKind::ScriptDataEscaped(ScriptEscapeKind::DoubleEscaped);
         self.state = State::RawData(kind);
@@ -210,7 +210,7 @@ impl<Sink: TokenSink> Tokenizer<Sink> {
             return self.double_escaped_end_tag_open(kind, c);
         }
         self.state = State::RawData(kind);
-        self.tell_two('<', '/')?;
+        self.emit_two('<', '/')?;
         self.raw_data_state(kind, c)
     }
 
@@ -235,7 +235,7 @@ impl<Sink: TokenSink> Tokenizer<Sink> {
             return self.raw_end_tag(kind, c);
         }
         self.state = State::RawData(kind);
-        self.tell_end_tag()?;
+        self.emit_end_tag()?;
         self.raw_data_state(kind, c)
     }
 
@@ -276,7 +276,7 @@ impl<Sink: TokenSink> Tokenizer<Sink> {
     {
         self.word = Letters::new(self.stream.alloc);
         self.state = State::ScriptDataDoubleEscapeEnd;
-        self.tell_two('<', '/')?;
+        self.emit_two('<', '/')?;
         self.script_data_double_escape_end_state(c)
     }
 
@@ -293,12 +293,12 @@ impl<Sink: TokenSink> Tokenizer<Sink> {
     {
         self.word = self.raw_end.copied(self.stream.alloc)?;
         self.state = State::ScriptDataDoubleEscapeEnd;
-        self.tell_end_tag()?;
+        self.emit_end_tag()?;
         self.script_data_double_escape_end_state(c)
     }
 
     /// Hands out the end tag that is held, which was text.
-    pub(crate) fn tell_end_tag(&mut self) -> Result<(), ParseFault>
+    pub(crate) fn emit_end_tag(&mut self) -> Result<(), ParseFault>
         requires sound { Sink.is_sound (Sink.view self.old.sink) }
         ensures is { Tells Sink.TokenSink nothing_owed (CharacterTokens (60 ∷ 47 ∷ self.old.raw_end.letters)) self.old self.new result }
         ensures letters { list_all is_ascii_alphabetic self.old.raw_end.letters ≡ true }
@@ -308,6 +308,6 @@ impl<Sink: TokenSink> Tokenizer<Sink> {
         text.push('<')?;
         text.push('/')?;
         text.push_str(letters)?;
-        self.tell(Token::CharacterTokens(text))
+        self.emit(Token::CharacterTokens(text))
     }
 }

@@ -26,27 +26,27 @@ use markup::{ParseFault, Text};
 
 impl<Sink: TokenSink> Tokenizer<Sink> {
     /// Tells the errors of a reference.
-    fn tell_reference_faults(&mut self, faults: ReferenceFaults) -> Result<(), ParseFault>
+    fn report_reference_faults(&mut self, faults: ReferenceFaults) -> Result<(), ParseFault>
         requires sound { Sink.is_sound (Sink.view self.old.sink) }
         ensures { Errs Sink.TokenSink (owed_for (grave_if (has_fault faults))) self.old self.new result }
     {
-        self.tell_if(
+        self.report_if(
             faults.lacks_semicolon,
             ErrorCode::MissingSemicolonAfterCharacterReference,
         )?;
-        self.tell_fault(faults.fault)
+        self.report_fault(faults.fault)
     }
 
     /// Hands out what a reference in text stands for.
-    pub(crate) fn tell_reference(&mut self, held: &HeldReference) -> Result<(), ParseFault>
+    pub(crate) fn emit_reference(&mut self, held: &HeldReference) -> Result<(), ParseFault>
         requires sound { Sink.is_sound (Sink.view self.old.sink) }
         ensures { Tells Sink.TokenSink (owed_for (fault_of_reference (rows_of self.old) held.now)) (CharacterTokens (resolved false (rows_of self.old) held.now false)) self.old self.new result }
     {
         let decision = decided(&self.stream.table, false, held, false);
         let mut text = Text::empty(self.stream.alloc);
         push_resolved(&mut text, decision.found, held)?;
-        self.tell_reference_faults(decision.faults)?;
-        self.tell(Token::CharacterTokens(text))
+        self.report_reference_faults(decision.faults)?;
+        self.emit(Token::CharacterTokens(text))
     }
 
     /// A reference ends in data.
@@ -61,7 +61,7 @@ impl<Sink: TokenSink> Tokenizer<Sink> {
         ensures { Keeps Sink.TokenSink (record self.old { char_ref = Some (Held held.now) }) self.new c result }
     {
         let unknown = is_unknown(&self.stream.table, held, c);
-        self.tell_reference(held)?;
+        self.emit_reference(held)?;
         if unknown {
             return self.ambiguous_ampersand_state(c);
         }
@@ -80,7 +80,7 @@ impl<Sink: TokenSink> Tokenizer<Sink> {
         ensures { Keeps Sink.TokenSink (record self.old { char_ref = Some (Held held.now) }) self.new c result }
     {
         let unknown = is_unknown(&self.stream.table, held, c);
-        self.tell_reference(held)?;
+        self.emit_reference(held)?;
         if unknown {
             return self.ambiguous_ampersand_state(c);
         }
@@ -101,7 +101,7 @@ impl<Sink: TokenSink> Tokenizer<Sink> {
     {
         let unknown = is_unknown(&self.stream.table, held, c);
         let decision = decided(&self.stream.table, true, held, goes_on_at(c));
-        self.tell_reference_faults(decision.faults)?;
+        self.report_reference_faults(decision.faults)?;
         push_resolved(&mut self.attribute_value, decision.found, held)?;
         if unknown {
             return self.ambiguous_ampersand_state(c);
@@ -110,31 +110,37 @@ impl<Sink: TokenSink> Tokenizer<Sink> {
     }
 
     /// A letter or digit of an unknown name in data.
-    fn take_unknown_in_data(&mut self, c: char) -> Result<ProcessResult<Sink::Handle>, ParseFault>
+    fn consume_unknown_in_data(
+        &mut self,
+        c: char,
+    ) -> Result<ProcessResult<Sink::Handle>, ParseFault>
         requires at { IsAt self.old state.Data }
         requires named { is_ascii_alphanumeric c ≡ true }
         requires sound { Sink.is_sound (Sink.view self.old.sink) }
         ensures { Keeps Sink.TokenSink (record self.old { char_ref = Some Unknown }) self.new c result }
     {
-        self.tell_char(c)?;
+        self.emit_char(c)?;
         self.char_ref = Some(Ampersand::Unknown);
         Ok(ProcessResult::Continue)
     }
 
     /// The same in text with references that only its end tag ends.
-    fn take_unknown_in_rcdata(&mut self, c: char) -> Result<ProcessResult<Sink::Handle>, ParseFault>
+    fn consume_unknown_in_rcdata(
+        &mut self,
+        c: char,
+    ) -> Result<ProcessResult<Sink::Handle>, ParseFault>
         requires at { IsAt self.old (state.RawData raw.Rcdata) }
         requires named { is_ascii_alphanumeric c ≡ true }
         requires sound { Sink.is_sound (Sink.view self.old.sink) }
         ensures { Keeps Sink.TokenSink (record self.old { char_ref = Some Unknown }) self.new c result }
     {
-        self.tell_shown(c)?;
+        self.emit_shown(c)?;
         self.char_ref = Some(Ampersand::Unknown);
         Ok(ProcessResult::Continue)
     }
 
     /// The same in an attribute's value.
-    fn take_unknown_in_value(
+    fn consume_unknown_in_value(
         &mut self,
         kind: AttrValueKind,
         c: char,
@@ -150,7 +156,7 @@ impl<Sink: TokenSink> Tokenizer<Sink> {
     }
 
     /// A letter or digit of an unknown name: text, or a part of the value.
-    fn take_unknown(&mut self, c: char) -> Result<ProcessResult<Sink::Handle>, ParseFault>
+    fn consume_unknown(&mut self, c: char) -> Result<ProcessResult<Sink::Handle>, ParseFault>
         requires fresh { self.old.char_ref ≡ None }
         requires fits { may_hold self.old.state ≡ true }
         requires named { is_ascii_alphanumeric c ≡ true }
@@ -158,9 +164,9 @@ impl<Sink: TokenSink> Tokenizer<Sink> {
         ensures { Keeps Sink.TokenSink (record self.old { char_ref = Some Unknown }) self.new c result }
     {
         match self.state {
-            State::Data => self.take_unknown_in_data(c),
-            State::RawData(RawKind::Rcdata) => self.take_unknown_in_rcdata(c),
-            State::AttributeValue(kind) => self.take_unknown_in_value(kind, c),
+            State::Data => self.consume_unknown_in_data(c),
+            State::RawData(RawKind::Rcdata) => self.consume_unknown_in_rcdata(c),
+            State::AttributeValue(kind) => self.consume_unknown_in_value(kind, c),
             // Never met: behind `&` the machine is in one of these three.
             _ => Ok(ProcessResult::Continue),
         }
@@ -177,9 +183,9 @@ impl<Sink: TokenSink> Tokenizer<Sink> {
         ensures { Keeps Sink.TokenSink (record self.old { char_ref = Some Unknown }) self.new c result }
     {
         if c.is_ascii_alphanumeric() {
-            return self.take_unknown(c);
+            return self.consume_unknown(c);
         }
-        self.tell_if(c == ';', ErrorCode::UnknownNamedCharacterReference)?;
+        self.report_if(c == ';', ErrorCode::UnknownNamedCharacterReference)?;
         self.step(c)
     }
 

@@ -40,7 +40,7 @@ impl<Sink: TokenSink> Tokenizer<Sink> {
     {
         if c == '-' {
             self.state = State::ScriptDataEscapeStartDash;
-            return self.take_char('-');
+            return self.consume_char('-');
         }
         self.state = State::RawData(RawKind::ScriptData);
         self.raw_data_state(RawKind::ScriptData, c)
@@ -54,7 +54,7 @@ impl<Sink: TokenSink> Tokenizer<Sink> {
     {
         if c.is_ascii_alphabetic() {
             self.word.push(c)?;
-            return self.take_char(c);
+            return self.consume_char(c);
         }
         let kind = self.kind_behind_word(
             c,
@@ -76,7 +76,7 @@ impl<Sink: TokenSink> Tokenizer<Sink> {
     {
         if c == '-' {
             self.state = State::ScriptDataEscapedDashDash(ScriptEscapeKind::Escaped);
-            return self.take_char('-');
+            return self.consume_char('-');
         }
         self.state = State::RawData(RawKind::ScriptData);
         self.raw_data_state(RawKind::ScriptData, c)
@@ -94,7 +94,7 @@ impl<Sink: TokenSink> Tokenizer<Sink> {
     {
         if c == '-' {
             self.state = State::ScriptDataEscapedDashDash(kind);
-            return self.take_char('-');
+            return self.consume_char('-');
         }
         self.state = State::RawData(RawKind::ScriptDataEscaped(kind));
         self.raw_data_state(RawKind::ScriptDataEscaped(kind), c)
@@ -111,11 +111,11 @@ impl<Sink: TokenSink> Tokenizer<Sink> {
         ensures { Keeps Sink.TokenSink self.old self.new c result }
     {
         if c == '-' {
-            return self.take_char('-');
+            return self.consume_char('-');
         }
         if c == '>' {
             self.state = State::RawData(RawKind::ScriptData);
-            return self.take_char('>');
+            return self.consume_char('>');
         }
         self.state = State::RawData(RawKind::ScriptDataEscaped(kind));
         self.raw_data_state(RawKind::ScriptDataEscaped(kind), c)
@@ -132,7 +132,7 @@ impl<Sink: TokenSink> Tokenizer<Sink> {
     {
         if c.is_ascii_alphabetic() {
             self.word.push(c)?;
-            return self.take_char(c);
+            return self.consume_char(c);
         }
         let kind = self.kind_behind_word(
             c,

@@ -44,7 +44,7 @@ impl<Sink: TokenSink> Tokenizer<Sink> {
     #[inline(always)]
     fn own_name(&self) -> Result<Option<Text>, ParseFault>
         ensures ok { IfOk result (λ name. name ≡ own_name self.now.tag.kind self.now.tag.name) }
-        ensures err { IfErr result (λ fault. fault ≡ Memory) }
+        ensures fault { IfErr result (λ fault. fault ≡ Memory) }
     {
         match self.tag.kind {
             TagKind::StartTag => {
@@ -64,49 +64,49 @@ impl<Sink: TokenSink> Tokenizer<Sink> {
     }
 
     /// Tells an error for each attribute of the tag that is read which repeats one before it (section 13.2.5.33).
-    fn tell_repeats(&mut self) -> Result<(), ParseFault>
+    fn report_repeats(&mut self) -> Result<(), ParseFault>
         requires sound { Sink.is_sound (Sink.view self.old.sink) }
         ensures { Errs Sink.TokenSink (owed_for (grave_if self.old.tag.had_duplicate_attributes)) self.old self.new result }
     {
         if !self.tag.had_duplicate_attributes {
             return Ok(());
         }
-        self.tell_error(ErrorCode::DuplicateAttribute)?;
+        self.report_error(ErrorCode::DuplicateAttribute)?;
         for _repeat in 0..self.repeats.count() {
-            self.tell_error(ErrorCode::DuplicateAttribute)?;
+            self.report_error(ErrorCode::DuplicateAttribute)?;
         }
         self.repeats = Repeats::none();
         Ok(())
     }
 
     /// Tells what an end tag has besides its name, attributes and a solidus (section 13.2.5).
-    fn tell_end_tag_faults(&mut self) -> Result<(), ParseFault>
+    fn report_end_tag_faults(&mut self) -> Result<(), ParseFault>
         requires sound { Sink.is_sound (Sink.view self.old.sink) }
         ensures { Errs Sink.TokenSink (owed_for (grave_if (is_faulty_end EndTag self.old.tag))) self.old self.new result }
     {
         let has_attributes = has_attributes(&self.tag);
-        self.tell_if(has_attributes, ErrorCode::EndTagWithAttributes)?;
-        self.tell_if(self.tag.self_closing, ErrorCode::EndTagWithTrailingSolidus)
+        self.report_if(has_attributes, ErrorCode::EndTagWithAttributes)?;
+        self.report_if(self.tag.self_closing, ErrorCode::EndTagWithTrailingSolidus)
     }
 
     /// The same of the tag that is read, where it is an end tag.
-    fn tell_end_faults(&mut self) -> Result<(), ParseFault>
+    fn report_end_faults(&mut self) -> Result<(), ParseFault>
         requires sound { Sink.is_sound (Sink.view self.old.sink) }
         ensures { Errs Sink.TokenSink (owed_for (grave_if (is_faulty_end self.old.tag.kind self.old.tag))) self.old self.new result }
     {
         match self.tag.kind {
             TagKind::StartTag => Ok(()),
-            TagKind::EndTag => self.tell_end_tag_faults(),
+            TagKind::EndTag => self.report_end_tag_faults(),
         }
     }
 
     /// Tells the errors of the tag that is read, if it is faulty.
-    fn tell_faulty_tag(&mut self) -> Result<(), ParseFault>
+    fn emit_faulty_tag(&mut self) -> Result<(), ParseFault>
         requires sound { Sink.is_sound (Sink.view self.old.sink) }
         ensures { Errs Sink.TokenSink (owed_for (grave_if (is_faulty_tag self.old.tag))) self.old self.new result }
     {
-        self.tell_repeats()?;
-        self.tell_end_faults()
+        self.report_repeats()?;
+        self.report_end_faults()
     }
 
     /// Goes where the reply to a tag has it.
@@ -139,7 +139,7 @@ impl<Sink: TokenSink> Tokenizer<Sink> {
         ensures { EndsTag Sink.TokenSink self.old self.new result }
     {
         let own_name = self.own_name()?;
-        self.tell_faulty_tag()?;
+        self.emit_faulty_tag()?;
         let tag = mem::replace(&mut self.tag, nameless(self.stream.alloc));
         let line = self.line();
         let reply = self.sink.process_token(Token::TagToken(tag), line)?;
@@ -156,12 +156,12 @@ impl<Sink: TokenSink> Tokenizer<Sink> {
         requires sound { Sink.is_sound (Sink.view self.old.sink) }
         ensures { Keeps Sink.TokenSink self.old self.new c result }
     {
-        self.tell_null(c)?;
-        self.take_in_tag_name(c)
+        self.report_null(c)?;
+        self.consume_in_tag_name(c)
     }
 
     /// The same, where an error of the character was told.
-    fn take_in_tag_name(&mut self, c: char) -> Result<ProcessResult<Sink::Handle>, ParseFault>
+    fn consume_in_tag_name(&mut self, c: char) -> Result<ProcessResult<Sink::Handle>, ParseFault>
         requires at { IsAt self.old state.TagName }
         requires sound { Sink.is_sound (Sink.view self.old.sink) }
         ensures { Keeps Sink.TokenSink self.old self.new c result }
@@ -190,12 +190,12 @@ impl<Sink: TokenSink> Tokenizer<Sink> {
         requires sound { Sink.is_sound (Sink.view self.old.sink) }
         ensures { Keeps Sink.TokenSink self.old self.new c result }
     {
-        self.tell_if(c != '>', ErrorCode::UnexpectedSolidusInTag)?;
-        self.take_behind_solidus(c)
+        self.report_if(c != '>', ErrorCode::UnexpectedSolidusInTag)?;
+        self.consume_after_solidus(c)
     }
 
     /// The same, where an error of the character was told.
-    fn take_behind_solidus(&mut self, c: char) -> Result<ProcessResult<Sink::Handle>, ParseFault>
+    fn consume_after_solidus(&mut self, c: char) -> Result<ProcessResult<Sink::Handle>, ParseFault>
         requires at { IsAt self.old state.SelfClosingStartTag }
         requires sound { Sink.is_sound (Sink.view self.old.sink) }
         ensures { Keeps Sink.TokenSink self.old self.new c result }

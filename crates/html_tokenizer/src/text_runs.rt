@@ -104,16 +104,16 @@ impl<Sink: TokenSink> Tokenizer<Sink> {
 
     /// Takes a run of characters of which none is a stop.
     #[inline(always)]
-    pub(crate) fn take_run(&mut self, run: Text) -> Result<(), ParseFault>
+    pub(crate) fn consume_run(&mut self, run: Text) -> Result<(), ParseFault>
         requires run { IsRunAt self.old run }
         requires sound { Sink.is_sound (Sink.view self.old.sink) }
         ensures { KeepsRun Sink.TokenSink self.old self.new run result }
     {
         match self.state {
             State::AttributeName => self.attribute_name.push_lowered(run.as_str()),
-            State::AttributeValue(kind) => self.take_value_run(kind, &run),
+            State::AttributeValue(kind) => self.consume_value_run(kind, &run),
             State::BogusComment | State::Comment => self.comment.append(&run),
-            _ => self.tell(Token::CharacterTokens(run)),
+            _ => self.emit(Token::CharacterTokens(run)),
         }
     }
 }

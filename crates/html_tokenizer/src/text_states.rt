@@ -30,9 +30,9 @@ impl<Sink: TokenSink> Tokenizer<Sink> {
             return Ok(ProcessResult::Continue);
         }
         if c == '\0' {
-            return self.take_null();
+            return self.consume_null();
         }
-        self.take_char(c)
+        self.consume_char(c)
     }
 
     /// Section 13.2.5.5.
@@ -44,58 +44,64 @@ impl<Sink: TokenSink> Tokenizer<Sink> {
         requires sound { Sink.is_sound (Sink.view self.old.sink) }
         ensures { Keeps Sink.TokenSink self.old self.new c result }
     {
-        self.take_shown(c)
+        self.consume_shown(c)
     }
 
     /// Hands out a character of text, and goes on.
-    pub(crate) fn take_char(&mut self, c: char) -> Result<ProcessResult<Sink::Handle>, ParseFault>
+    pub(crate) fn consume_char(
+        &mut self,
+        c: char,
+    ) -> Result<ProcessResult<Sink::Handle>, ParseFault>
         requires sound { Sink.is_sound (Sink.view self.old.sink) }
         ensures { TakesAs Sink.TokenSink nothing_owed (CharacterTokens (c ∷ [])) self.old self.new result }
     {
-        self.tell_char(c)?;
+        self.emit_char(c)?;
         Ok(ProcessResult::Continue)
     }
 
     /// Hands out a character of text in which U+FFFD stands for U+0000, and goes on.
-    pub(crate) fn take_shown(&mut self, c: char) -> Result<ProcessResult<Sink::Handle>, ParseFault>
+    pub(crate) fn consume_shown(
+        &mut self,
+        c: char,
+    ) -> Result<ProcessResult<Sink::Handle>, ParseFault>
         requires sound { Sink.is_sound (Sink.view self.old.sink) }
         ensures { TakesAs Sink.TokenSink (owed_for (grave_if (nat_eq c 0))) (CharacterTokens (shown c ∷ [])) self.old self.new result }
     {
-        self.tell_shown(c)?;
+        self.emit_shown(c)?;
         Ok(ProcessResult::Continue)
     }
 
     /// Hands out U+0000 for its reader to decide on, which is a parse error.
-    fn tell_null_for_reader(&mut self) -> Result<(), ParseFault>
+    fn emit_null_for_reader(&mut self) -> Result<(), ParseFault>
         requires sound { Sink.is_sound (Sink.view self.old.sink) }
         ensures { Tells Sink.TokenSink a_fault NullCharacterToken self.old self.new result }
     {
-        self.tell_error(ErrorCode::UnexpectedNullCharacter)?;
-        self.tell(Token::NullCharacterToken)
+        self.report_error(ErrorCode::UnexpectedNullCharacter)?;
+        self.emit(Token::NullCharacterToken)
     }
 
     /// The same, and goes on.
-    pub(crate) fn take_null(&mut self) -> Result<ProcessResult<Sink::Handle>, ParseFault>
+    pub(crate) fn consume_null(&mut self) -> Result<ProcessResult<Sink::Handle>, ParseFault>
         requires sound { Sink.is_sound (Sink.view self.old.sink) }
         ensures { TakesAs Sink.TokenSink a_fault NullCharacterToken self.old self.new result }
     {
-        self.tell_null_for_reader()?;
+        self.emit_null_for_reader()?;
         Ok(ProcessResult::Continue)
     }
 
     /// Hands out two characters as text.
-    pub(crate) fn tell_two(&mut self, first: char, second: char) -> Result<(), ParseFault>
+    pub(crate) fn emit_two(&mut self, first: char, second: char) -> Result<(), ParseFault>
         requires sound { Sink.is_sound (Sink.view self.old.sink) }
         ensures { Tells Sink.TokenSink nothing_owed (CharacterTokens (first ∷ second ∷ [])) self.old self.new result }
     {
         let mut text = Text::empty(self.stream.alloc);
         text.push(first)?;
         text.push(second)?;
-        self.tell(Token::CharacterTokens(text))
+        self.emit(Token::CharacterTokens(text))
     }
 
     /// Hands out two characters as text, and goes on.
-    pub(crate) fn take_two(
+    pub(crate) fn consume_two(
         &mut self,
         first: char,
         second: char,
@@ -103,7 +109,7 @@ impl<Sink: TokenSink> Tokenizer<Sink> {
         requires sound { Sink.is_sound (Sink.view self.old.sink) }
         ensures { TakesAs Sink.TokenSink nothing_owed (CharacterTokens (first ∷ second ∷ [])) self.old self.new result }
     {
-        self.tell_two(first, second)?;
+        self.emit_two(first, second)?;
         Ok(ProcessResult::Continue)
     }
 }

@@ -97,7 +97,7 @@ impl Listed {
     fn take(&mut self, token: Token, line: u64) -> Result<TokenSinkResult<u64>, ParseFault>
         ensures taken { IfOk result (λ reply. listed (listing self.old) token line ≡ (listing self.new, numbered (λ n. n) reply)) }
         ensures counts { Counts true token result self.old.errors self.new.errors }
-        ensures memory { IfErr result (λ fault. fault ≡ Memory) }
+        ensures fault { IfErr result (λ fault. fault ≡ Memory) }
         ensures kept { self.new.has_failed ≡ self.old.has_failed }
     {
         match token {
@@ -118,7 +118,7 @@ impl Listed {
         ensures listed { OnOk result (listing self.new ≡ with_token token line (listing self.old)) }
         ensures reply { IfOk result (λ reply. numbered (λ n. n) reply ≡ reply_to token (length self.old.told.items)) }
         ensures same_errors { self.new.errors ≡ self.old.errors }
-        ensures memory { IfErr result (λ fault. fault ≡ Memory) }
+        ensures fault { IfErr result (λ fault. fault ≡ Memory) }
         ensures kept { self.new.has_failed ≡ self.old.has_failed }
     {
         let reply = reply_to(&token, self.told.len() as u64);

@@ -39,7 +39,7 @@ impl TokenizerOpts {
     /// Options of their own with the same values.
     pub fn copy(&self, alloc: Global) -> Result<TokenizerOpts, ParseFault>
         ensures ok { IfOk result (λ copied. copied ≡ self.now) }
-        ensures err { IfErr result (λ fault. fault ≡ Memory) }
+        ensures fault { IfErr result (λ fault. fault ≡ Memory) }
     {
         Ok(TokenizerOpts {
             exact_errors: self.exact_errors,

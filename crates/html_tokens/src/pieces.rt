@@ -13,7 +13,7 @@ use std::borrow::CowStr;
 
 /// Tells a text in pieces, each with a line of its own. The sink takes them as it would take the whole text with any
 /// line: the fault at a piece that it refuses is the one by which it would refuse the whole.
-pub fn tell_pieces<S: TokenSink>(sink: &mut S, pieces: Vec<(Text, u64)>) -> Result<(), ParseFault>
+pub fn emit_pieces<S: TokenSink>(sink: &mut S, pieces: Vec<(Text, u64)>) -> Result<(), ParseFault>
 where
     S::Handle: Drop,
     requires sound { S.is_sound (S.view sink.old) }
@@ -33,7 +33,7 @@ where
 }
 
 /// Tells an error. The sink counts it and is as it was; it refuses an error only where it refuses every token.
-pub fn tell_error<S: TokenSink>(
+pub fn report_error<S: TokenSink>(
     sink: &mut S,
     words: CowStr<'static>,
     line_number: u64,

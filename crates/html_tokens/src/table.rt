@@ -35,7 +35,7 @@ impl ReferenceRow {
     /// A row of its own with the same name and values.
     pub fn copy(&self, alloc: Global) -> Result<ReferenceRow, TableFault>
         ensures ok { IfOk result (λ copied. copied ≡ self.now) }
-        ensures err { IfErr result (λ fault. fault ≡ Memory) }
+        ensures fault { IfErr result (λ fault. fault ≡ Memory) }
     {
         let name = String::from_str(alloc, self.name.as_str())?;
         Ok(ReferenceRow::new(name, self.first, self.second))

@@ -34,7 +34,7 @@ impl Tag {
     /// A tag of its own with the same parts.
     pub fn copy(&self, alloc: Global) -> Result<Tag, ParseFault>
         ensures ok { IfOk result (λ copied. copied ≡ self.now) }
-        ensures err { IfErr result (λ fault. fault ≡ Memory) }
+        ensures fault { IfErr result (λ fault. fault ≡ Memory) }
     {
         Ok(Tag {
             kind: self.kind,
@@ -58,7 +58,7 @@ impl Tag {
     /// The value of the first attribute with this local name, in any namespace.
     pub fn get_attribute(&self, alloc: Global, name: &LocalName) -> Result<Option<Text>, ParseFault>
         ensures ok { IfOk result (λ value. value ≡ value_of name.now self.now.attrs) }
-        ensures err { IfErr result (λ fault. fault ≡ Memory) }
+        ensures fault { IfErr result (λ fault. fault ≡ Memory) }
     {
         match self
             .attrs

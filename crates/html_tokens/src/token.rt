@@ -24,7 +24,7 @@ impl Doctype {
     /// A doctype of its own with the same parts.
     pub fn copy(&self, alloc: Global) -> Result<Doctype, ParseFault>
         ensures ok { IfOk result (λ copied. copied ≡ self.now) }
-        ensures err { IfErr result (λ fault. fault ≡ Memory) }
+        ensures fault { IfErr result (λ fault. fault ≡ Memory) }
     {
         Ok(Doctype {
             name: copied(alloc, &self.name)?,
@@ -38,7 +38,7 @@ impl Doctype {
 /// A text of its own with the same characters, where there is one.
 pub(crate) fn copied(alloc: Global, text: &Option<Text>) -> Result<Option<Text>, ParseFault>
     ensures ok { IfOk result (λ copied. copied ≡ text.now) }
-    ensures err { IfErr result (λ fault. fault ≡ Memory) }
+    ensures fault { IfErr result (λ fault. fault ≡ Memory) }
 {
     match text {
         None => Ok(None),

@@ -140,7 +140,7 @@ impl<Sink: TreeSink> Construction<Sink> {
                 Ok(Next::Ends(Ending::Again))
             }
             Conclusion::ReprocessInOriginal => {
-                self.back_to_original();
+                self.restore_mode();
                 Ok(Next::Ends(Ending::Again))
             }
             Conclusion::ReprocessInMode => Ok(Next::Ends(Ending::Again)),
@@ -150,7 +150,7 @@ impl<Sink: TreeSink> Construction<Sink> {
             Conclusion::RawText(kind) => Ok(replied(TokenSinkResult::RawData(*kind))),
             Conclusion::PlainText => Ok(replied(TokenSinkResult::Plaintext)),
             Conclusion::RunScript => Ok(replied(TokenSinkResult::Script(script))),
-            Conclusion::TellEncoding => {
+            Conclusion::ReportEncoding => {
                 Ok(Next::Ends(encoding_reply(self.alloc, told.encoding_hint())?))
             }
         }

@@ -86,7 +86,7 @@ impl<Sink: TreeSink> Construction<Sink> {
     }
 
     /// Takes a run of characters.
-    pub(crate) fn take_run(
+    pub(crate) fn process_run(
         &mut self,
         sink: &mut Sink,
         run: Run,

@@ -74,7 +74,7 @@ impl<Sink: TreeSink> Construction<Sink> {
 
 impl<Sink: TreeSink> TreeBuilder<Sink> {
     /// Tells the sink a line that differs from the last one that it was told.
-    fn tell_line(&mut self, line: u64)
+    fn report_line(&mut self, line: u64)
         ensures same { built Sink.TreeSink self.new.construction (Sink.forest self.new.sink) ≡ built Sink.TreeSink self.old.construction (Sink.forest self.old.sink) }
         ensures works { self.new.has_failed ≡ self.old.has_failed }
         ensures turns { self.new.turns.count ≡ self.old.turns.count }
@@ -88,7 +88,7 @@ impl<Sink: TreeSink> TreeBuilder<Sink> {
 
     /// Takes a token that nothing stands against. Where memory is wanting the builder has failed.
     #[inline(always)]
-    fn take_or_fail(
+    fn process_or_fail(
         &mut self,
         token: &mut Token,
         line: u64,
@@ -102,7 +102,7 @@ impl<Sink: TreeSink> TreeBuilder<Sink> {
         ensures most { self.new.turns.count ≤ self.old.turns.count + most_turns self.old.construction.stack.open_elems }
         ensures fault { IfErr result (λ fault. fault ≡ Memory) }
     {
-        self.tell_line(line);
+        self.report_line(line);
         match self
             .construction
             .take(&mut self.sink, token, &mut self.turns)
@@ -142,7 +142,7 @@ impl<Sink: TreeSink> TreeBuilder<Sink> {
         if self.construction.bars(token) {
             return Err(ParseFault::TokenInText);
         }
-        self.take_or_fail(token, line_number)
+        self.process_or_fail(token, line_number)
     }
 }
 

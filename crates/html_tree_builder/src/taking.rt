@@ -77,7 +77,7 @@ impl<Sink: TreeSink> Construction<Sink> {
     }
 
     /// Takes one character. Its turns are not counted.
-    fn take_character(&mut self, sink: &mut Sink, character: &str) -> Result<(), ParseFault>
+    fn process_character(&mut self, sink: &mut Sink, character: &str) -> Result<(), ParseFault>
         requires usable { Usable (built Sink.TreeSink self.old (Sink.forest sink.old)) }
         requires going { self.old.has_ended ≡ false }
         ensures ok { OnOk result (built Sink.TreeSink self.new (Sink.forest sink.new) ≡ (settle (CharacterTokens (chars character.now)) (built Sink.TreeSink self.old (Sink.forest sink.old))).state) }
@@ -90,7 +90,7 @@ impl<Sink: TreeSink> Construction<Sink> {
     }
 
     /// Takes a text: a run at once, and up to where one begins character by character.
-    fn take_text(&mut self, sink: &mut Sink, text: &str) -> Result<(), ParseFault>
+    fn process_text(&mut self, sink: &mut Sink, text: &str) -> Result<(), ParseFault>
         requires usable { Usable (built Sink.TreeSink self.old (Sink.forest sink.old)) }
         requires going { self.old.has_ended ≡ false }
         ensures ok { OnOk result (built Sink.TreeSink self.new (Sink.forest sink.new) ≡ (text_taken (chars text.now) (untouched (built Sink.TreeSink self.old (Sink.forest sink.old)))).state) }
@@ -99,10 +99,10 @@ impl<Sink: TreeSink> Construction<Sink> {
         let mut rest = text;
         while let Some((character, behind)) = split_first(rest) {
             if let Some(run) = self.run() {
-                self.take_run(sink, run, rest)?;
+                self.process_run(sink, run, rest)?;
                 return Ok(());
             }
-            self.take_character(sink, character)?;
+            self.process_character(sink, character)?;
             rest = behind;
         }
         Ok(())
@@ -110,7 +110,7 @@ impl<Sink: TreeSink> Construction<Sink> {
 
     /// Takes characters, which may be none. A line feed at their front is dropped where that is asked for.
     #[inline(never)]
-    fn take_characters(&mut self, sink: &mut Sink, text: &str) -> Result<(), ParseFault>
+    fn process_characters(&mut self, sink: &mut Sink, text: &str) -> Result<(), ParseFault>
         requires usable { Usable (built Sink.TreeSink self.old (Sink.forest sink.old)) }
         requires going { self.old.has_ended ≡ false }
         ensures ok { OnOk result (built Sink.TreeSink self.new (Sink.forest sink.new) ≡ (came_of (CharacterTokens (chars text.now)) (built Sink.TreeSink self.old (Sink.forest sink.old))).state) }
@@ -121,13 +121,13 @@ impl<Sink: TreeSink> Construction<Sink> {
         }
         let rest = behind_line_feed(self.ignore_lf, text);
         self.set_ignore_lf(false);
-        self.take_text(sink, rest)?;
+        self.process_text(sink, rest)?;
         Ok(())
     }
 
     /// An error of a doctype is told.
     #[tactic(auto, unfolding(html_rules::specs::Stack::parse_error))]
-    fn tell_doctype(&self, sink: &mut Sink, is_error: bool)
+    fn report_doctype(&self, sink: &mut Sink, is_error: bool)
         ensures state { (a : Answers) → state_of a self.now (Sink.forest sink.new) ≡ choose is_error (λ _. parse_error (state_of a self.now (Sink.forest sink.old))) (λ _. state_of a self.now (Sink.forest sink.old)) }
         ensures stands { Stands (Sink.forest sink.old) self.now → Stands (Sink.forest sink.new) self.now }
     {
@@ -150,13 +150,13 @@ impl<Sink: TreeSink> Construction<Sink> {
     }
 
     /// Takes a doctype where one belongs.
-    fn take_first_doctype(&mut self, sink: &mut Sink, doctype: Doctype) -> Result<(), ParseFault>
+    fn process_first_doctype(&mut self, sink: &mut Sink, doctype: Doctype) -> Result<(), ParseFault>
         requires stands { Stands (Sink.forest sink.old) self.old }
         ensures ok { OnOk result ((a : Answers) → state_of a self.new (Sink.forest sink.new) ≡ first_doctype_taken doctype (state_of a self.old (Sink.forest sink.old))) }
         ensures fault { IfErr result (λ fault. fault ≡ Memory) }
     {
         let (is_error, quirks) = doctype_error_and_quirks(&doctype, self.opts.iframe_srcdoc);
-        self.tell_doctype(sink, is_error);
+        self.report_doctype(sink, is_error);
         self.append_doctype(sink, doctype)?;
         self.set_quirks_mode(sink, quirks);
         self.set_mode(InsertionMode::BeforeHtml);
@@ -165,31 +165,31 @@ impl<Sink: TreeSink> Construction<Sink> {
 
     /// Takes a doctype, which is taken out where it belongs.
     #[inline(never)]
-    fn take_doctype(&mut self, sink: &mut Sink, doctype: &mut Doctype) -> Result<(), ParseFault>
+    fn process_doctype(&mut self, sink: &mut Sink, doctype: &mut Doctype) -> Result<(), ParseFault>
         requires stands { Stands (Sink.forest sink.old) self.old }
         ensures ok { OnOk result ((a : Answers) → state_of a self.new (Sink.forest sink.new) ≡ doctype_taken self.old.mode doctype.old (state_of a self.old (Sink.forest sink.old))) }
         ensures fault { IfErr result (λ fault. fault ≡ Memory) }
     {
         match self.mode {
             InsertionMode::Initial => {
-                self.take_first_doctype(sink, mem::replace(doctype, Doctype::default()))
+                self.process_first_doctype(sink, mem::replace(doctype, Doctype::default()))
             }
             _ => {
-                self.tell_doctype(sink, true);
+                self.report_doctype(sink, true);
                 Ok(())
             }
         }
     }
 
     /// Takes the message of an error, which is told on. Nothing else changes.
-    fn take_error(&mut self, sink: &mut Sink, message: &mut CowStr<'static>)
+    fn process_error(&mut self, sink: &mut Sink, message: &mut CowStr<'static>)
         ensures { built Sink.TreeSink self.new (Sink.forest sink.new) ≡ parse_error (built Sink.TreeSink self.old (Sink.forest sink.old)) }
     {
         sink.parse_error(mem::replace(message, CowStr::Borrowed("")));
     }
 
     /// Takes what is neither text nor a doctype.
-    fn take_told(
+    fn process_told(
         &mut self,
         sink: &mut Sink,
         told: &Told<'_>,
@@ -224,7 +224,7 @@ impl<Sink: TreeSink> Construction<Sink> {
         ensures most { turns.new.count ≤ turns.old.count + most_turns self.old.stack.open_elems }
         ensures fault { IfErr result (λ fault. fault ≡ Memory) }
     {
-        self.take_told(sink, &Told::of_tag(tag), turns)
+        self.process_told(sink, &Told::of_tag(tag), turns)
     }
 
     /// Takes a token, of which an error's message is taken out, and a doctype where it belongs. An error is told on, and an empty text
@@ -247,28 +247,30 @@ impl<Sink: TreeSink> Construction<Sink> {
     {
         match token {
             Token::ParseError(message) => {
-                self.take_error(sink, message);
+                self.process_error(sink, message);
                 Ok(TokenSinkResult::Continue)
             }
             Token::CharacterTokens(text) => {
-                self.take_characters(sink, text.as_str())?;
+                self.process_characters(sink, text.as_str())?;
                 Ok(TokenSinkResult::Continue)
             }
             Token::DoctypeToken(doctype) => {
                 self.set_ignore_lf(false);
-                self.take_doctype(sink, doctype)?;
+                self.process_doctype(sink, doctype)?;
                 Ok(TokenSinkResult::Continue)
             }
             Token::TagToken(tag) => self.take_tag(sink, tag, turns),
-            Token::CommentToken(text) => { self.take_nameless(sink, Content::Comment(text), turns) }
-            Token::NullCharacterToken => self.take_nameless(sink, Content::Null, turns),
-            Token::EOFToken => self.take_nameless(sink, Content::EndOfFile, turns),
+            Token::CommentToken(text) => {
+                self.process_nameless(sink, Content::Comment(text), turns)
+            }
+            Token::NullCharacterToken => self.process_nameless(sink, Content::Null, turns),
+            Token::EOFToken => self.process_nameless(sink, Content::EndOfFile, turns),
         }
     }
 
     /// Takes what is neither text nor a doctype nor a tag.
     #[inline(never)]
-    fn take_nameless(
+    fn process_nameless(
         &mut self,
         sink: &mut Sink,
         content: Content<'_>,
@@ -284,6 +286,6 @@ impl<Sink: TreeSink> Construction<Sink> {
         ensures fault { IfErr result (λ fault. fault ≡ Memory) }
     {
         let name = LocalName::empty(self.alloc);
-        self.take_told(sink, &Told::of(content, &name), turns)
+        self.process_told(sink, &Told::of(content, &name), turns)
     }
 }

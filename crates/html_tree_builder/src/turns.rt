@@ -39,12 +39,12 @@ impl<Sink: TreeSink> Construction<Sink> {
             return Ok(Ending::Finished(false));
         }
         let row = self.first_row(sink, mode, told);
-        self.take_by_row(sink, row, told, left - 1)
+        self.apply_row(sink, row, told, left - 1)
     }
 
     /// What a row makes of a token, where the rules of that many other modes may be used.
     #[cycle(chain)]
-    fn take_by_row(
+    fn apply_row(
         &mut self,
         sink: &mut Sink,
         row: &'static Row,
@@ -59,7 +59,7 @@ impl<Sink: TreeSink> Construction<Sink> {
         ensures fault { IfErr result (λ fault. fault ≡ Memory) }
     {
         let script = self.current_handle(sink);
-        self.take_action(sink, &row.does, told)?;
+        self.perform(sink, &row.does, told)?;
         let next = self.conclude(&row.ends, script, told)?;
         self.go_on(sink, next, told, left)
     }
@@ -85,7 +85,7 @@ impl<Sink: TreeSink> Construction<Sink> {
             Next::Using(mode) => self.use_rules_for(sink, mode, told, left),
             Next::UsingThen(mode, after) => {
                 let ending = self.use_rules_for(sink, mode, told, left)?;
-                self.take_action(sink, after, told)?;
+                self.perform(sink, after, told)?;
                 Ok(ending)
             }
         }
@@ -106,7 +106,7 @@ impl<Sink: TreeSink> Construction<Sink> {
     {
         if self.is_foreign(sink, told) {
             let row = self.first_foreign_row(sink, told);
-            return self.take_by_row(sink, row, told, MOST_MODES);
+            return self.apply_row(sink, row, told, MOST_MODES);
         }
         let mode = self.mode;
         self.use_rules_for(sink, mode, told, MOST_MODES)

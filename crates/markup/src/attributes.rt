@@ -29,7 +29,7 @@ impl Attribute {
     /// An attribute of its own with the same name and value.
     pub fn copy(&self, alloc: Global) -> Result<Attribute, ParseFault>
         ensures ok { IfOk result (λ copied. copied ≡ self.now) }
-        ensures err { IfErr result (λ fault. fault ≡ Memory) }
+        ensures fault { IfErr result (λ fault. fault ≡ Memory) }
     {
         Ok(Attribute {
             name: self.name.copy(alloc)?,
@@ -190,7 +190,7 @@ impl Attributes {
     /// A list of its own with the same attributes.
     pub fn copy(&self, alloc: Global) -> Result<Attributes, ParseFault>
         ensures ok { IfOk result (λ copied. copied ≡ self.now) }
-        ensures err { IfErr result (λ fault. fault ≡ Memory) }
+        ensures fault { IfErr result (λ fault. fault ≡ Memory) }
     {
         let mut list = Vec::with_capacity(alloc, self.list.len())?;
         for attribute in self.as_slice() {

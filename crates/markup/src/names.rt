@@ -65,7 +65,7 @@ impl LocalName {
     /// The name of characters that are lent.
     pub fn from_str(alloc: Global, text: &str) -> Result<LocalName, ParseFault>
         ensures ok { IfOk result (λ made. made ≡ chars text.now) }
-        ensures err { IfErr result (λ fault. fault ≡ Memory) }
+        ensures fault { IfErr result (λ fault. fault ≡ Memory) }
     {
         Ok(LocalName {
             name: Text::from_str(alloc, text)?,
@@ -116,7 +116,7 @@ impl LocalName {
     /// A name of its own with the same characters.
     pub fn copy(&self, alloc: Global) -> Result<LocalName, ParseFault>
         ensures ok { IfOk result (λ copied. copied ≡ self.now) }
-        ensures err { IfErr result (λ fault. fault ≡ Memory) }
+        ensures fault { IfErr result (λ fault. fault ≡ Memory) }
     {
         Ok(LocalName {
             name: self.name.copy(alloc)?,
@@ -215,7 +215,7 @@ impl Namespace {
     /// A namespace of its own with the same name.
     pub fn copy(&self, alloc: Global) -> Result<Namespace, ParseFault>
         ensures ok { IfOk result (λ copied. copied ≡ self.now) }
-        ensures err { IfErr result (λ fault. fault ≡ Memory) }
+        ensures fault { IfErr result (λ fault. fault ≡ Memory) }
     {
         match &self.form {
             KnownForm::Known(known) => Ok(Namespace::from_known(*known)),
@@ -347,7 +347,7 @@ impl Prefix {
     /// A prefix of its own with the same characters.
     pub fn copy(&self, alloc: Global) -> Result<Prefix, ParseFault>
         ensures ok { IfOk result (λ copied. copied ≡ self.now) }
-        ensures err { IfErr result (λ fault. fault ≡ Memory) }
+        ensures fault { IfErr result (λ fault. fault ≡ Memory) }
     {
         match &self.form {
             KnownForm::Known(known) => Ok(Prefix::from_known(*known)),
@@ -463,7 +463,7 @@ impl QualName {
     /// A name of its own with the same parts.
     pub fn copy(&self, alloc: Global) -> Result<QualName, ParseFault>
         ensures ok { IfOk result (λ copied. copied ≡ self.now) }
-        ensures err { IfErr result (λ fault. fault ≡ Memory) }
+        ensures fault { IfErr result (λ fault. fault ≡ Memory) }
     {
         let prefix = match &self.prefix {
             None => None,

@@ -65,7 +65,7 @@ impl TraversalScope {
     /// The same scope, with a name of its own.
     pub fn copy(&self, alloc: Global) -> Result<TraversalScope, ParseFault>
         ensures ok { IfOk result (λ copied. copied ≡ self.now) }
-        ensures err { IfErr result (λ fault. fault ≡ Memory) }
+        ensures fault { IfErr result (λ fault. fault ≡ Memory) }
     {
         match self {
             TraversalScope::IncludeNode => Ok(TraversalScope::IncludeNode),

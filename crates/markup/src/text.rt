@@ -55,7 +55,7 @@ impl Text {
     /// A text of characters that are lent.
     pub fn from_str(alloc: Global, text: &str) -> Result<Text, ParseFault>
         ensures ok { IfOk result (λ made. made ≡ chars text.now) }
-        ensures err { IfErr result (λ fault. fault ≡ Memory) }
+        ensures fault { IfErr result (λ fault. fault ≡ Memory) }
     {
         Ok(Text {
             form: TextForm::from_str(alloc, text)?,
@@ -72,7 +72,7 @@ impl Text {
     /// A string of the same characters. A text that is not short gives its own memory.
     pub fn into_string(self) -> Result<String, ParseFault>
         ensures ok { IfOk result (λ text. chars (string_bytes text) ≡ self) }
-        ensures err { IfErr result (λ fault. fault ≡ Memory) }
+        ensures fault { IfErr result (λ fault. fault ≡ Memory) }
     {
         let Text { form } = self;
         Ok(form.into_string()?)
@@ -96,7 +96,7 @@ impl Text {
     /// A text of its own with the same characters.
     pub fn copy(&self, alloc: Global) -> Result<Text, ParseFault>
         ensures ok { IfOk result (λ copied. copied ≡ self.now) }
-        ensures err { IfErr result (λ fault. fault ≡ Memory) }
+        ensures fault { IfErr result (λ fault. fault ≡ Memory) }
     {
         Ok(Text {
             form: self.form.copy(alloc)?,
@@ -163,7 +163,7 @@ fn has_upper(text: &str) -> bool
 /// The characters with ASCII letters lowered.
 fn lowered(alloc: Global, text: &str) -> Result<Text, ParseFault>
     ensures ok { IfOk result (λ made. made ≡ map to_ascii_lowercase (chars text.now)) }
-    ensures err { IfErr result (λ fault. fault ≡ Memory) }
+    ensures fault { IfErr result (λ fault. fault ≡ Memory) }
 {
     let mut made = Text::empty(alloc);
     for c in text.chars() {

@@ -3,7 +3,7 @@ ghost use Rattle.std.specs.Prelude.{◌<◌, IfOk, OnOk, vec_len};
 
 use super::tags::tag;
 use crate::see;
-use html_tokens::pieces::{tell_error, tell_pieces};
+use html_tokens::pieces::{emit_pieces, tell_error};
 use html_tokens::states::RawKind;
 use html_tokens::{Counting, Listed, TagKind, Token, TokenSink, TokenSinkResult, Told};
 use markup::{ParseFault, Text};
@@ -18,7 +18,7 @@ fn tag_token(alloc: Global, kind: TagKind, name: &str) -> Result<Token, ParseFau
     Ok(Token::TagToken(tag(alloc, kind, name, &[])?))
 }
 
-fn tell_text(alloc: Global, sink: &mut Listed, words: &str) -> Result<(), ParseFault> {
+fn insert_table_text(alloc: Global, sink: &mut Listed, words: &str) -> Result<(), ParseFault> {
     drop(sink.process_token(characters(alloc, words)?, 1)?);
     Ok(())
 }
@@ -41,10 +41,10 @@ fn lists_one_null(sink: &Listed) -> bool {
 
 // Whether the text of two pieces, a null and a third text are listed.
 fn are_listed(alloc: Global, sink: &mut Listed) -> bool {
-    tell_text(alloc, sink, "a").is_ok()
-        && tell_text(alloc, sink, "b").is_ok()
+    insert_table_text(alloc, sink, "a").is_ok()
+        && insert_table_text(alloc, sink, "b").is_ok()
         && tell_null(sink, 3).is_ok()
-        && tell_text(alloc, sink, "c").is_ok()
+        && insert_table_text(alloc, sink, "c").is_ok()
         && sink.text.as_str() == "c"
         && lists_one_null(sink)
 }
@@ -166,7 +166,7 @@ fn pieces(alloc: Global) -> Result<Vec<(Text, u64)>, ParseFault>
 }
 
 fn tell_text_and_error(alloc: Global, sink: &mut Listed) -> Result<(), ParseFault> {
-    tell_pieces(sink, pieces(alloc)?)?;
+    emit_pieces(sink, pieces(alloc)?)?;
     tell_error(sink, CowStr::Borrowed("an error"), 2)
 }
 

@@ -8,8 +8,8 @@ use crate::table::Action::{
     AppendComment, AppendText, CheckBodyEnd, ClearToMarker, CloseItem, CloseMisnestedA, CloseP,
     CloseToken, EnterForeign, ForgetFormElem, FramesetNotOk, FramesetNotOkUnlessWhite,
     IgnoreLineFeed, ImpliedEndTags, ImpliedEndTagsExcept, ImpliedEndTagsExceptToken, InsertElement,
-    InsertFormatting, InsertMarker, InsertNew, InsertNewVoid, InsertVoid, InsertVoidAs, KeepMode,
-    Nothing, ParseError, Pop, PopUntil, Reconstruct, RemoveBody, RemoveFormElem, SetFormElem,
+    InsertFormatting, InsertMarker, InsertNew, InsertNewVoid, InsertVoid, InsertVoidAs, Nothing,
+    ParseError, Pop, PopUntil, Reconstruct, RemoveBody, RemoveFormElem, SaveMode, SetFormElem,
     SwitchTo, When,
 };
 use crate::table::Class::{
@@ -274,7 +274,7 @@ const FORMATTING: &[Row] = &[
             IgnoreLineFeed,
             FramesetNotOk,
             InsertElement,
-            KeepMode,
+            SaveMode,
             SwitchTo(InsertionMode::Text)
         ],
         RawText(RawKind::Rcdata)
@@ -286,7 +286,7 @@ const FORMATTING: &[Row] = &[
             Reconstruct,
             FramesetNotOk,
             InsertElement,
-            KeepMode,
+            SaveMode,
             SwitchTo(InsertionMode::Text)
         ],
         RawText(RawKind::Rawtext)
@@ -296,17 +296,17 @@ const FORMATTING: &[Row] = &[
         [
             FramesetNotOk,
             InsertElement,
-            KeepMode,
+            SaveMode,
             SwitchTo(InsertionMode::Text)
         ],
         RawText(RawKind::Rawtext)
     ),
     row!(
         StartTags(TagSet::Noembed),
-        [InsertElement, KeepMode, SwitchTo(InsertionMode::Text)],
+        [InsertElement, SaveMode, SwitchTo(InsertionMode::Text)],
         RawText(RawKind::Rawtext)
     ),
-    row!(StartTags(TagSet::Noscript), if ScriptingEnabled, [InsertElement, KeepMode, SwitchTo(InsertionMode::Text)], RawText(RawKind::Rawtext)),
+    row!(StartTags(TagSet::Noscript), if ScriptingEnabled, [InsertElement, SaveMode, SwitchTo(InsertionMode::Text)], RawText(RawKind::Rawtext)),
 ];
 
 // The sets of start tags that its rows ask for, and of end tags.

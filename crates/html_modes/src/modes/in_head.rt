@@ -5,11 +5,11 @@ ghost use Rattle.html_modes.specs.Tables.{rows_of};
 
 use crate::table::Action::{
     AppendComment, AppendText, ClearToMarker, Close, FramesetNotOk, ImpliedEndTagsThoroughly,
-    InsertElement, InsertMarker, InsertTemplate, InsertVoid, KeepMode, Nothing, ParseError, Pop,
-    PopTemplateMode, PushTemplateMode, ResetMode, SwitchTo,
+    InsertElement, InsertMarker, InsertTemplate, InsertVoid, Nothing, ParseError, Pop,
+    PopTemplateMode, PushTemplateMode, ResetMode, SaveMode, SwitchTo,
 };
 use crate::table::Class::{AnyEndTag, AnythingElse, Comment, EndTags, StartTags, WhiteSpace};
-use crate::table::Conclusion::{Done, RawText, Reprocess, TellEncoding, Using};
+use crate::table::Conclusion::{Done, RawText, ReportEncoding, Reprocess, Using};
 use crate::table::Condition::{ScriptingEnabled, TemplateOpen};
 use crate::table::{Row, row};
 use html_rules::{InsertionMode, TagSet};
@@ -23,18 +23,22 @@ const IN_HEAD: &[Row] = &[
         [Nothing],
         Using(InsertionMode::InBody)
     ),
-    row!(StartTags(TagSet::MetadataVoid), [InsertVoid], TellEncoding),
+    row!(
+        StartTags(TagSet::MetadataVoid),
+        [InsertVoid],
+        ReportEncoding
+    ),
     row!(
         StartTags(TagSet::Title),
-        [InsertElement, KeepMode, SwitchTo(InsertionMode::Text)],
+        [InsertElement, SaveMode, SwitchTo(InsertionMode::Text)],
         RawText(RawKind::Rcdata)
     ),
     row!(
         StartTags(TagSet::NoframesStyle),
-        [InsertElement, KeepMode, SwitchTo(InsertionMode::Text)],
+        [InsertElement, SaveMode, SwitchTo(InsertionMode::Text)],
         RawText(RawKind::Rawtext)
     ),
-    row!(StartTags(TagSet::Noscript), if ScriptingEnabled, [InsertElement, KeepMode, SwitchTo(InsertionMode::Text)], RawText(RawKind::Rawtext)),
+    row!(StartTags(TagSet::Noscript), if ScriptingEnabled, [InsertElement, SaveMode, SwitchTo(InsertionMode::Text)], RawText(RawKind::Rawtext)),
     row!(
         StartTags(TagSet::Noscript),
         [InsertElement, SwitchTo(InsertionMode::InHeadNoscript)],
@@ -42,7 +46,7 @@ const IN_HEAD: &[Row] = &[
     ),
     row!(
         StartTags(TagSet::Script),
-        [InsertElement, KeepMode, SwitchTo(InsertionMode::Text)],
+        [InsertElement, SaveMode, SwitchTo(InsertionMode::Text)],
         RawText(RawKind::ScriptData)
     ),
     row!(

@@ -5,8 +5,8 @@ ghost use Rattle.html_modes.specs.Tables.{rows_of};
 
 use crate::table::Action::{
     AppendComment, ClearBackTo, DisableFosterParenting, EnableFosterParenting, InsertElement,
-    InsertFormVoid, InsertMarker, InsertNew, InsertVoid, KeepMode, Nothing, ParseError, PopUntil,
-    ResetMode, SwitchTo,
+    InsertFormVoid, InsertMarker, InsertNew, InsertVoid, Nothing, ParseError, PopUntil, ResetMode,
+    SaveMode, SwitchTo,
 };
 use crate::table::Class::{AnythingElse, Character, Comment, EndOfFile, EndTags, Null, StartTags};
 use crate::table::Conclusion::{Acknowledged, Done, Reprocess, ReprocessInMode, Using, UsingThen};
@@ -17,8 +17,8 @@ use crate::table::{Implied, Row, row};
 use html_rules::{InsertionMode, TagSet};
 
 const IN_TABLE: &[Row] = &[
-    row!(Character, if CurrentIs(TagSet::FosterTarget), [KeepMode], Reprocess(InsertionMode::InTableText)),
-    row!(Null, if CurrentIs(TagSet::FosterTarget), [KeepMode], Reprocess(InsertionMode::InTableText)),
+    row!(Character, if CurrentIs(TagSet::FosterTarget), [SaveMode], Reprocess(InsertionMode::InTableText)),
+    row!(Null, if CurrentIs(TagSet::FosterTarget), [SaveMode], Reprocess(InsertionMode::InTableText)),
     row!(
         Character,
         [ParseError, EnableFosterParenting],

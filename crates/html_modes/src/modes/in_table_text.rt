@@ -3,7 +3,7 @@ ghost use Rattle.std.specs.Prelude.{◌≡◌};
 ghost use Rattle.html_rules.specs.Modes.InTableText.{in_table_text};
 ghost use Rattle.html_modes.specs.Tables.{rows_of};
 
-use crate::table::Action::{KeepText, ParseError, TellPendingText};
+use crate::table::Action::{InsertPendingText, KeepText, ParseError};
 use crate::table::Class::{AnythingElse, Character, Null};
 use crate::table::Conclusion::{Done, ReprocessInOriginal};
 use crate::table::{Row, row};
@@ -11,7 +11,7 @@ use crate::table::{Row, row};
 const IN_TABLE_TEXT: &[Row] = &[
     row!(Null, [ParseError], Done),
     row!(Character, [KeepText], Done),
-    row!(AnythingElse, [TellPendingText], ReprocessInOriginal),
+    row!(AnythingElse, [InsertPendingText], ReprocessInOriginal),
 ];
 
 /// The rows.

@@ -19,7 +19,7 @@ use Rattle.html_plain.specs.declared.elements.PlainElement.{PlainElement}
 use Rattle.html_plain.specs.declared.elements.PlainElement.TheVariants.{Table, TableBody, Row, Cell}
 use Rattle.html_plain.specs.declared.place.Place.TheVariants.{InFlow}
 use Rattle.html_round_trip.specs.Planting.Planted.{ArePlantable, planted}
-use Rattle.html_rules.specs.Actions.{back_to_original, frameset_not_ok, set_mode, tell_pending_text}
+use Rattle.html_rules.specs.Actions.{restore_mode, frameset_not_ok, set_mode, insert_pending_text}
 use Rattle.html_rules.specs.Encodings.{is_space}
 use Rattle.html_rules.specs.Formatting.{push_marker}
 use Rattle.html_rules.specs.Names as names
@@ -76,8 +76,8 @@ white-both (c ∷ w) text h k = let p = and_parts (plain.is_white c) (list_all p
 
 -- what waits is told
 told : (o : Around) (head : Option ℕ) (m : InsertionMode) (n : ℕ) (k : PlainElement) (f : Forest) (os : List Open) (es : List Entry) (ok : Bool) (text : List ℕ) → is_white text ≡ true
-    → back_to_original (tell_pending_text (waiting_at o head m f (opened n k ∷ os) es ok text)) ≡ at o head m (put_text f (Last n) text) (opened n k ∷ os) es ok
-unfolding back_to_original tell_pending_text append_text
+    → restore_mode (insert_pending_text (waiting_at o head m f (opened n k ∷ os) es ok text)) ≡ at o head m (put_text f (Last n) text) (opened n k ∷ os) es ok
+unfolding restore_mode insert_pending_text append_text
 told o head m n k f os es ok text white = rw (white, no-template_open n k) refl
 
 module _ (rows : List TableRow) (reads : ReadsEscapes rows) (sc : Bool) (o : Around) (head : Option ℕ) where

@@ -1,7 +1,7 @@
 -- The "in head" insertion mode (HTML Standard, section 13.2.6.4.4).
 use Rattle.std.specs.Prelude.{List, [], ◌∷◌}
 use Rattle.html_tokens.specs.declared.states.RawKind.TheVariants.{Rcdata, Rawtext, ScriptData}
-use Rattle.html_rules.specs.Table.{Row, StartTags, EndTags, AnyEndTag, WhiteSpace, Comment, AnythingElse, ScriptingEnabled, TemplateOpen, Nothing, ParseError, InsertElement, InsertVoid, AppendText, AppendComment, InsertTemplate, Pop, Close, ImpliedEndTagsThoroughly, InsertMarker, ClearToMarker, SwitchTo, ResetMode, PushTemplateMode, PopTemplateMode, FramesetNotOk, Done, Reprocess, Using, RawText, TellEncoding, row, row_if, ◌▸◌, insert_raw_text}
+use Rattle.html_rules.specs.Table.{Row, StartTags, EndTags, AnyEndTag, WhiteSpace, Comment, AnythingElse, ScriptingEnabled, TemplateOpen, Nothing, ParseError, InsertElement, InsertVoid, AppendText, AppendComment, InsertTemplate, Pop, Close, ImpliedEndTagsThoroughly, InsertMarker, ClearToMarker, SwitchTo, ResetMode, PushTemplateMode, PopTemplateMode, FramesetNotOk, Done, Reprocess, Using, RawText, ReportEncoding, row, row_if, ◌▸◌, insert_raw_text}
 use Rattle.html_rules.specs.declared.insertion_mode.InsertionMode.TheVariants.{InHeadNoscript, AfterHead, InBody, InTemplate}
 use Rattle.html_rules.specs.declared.tag_set.TagSet.TheVariants as set
 
@@ -10,7 +10,7 @@ in_head =
     row WhiteSpace AppendText Done
     ∷ row Comment AppendComment Done
     ∷ row (StartTags set.Html) Nothing (Using InBody)
-    ∷ row (StartTags set.MetadataVoid) InsertVoid TellEncoding
+    ∷ row (StartTags set.MetadataVoid) InsertVoid ReportEncoding
     ∷ row (StartTags set.Title) insert_raw_text (RawText Rcdata)
     ∷ row (StartTags set.NoframesStyle) insert_raw_text (RawText Rawtext)
     ∷ row_if (StartTags set.Noscript) ScriptingEnabled insert_raw_text (RawText Rawtext)

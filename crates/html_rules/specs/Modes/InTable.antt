@@ -1,13 +1,13 @@
 -- The "in table" insertion mode (HTML Standard, section 13.2.6.4.9).
 use Rattle.std.specs.Prelude.{List, [], ◌∷◌, codes}
-use Rattle.html_rules.specs.Table.{Row, StartTags, EndTags, Character, Null, Comment, EndOfFile, AnythingElse, Not, Both, CurrentIs, TemplateOpen, InScope, HasFormElem, TypeHidden, Nothing, ParseError, InsertElement, InsertVoid, InsertFormVoid, InsertNew, AppendComment, PopUntil, ClearBackTo, InsertMarker, SwitchTo, KeepMode, ResetMode, EnableFosterParenting, Done, Acknowledged, Reprocess, ReprocessInMode, Using, row, row_if, ◌▸◌, fostered}
+use Rattle.html_rules.specs.Table.{Row, StartTags, EndTags, Character, Null, Comment, EndOfFile, AnythingElse, Not, Both, CurrentIs, TemplateOpen, InScope, HasFormElem, TypeHidden, Nothing, ParseError, InsertElement, InsertVoid, InsertFormVoid, InsertNew, AppendComment, PopUntil, ClearBackTo, InsertMarker, SwitchTo, SaveMode, ResetMode, EnableFosterParenting, Done, Acknowledged, Reprocess, ReprocessInMode, Using, row, row_if, ◌▸◌, fostered}
 use Rattle.html_rules.specs.declared.insertion_mode.InsertionMode.TheVariants.{InHead, InBody, InTableText, InCaption, InColumnGroup, InTableBody}
 use Rattle.html_rules.specs.declared.tag_set.TagSet.TheVariants as set
 
 abbrev pub in_table : List Row
 in_table =
-    row_if Character (CurrentIs set.FosterTarget) KeepMode (Reprocess InTableText)
-    ∷ row_if Null (CurrentIs set.FosterTarget) KeepMode (Reprocess InTableText)
+    row_if Character (CurrentIs set.FosterTarget) SaveMode (Reprocess InTableText)
+    ∷ row_if Null (CurrentIs set.FosterTarget) SaveMode (Reprocess InTableText)
     ∷ row Character (ParseError ▸ EnableFosterParenting) fostered
     ∷ row Null (ParseError ▸ EnableFosterParenting) fostered
     ∷ row Comment AppendComment Done

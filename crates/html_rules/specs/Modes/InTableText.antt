@@ -1,10 +1,10 @@
 -- The "in table text" insertion mode (HTML Standard, section 13.2.6.4.10).
 use Rattle.std.specs.Prelude.{List, [], ◌∷◌}
-use Rattle.html_rules.specs.Table.{Row, Character, Null, AnythingElse, ParseError, KeepText, TellPendingText, Done, ReprocessInOriginal, row}
+use Rattle.html_rules.specs.Table.{Row, Character, Null, AnythingElse, ParseError, KeepText, InsertPendingText, Done, ReprocessInOriginal, row}
 
 abbrev pub in_table_text : List Row
 in_table_text =
     row Null ParseError Done
     ∷ row Character KeepText Done
-    ∷ row AnythingElse TellPendingText ReprocessInOriginal
+    ∷ row AnythingElse InsertPendingText ReprocessInOriginal
     ∷ []

@@ -8,7 +8,7 @@ use Rattle.markup.specs.declared.quirks.QuirksMode.TheVariants.{Quirks}
 use Rattle.html_tokens.specs.declared.tags.Tag.{Tag}
 use Rattle.html_tokens.specs.declared.token.Token.{Token}
 use Rattle.html_tokens.specs.declared.token.Token.TheVariants.{DoctypeToken, TagToken, CommentToken, CharacterTokens, NullCharacterToken, EOFToken, ParseError as ErrorToken}
-use Rattle.html_rules.specs.Actions.{act, append_in_body, back_to_original, for_tag, forget_form_elem, frameset_not_ok, frameset_not_ok_unless_white, insert_form_void, keep_mode, keep_text, pop_template_mode, push_head, push_head_elem, push_template_mode, remove_form_elem, remove_from_stack_if, remove_head_elem, set_form_elem, set_foster_parenting, set_head_elem, set_ignore_lf, set_mode, set_quirks_mode, set_template_mode, tell_pending_text, tell_text, without_pending_text}
+use Rattle.html_rules.specs.Actions.{act, append_in_body, restore_mode, for_tag, forget_form_elem, frameset_not_ok, frameset_not_ok_unless_white, insert_form_void, save_mode, keep_text, pop_template_mode, push_head, push_head_elem, push_template_mode, remove_form_elem, remove_from_stack_if, remove_head_elem, set_form_elem, set_foster_parenting, set_head_elem, set_ignore_lf, set_mode, set_quirks_mode, set_template_mode, insert_pending_text, insert_table_text, without_pending_text}
 use Rattle.html_rules.specs.Choice.{choose}
 use Rattle.html_rules.specs.Conditions.{holds}
 use Rattle.html_rules.specs.ForeignContent.{ForeignEnd, Dropped, AsInMode, Closed, close_foreign, close_foreign_by, enter_foreign, foreign_end, foreign_start, foreign_start_at, is_foreign, is_foreign_at, pop_foreign}
@@ -19,7 +19,7 @@ use Rattle.html_rules.specs.Renames.{adjust_attributes, adjust_tag_name}
 use Rattle.html_rules.specs.Reset.{mode_of, mode_of_context, mode_of_open, reset_insertion_mode}
 use Rattle.html_rules.specs.Stack.{parse_error, pop, pop_until_current}
 use Rattle.html_rules.specs.State.{Open, State, adjusted_current_node, current_number, is_in, is_named}
-use Rattle.html_rules.specs.Table.{Action, Nothing, Then, When, ParseError, InsertElement, InsertVoid, InsertVoidAs, InsertFormVoid, InsertNew, InsertNewVoid, CreateRoot, CreateNewRoot, AppendText, AppendReplacement, AppendComment, AppendCommentToDocument, AppendCommentToRoot, InsertTemplate, AddAttributesToRoot, AddAttributesToBody, RemoveBody, Pop, PopUntil, ClearBackTo, Close, CloseToken, CloseP, CloseItem, ImpliedEndTags, ImpliedEndTagsExcept, ImpliedEndTagsExceptToken, ImpliedEndTagsThoroughly, AnyOtherEndTag, CheckBodyEnd, SetHeadElem, PushHeadElem, RemoveHeadElem, SetFormElem, ForgetFormElem, RemoveFormElem, Reconstruct, InsertFormatting, InsertMarker, ClearToMarker, AdoptionAgency, AdoptNobr, CloseMisnestedA, SwitchTo, KeepMode, BackToOriginal, ResetMode, PushTemplateMode, SetTemplateMode, PopTemplateMode, SetQuirks, FramesetNotOk, FramesetNotOkUnlessWhite, IgnoreLineFeed, EnableFosterParenting, DisableFosterParenting, KeepText, TellPendingText, EnterForeign, InsertForeign, PopForeign, CloseForeign, Condition, Always, Not, Both, ScriptingEnabled, IframeSrcdoc, InFragment, ContextIs, InQuirksMode, FramesetOk, CurrentIs, CurrentIsToken, RootAlone, SecondIsBody, TemplateOpen, HasTemplateModes, InScope, TokenInScope, HasFormElem, FormElemInScope, FormElemIsCurrent, AListed, TypeHidden, FontAttributes, EndsInHtml, ForeignEndError}
+use Rattle.html_rules.specs.Table.{Action, Nothing, Then, When, ParseError, InsertElement, InsertVoid, InsertVoidAs, InsertFormVoid, InsertNew, InsertNewVoid, CreateRoot, CreateNewRoot, AppendText, AppendReplacement, AppendComment, AppendCommentToDocument, AppendCommentToRoot, InsertTemplate, AddAttributesToRoot, AddAttributesToBody, RemoveBody, Pop, PopUntil, ClearBackTo, Close, CloseToken, CloseP, CloseItem, ImpliedEndTags, ImpliedEndTagsExcept, ImpliedEndTagsExceptToken, ImpliedEndTagsThoroughly, AnyOtherEndTag, CheckBodyEnd, SetHeadElem, PushHeadElem, RemoveHeadElem, SetFormElem, ForgetFormElem, RemoveFormElem, Reconstruct, InsertFormatting, InsertMarker, ClearToMarker, AdoptionAgency, AdoptNobr, CloseMisnestedA, SwitchTo, SaveMode, RestoreMode, ResetMode, PushTemplateMode, SetTemplateMode, PopTemplateMode, SetQuirks, FramesetNotOk, FramesetNotOkUnlessWhite, IgnoreLineFeed, EnableFosterParenting, DisableFosterParenting, KeepText, InsertPendingText, EnterForeign, InsertForeign, PopForeign, CloseForeign, Condition, Always, Not, Both, ScriptingEnabled, IframeSrcdoc, InFragment, ContextIs, InQuirksMode, FramesetOk, CurrentIs, CurrentIsToken, RootAlone, SecondIsBody, TemplateOpen, HasTemplateModes, InScope, TokenInScope, HasFormElem, FormElemInScope, FormElemIsCurrent, AListed, TypeHidden, FontAttributes, EndsInHtml, ForeignEndError}
 use Rattle.html_rules.specs.Templates.{attach_shadow_root, insert_template, may_be_shadow_root, number_of}
 use Rattle.html_rules.specs.Tokens.{attributes_of, is_white, name_of, text_of}
 use Rattle.html_rules.specs.declared.insertion_mode.InsertionMode.{InsertionMode}
@@ -97,9 +97,9 @@ module _ (g : ℕ → ℕ) (commutes : Commutes g) where
   unfolding set_mode
   set_mode-louder m s = refl
 
-  pub back_to_original-louder : IsLoud g commutes back_to_original
-  unfolding back_to_original
-  back_to_original-louder s = refl
+  pub restore_mode-louder : IsLoud g commutes restore_mode
+  unfolding restore_mode
+  restore_mode-louder s = refl
 
   pub set_ignore_lf-louder : (b : Bool) → IsLoud g commutes (set_ignore_lf b)
   unfolding set_ignore_lf
@@ -133,12 +133,12 @@ module _ (g : ℕ → ℕ) (commutes : Commutes g) where
       (append_in_body-louder text))
       (set_foster-louder false)
 
-  tell_text-louder : (text : List ℕ) → IsLoud g commutes (tell_text text)
-  tell_text-louder text s = choose-louder g commutes (is_white text) (append_text text) (λ s. set_foster_parenting false (append_in_body text (set_foster_parenting true (parse_error s)))) (append_text-louder g commutes text) (fostered-louder text) s
+  insert_table_text-louder : (text : List ℕ) → IsLoud g commutes (insert_table_text text)
+  insert_table_text-louder text s = choose-louder g commutes (is_white text) (append_text text) (λ s. set_foster_parenting false (append_in_body text (set_foster_parenting true (parse_error s)))) (append_text-louder g commutes text) (fostered-louder text) s
 
-  tell_pending-louder : IsLoud g commutes tell_pending_text
-  unfolding tell_pending_text
-  tell_pending-louder s = ap without_pending_text (tell_text-louder s.pending_table_text s)
+  tell_pending-louder : IsLoud g commutes insert_pending_text
+  unfolding insert_pending_text
+  tell_pending-louder s = ap without_pending_text (insert_table_text-louder s.pending_table_text s)
 
   -- pointers
 
@@ -198,7 +198,7 @@ module _ (g : ℕ → ℕ) (commutes : Commutes g) where
   when-louder b b' f e is s = ap (λ b. choose b (λ _. f (louder g s)) (λ _. louder g s)) e ∙ choose-louder g commutes b f (λ s. s) is (same-louder g commutes) s
 
   pub act-louder : (a : Action) (t : Token) → IsLoud g commutes (act a t)
-  unfolding keep_mode push_template_mode pop_template_mode set_template_mode frameset_not_ok set_head_elem push_head_elem remove_head_elem set_form_elem forget_form_elem remove_form_elem keep_text foreign_start pop_foreign close_foreign foreign_end pop_until_current
+  unfolding save_mode push_template_mode pop_template_mode set_template_mode frameset_not_ok set_head_elem push_head_elem remove_head_elem set_form_elem forget_form_elem remove_form_elem keep_text foreign_start pop_foreign close_foreign foreign_end pop_until_current
   act-louder Nothing t s = refl
   act-louder (Then a b) t s = then-louder g commutes (act a t) (act b t) (act-louder a t) (act-louder b t) s
   act-louder (When c a) t s = when-louder (holds c t s) (holds c t (louder g s)) (act a t) (holds-louder c t s) (act-louder a t) s
@@ -247,8 +247,8 @@ module _ (g : ℕ → ℕ) (commutes : Commutes g) where
   act-louder AdoptNobr t s = adoption_agency-louder g commutes (codes "nobr") s
   act-louder CloseMisnestedA t s = misnested-louder g commutes s
   act-louder (SwitchTo mode) t s = set_mode-louder mode s
-  act-louder KeepMode t s = refl
-  act-louder BackToOriginal t s = back_to_original-louder s
+  act-louder SaveMode t s = refl
+  act-louder RestoreMode t s = restore_mode-louder s
   act-louder ResetMode t s = reset-louder s
   act-louder (PushTemplateMode mode) t s = refl
   act-louder (SetTemplateMode mode) t s = refl
@@ -260,7 +260,7 @@ module _ (g : ℕ → ℕ) (commutes : Commutes g) where
   act-louder EnableFosterParenting t s = set_foster-louder true s
   act-louder DisableFosterParenting t s = set_foster-louder false s
   act-louder KeepText t s = refl
-  act-louder TellPendingText t s = tell_pending-louder s
+  act-louder InsertPendingText t s = tell_pending-louder s
   act-louder (EnterForeign namespace) t s = for_tag-louder (enter_foreign namespace) t (enter_foreign-louder namespace) s
   act-louder InsertForeign t s = for_tag-louder foreign_start t (λ tag s. foreign_start_at-louder (adjusted_current_node s) tag s) s
   act-louder PopForeign t s = refl

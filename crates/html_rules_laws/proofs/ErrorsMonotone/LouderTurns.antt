@@ -4,7 +4,7 @@ use Rattle.html_tokens.specs.declared.replies.TokenSinkResult.TheVariants as rep
 use Rattle.html_tokens.specs.declared.token.Doctype.{Doctype}
 use Rattle.html_tokens.specs.declared.token.Token.{Token}
 use Rattle.html_tokens.specs.declared.token.Token.TheVariants.{DoctypeToken, TagToken, CommentToken, CharacterTokens, NullCharacterToken, EOFToken, ParseError}
-use Rattle.html_rules.specs.Actions.{act, back_to_original, set_ignore_lf, set_mode, set_quirks_mode}
+use Rattle.html_rules.specs.Actions.{act, restore_mode, set_ignore_lf, set_mode, set_quirks_mode}
 use Rattle.html_rules.specs.Choice.{choose}
 use Rattle.html_rules.specs.Doctypes.{doctype_error, quirks_of}
 use Rattle.html_rules.specs.ForeignContent.{is_foreign}
@@ -14,7 +14,7 @@ use Rattle.html_rules.specs.Rules.{Ending, Finished, Again, Replied, Settled, Tu
 use Rattle.html_rules.specs.Stack.{parse_error}
 use Rattle.html_rules.specs.State.{Open, State, current_number}
 use Rattle.html_rules.specs.Step.{behind, behind_line_feed, doctype_taken, first_doctype_taken, if_kept, taken, taken_by, text_taken, untouched}
-use Rattle.html_rules.specs.Table.{Row, Conclusion, Done, Acknowledged, Reprocess, ReprocessInOriginal, ReprocessInMode, Using, UsingThen, UsingCurrentMode, RawText, PlainText, RunScript, TellEncoding}
+use Rattle.html_rules.specs.Table.{Row, Conclusion, Done, Acknowledged, Reprocess, ReprocessInOriginal, ReprocessInMode, Using, UsingThen, UsingCurrentMode, RawText, PlainText, RunScript, ReportEncoding}
 use Rattle.html_rules.specs.Tokens.{class_fits}
 use Rattle.html_rules.specs.declared.insertion_mode.InsertionMode.{InsertionMode}
 use Rattle.html_rules.specs.declared.insertion_mode.InsertionMode.TheVariants.{Initial, BeforeHtml}
@@ -40,7 +40,7 @@ module _ (g : ℕ → ℕ) (commutes : Commutes g) where
   AreLoud using = (m : InsertionMode) (t : Token) (s : State) → using m t (louder g s) ≡ louder_turn g (using m t s)
 
   concluded-louder : (using : InsertionMode → Token → State → Turn) → AreLoud using → (c : Conclusion) (t : Token) (script : ℕ) (s : State) → concluded using c t script (louder g s) ≡ louder_turn g (concluded using c t script s)
-  unfolding AreLoud set_mode back_to_original
+  unfolding AreLoud set_mode restore_mode
   concluded-louder using is Done t script s = refl
   concluded-louder using is Acknowledged t script s = refl
   concluded-louder using is (Reprocess m) t script s = refl
@@ -53,7 +53,7 @@ module _ (g : ℕ → ℕ) (commutes : Commutes g) where
   concluded-louder using is (RawText kind) t script s = refl
   concluded-louder using is PlainText t script s = refl
   concluded-louder using is RunScript t script s = refl
-  concluded-louder using is TellEncoding t script s = refl
+  concluded-louder using is ReportEncoding t script s = refl
 
   turn_by_row-louder : (using : InsertionMode → Token → State → Turn) → AreLoud using → (r : Row) (t : Token) (s : State) → turn_by_row using r t (louder g s) ≡ louder_turn g (turn_by_row using r t s)
   turn_by_row-louder using is r t s =

@@ -7,7 +7,7 @@ use Rattle.markup.specs.declared.attributes.Attribute.{Attribute}
 use Rattle.html_tokens.specs.declared.tags.Tag.{Tag}
 use Rattle.html_tokens.specs.declared.token.Token.{Token}
 use Rattle.html_tokens.specs.declared.token.Token.TheVariants.{TagToken}
-use Rattle.html_rules.specs.Actions.{act, back_to_original, for_tag, forget_form_elem, frameset_not_ok, frameset_not_ok_unless_white, insert_form_void, keep_mode, keep_text, pop_template_mode, push_head, push_head_elem, push_template_mode, remove_form_elem, remove_head_elem, set_foster_parenting, set_form_elem, set_head_elem, set_ignore_lf, set_mode, set_quirks_mode, set_template_mode, tell_pending_text, without_first}
+use Rattle.html_rules.specs.Actions.{act, restore_mode, for_tag, forget_form_elem, frameset_not_ok, frameset_not_ok_unless_white, insert_form_void, save_mode, keep_text, pop_template_mode, push_head, push_head_elem, push_template_mode, remove_form_elem, remove_head_elem, set_foster_parenting, set_form_elem, set_head_elem, set_ignore_lf, set_mode, set_quirks_mode, set_template_mode, insert_pending_text, without_first}
 use Rattle.html_rules.specs.Adoption.{adopt_from, handle_misnested_a_tags}
 use Rattle.html_rules.specs.Choice.{choose}
 use Rattle.html_rules.specs.Conditions.{holds}
@@ -18,7 +18,7 @@ use Rattle.html_rules.specs.Places.{append_comment, append_comment_to_doc, appen
 use Rattle.html_rules.specs.Reset.{reset_insertion_mode}
 use Rattle.html_rules.specs.Stack.{add_attributes_to, add_attributes_to_body, add_attributes_to_root, body_elem, close_item, expect_to_close, generate_implied_end_tags, parse_error, pop_but_root, pop_until, pop_until_current, remove_body, remove_if}
 use Rattle.html_rules.specs.State.{Open, Entry, State, adjusted_current_node, is_in, is_named}
-use Rattle.html_rules.specs.Table.{Action, Nothing, Then, When, ParseError, InsertElement, InsertVoid, InsertVoidAs, InsertFormVoid, InsertNew, InsertNewVoid, CreateRoot, CreateNewRoot, AppendText, AppendReplacement, AppendComment, AppendCommentToDocument, AppendCommentToRoot, InsertTemplate, AddAttributesToRoot, AddAttributesToBody, RemoveBody, Pop, PopUntil, ClearBackTo, Close, CloseToken, CloseP, CloseItem, ImpliedEndTags, ImpliedEndTagsExcept, ImpliedEndTagsExceptToken, ImpliedEndTagsThoroughly, AnyOtherEndTag, CheckBodyEnd, SetHeadElem, PushHeadElem, RemoveHeadElem, SetFormElem, ForgetFormElem, RemoveFormElem, Reconstruct, InsertFormatting, InsertMarker, ClearToMarker, AdoptionAgency, AdoptNobr, CloseMisnestedA, SwitchTo, KeepMode, BackToOriginal, ResetMode, PushTemplateMode, SetTemplateMode, PopTemplateMode, SetQuirks, FramesetNotOk, FramesetNotOkUnlessWhite, IgnoreLineFeed, EnableFosterParenting, DisableFosterParenting, KeepText, TellPendingText, EnterForeign, InsertForeign, PopForeign, CloseForeign}
+use Rattle.html_rules.specs.Table.{Action, Nothing, Then, When, ParseError, InsertElement, InsertVoid, InsertVoidAs, InsertFormVoid, InsertNew, InsertNewVoid, CreateRoot, CreateNewRoot, AppendText, AppendReplacement, AppendComment, AppendCommentToDocument, AppendCommentToRoot, InsertTemplate, AddAttributesToRoot, AddAttributesToBody, RemoveBody, Pop, PopUntil, ClearBackTo, Close, CloseToken, CloseP, CloseItem, ImpliedEndTags, ImpliedEndTagsExcept, ImpliedEndTagsExceptToken, ImpliedEndTagsThoroughly, AnyOtherEndTag, CheckBodyEnd, SetHeadElem, PushHeadElem, RemoveHeadElem, SetFormElem, ForgetFormElem, RemoveFormElem, Reconstruct, InsertFormatting, InsertMarker, ClearToMarker, AdoptionAgency, AdoptNobr, CloseMisnestedA, SwitchTo, SaveMode, RestoreMode, ResetMode, PushTemplateMode, SetTemplateMode, PopTemplateMode, SetQuirks, FramesetNotOk, FramesetNotOkUnlessWhite, IgnoreLineFeed, EnableFosterParenting, DisableFosterParenting, KeepText, InsertPendingText, EnterForeign, InsertForeign, PopForeign, CloseForeign}
 use Rattle.html_rules.specs.Templates.{insert_template}
 use Rattle.html_rules.specs.Tokens.{attributes_of, name_of, text_of}
 use Rattle.html_rules.specs.declared.insertion_mode.InsertionMode.{InsertionMode}
@@ -74,7 +74,7 @@ aside_kept = record {
   opens = λ namespace name attributes dup s. other s _ _ _ _ _;
   adopts = from-aside;
   adds = body-aside;
-  removes = remove_if-aside
+  removes = remove_if-aside;
 }
 
 -- actions
@@ -122,7 +122,7 @@ tag-rest : (step : Tag → State → State) (t : Token) → ((tag : Tag) → Asi
 tag-rest step t h s = aside-rest s _ (for_tag-keeps aside_kept step t h s)
 
 pub act-rest : (a : Action) → sets_template_modes a ≡ true → (t : Token) (s : State) → IsRest s (act a t s)
-unfolding append_comment append_comment_to_doc append_comment_to_html create_root add_attributes_to_root add_attributes_to_body remove_body generate_implied_end_tags pop_but_root push_head_elem remove_head_elem remove_form_elem create_formatting_element_for push_marker clear_active_formatting_to_marker handle_misnested_a_tags set_mode keep_mode back_to_original push_template_mode pop_template_mode set_template_mode set_quirks_mode frameset_not_ok frameset_not_ok_unless_white set_ignore_lf set_foster_parenting set_head_elem set_form_elem forget_form_elem keep_text tell_pending_text reset_insertion_mode foreign_start pop_foreign close_foreign
+unfolding append_comment append_comment_to_doc append_comment_to_html create_root add_attributes_to_root add_attributes_to_body remove_body generate_implied_end_tags pop_but_root push_head_elem remove_head_elem remove_form_elem create_formatting_element_for push_marker clear_active_formatting_to_marker handle_misnested_a_tags set_mode save_mode restore_mode push_template_mode pop_template_mode set_template_mode set_quirks_mode frameset_not_ok frameset_not_ok_unless_white set_ignore_lf set_foster_parenting set_head_elem set_form_elem forget_form_elem keep_text insert_pending_text reset_insertion_mode foreign_start pop_foreign close_foreign
 act-rest Nothing p t s = rest-same s
 act-rest (Then a b) p t s = let parts = and_parts (sets_template_modes a) (sets_template_modes b) p in rest-after s (act a t s) _ (act-rest a parts.0 t s) (act-rest b parts.1 t (act a t s))
 act-rest (When c a) p t s = rest-either (holds c t s) s (act a t s) s (act-rest a p t s) (rest-same s)
@@ -171,8 +171,8 @@ act-rest AdoptionAgency p t s = aside-rest s _ (agency-keeps aside_kept (name_of
 act-rest AdoptNobr p t s = aside-rest s _ (agency-keeps aside_kept (codes "nobr") s)
 act-rest CloseMisnestedA p t s = aside-rest s _ (misnested-keeps aside_kept (last_named (codes "a") s.active_formatting) s)
 act-rest (SwitchTo mode) p t s = record { context = refl; ended = refl; modes = λ m. m }
-act-rest KeepMode p t s = record { context = refl; ended = refl; modes = λ m. m }
-act-rest BackToOriginal p t s = record { context = refl; ended = refl; modes = λ m. m }
+act-rest SaveMode p t s = record { context = refl; ended = refl; modes = λ m. m }
+act-rest RestoreMode p t s = record { context = refl; ended = refl; modes = λ m. m }
 act-rest ResetMode p t s = record { context = refl; ended = refl; modes = λ m. m }
 act-rest (PushTemplateMode mode) p t s = record { context = refl; ended = refl; modes = λ m. rw p m }
 act-rest (SetTemplateMode mode) p t s = record { context = refl; ended = refl; modes = λ m. rw p (first-modes s.template_modes m) }
@@ -184,7 +184,7 @@ act-rest IgnoreLineFeed p t s = record { context = refl; ended = refl; modes = �
 act-rest EnableFosterParenting p t s = record { context = refl; ended = refl; modes = λ m. m }
 act-rest DisableFosterParenting p t s = record { context = refl; ended = refl; modes = λ m. m }
 act-rest KeepText p t s = record { context = refl; ended = refl; modes = λ m. m }
-act-rest TellPendingText p t s = let told = tell-keeps aside_kept s.pending_table_text s in record { context = told.context; ended = told.ended; modes = λ m. rw told.modes m }
+act-rest InsertPendingText p t s = let told = tell-keeps aside_kept s.pending_table_text s in record { context = told.context; ended = told.ended; modes = λ m. rw told.modes m }
 act-rest (EnterForeign namespace) p t s = tag-rest (enter_foreign namespace) t (enter-keeps aside_kept namespace) s
 act-rest InsertForeign p t s = tag-rest foreign_start t (λ tag s. foreign-keeps aside_kept (adjusted_current_node s) tag s) s
 act-rest PopForeign p t s = aside-rest s _ (pop_until_current-keeps aside_kept ends_foreign s)

@@ -53,5 +53,5 @@ framed_kept = record {
   opens = λ namespace name attributes dup s. other s _ _ _ _;
   adopts = from-framed;
   adds = body-framed;
-  removes = remove_if-framed
+  removes = remove_if-framed;
 }

@@ -10,7 +10,7 @@ use Rattle.markup.specs.declared.quirks.QuirksMode.{QuirksMode}
 use Rattle.markup.specs.declared.flags.ElementFlags.{ElementFlags}
 use Rattle.html_tokens.specs.declared.tags.Tag.{Tag}
 use Rattle.html_tokens.specs.declared.token.Token.{Token}
-use Rattle.html_rules.specs.Actions.{act, back_to_original, for_tag, forget_form_elem, frameset_not_ok, frameset_not_ok_unless_white, keep_mode, keep_text, pop_template_mode, push_head, push_head_elem, push_template_mode, remove_form_elem, remove_head_elem, set_foster_parenting, set_form_elem, set_head_elem, set_ignore_lf, set_mode, set_quirks_mode, set_template_mode, tell_pending_text}
+use Rattle.html_rules.specs.Actions.{act, restore_mode, for_tag, forget_form_elem, frameset_not_ok, frameset_not_ok_unless_white, save_mode, keep_text, pop_template_mode, push_head, push_head_elem, push_template_mode, remove_form_elem, remove_head_elem, set_foster_parenting, set_form_elem, set_head_elem, set_ignore_lf, set_mode, set_quirks_mode, set_template_mode, insert_pending_text}
 use Rattle.html_rules.specs.Adoption.{Walk, adopt, adopt_from, begin_walk, between, copy_if, handle_misnested_a_tags, listed_as, opened_before, walk, with_copy}
 use Rattle.html_rules.specs.Conditions.{holds}
 use Rattle.html_rules.specs.ForeignContent.{close_foreign, enter_foreign, foreign_end, foreign_start, pop_foreign}
@@ -20,7 +20,7 @@ use Rattle.html_rules.specs.Places.{append_comment, append_comment_to_doc, appen
 use Rattle.html_rules.specs.Reset.{reset_insertion_mode}
 use Rattle.html_rules.specs.Stack.{add_attributes_to, add_attributes_to_body, add_attributes_to_root, body_elem, close_item, expect_to_close, generate_implied_end_tags, parse_error, pop_but_root, pop_until, pop_until_current, remove_body, remove_if, root_number}
 use Rattle.html_rules.specs.State.{Open, State, adjusted_current_node, current_node, is_in, is_named}
-use Rattle.html_rules.specs.Table.{Action, Then, When, ParseError, InsertElement, InsertVoid, InsertVoidAs, InsertFormVoid, InsertNew, InsertNewVoid, CreateRoot, CreateNewRoot, AppendText, AppendReplacement, AppendComment, AppendCommentToDocument, AppendCommentToRoot, InsertTemplate, AddAttributesToRoot, AddAttributesToBody, RemoveBody, PopUntil, Close, CloseToken, CloseP, CloseItem, ImpliedEndTagsExcept, ImpliedEndTagsExceptToken, AnyOtherEndTag, CheckBodyEnd, SetHeadElem, PushHeadElem, RemoveHeadElem, SetFormElem, RemoveFormElem, ForgetFormElem, Reconstruct, InsertFormatting, AdoptionAgency, AdoptNobr, CloseMisnestedA, SetQuirks, FramesetNotOkUnlessWhite, TellPendingText, EnterForeign, InsertForeign, CloseForeign}
+use Rattle.html_rules.specs.Table.{Action, Then, When, ParseError, InsertElement, InsertVoid, InsertVoidAs, InsertFormVoid, InsertNew, InsertNewVoid, CreateRoot, CreateNewRoot, AppendText, AppendReplacement, AppendComment, AppendCommentToDocument, AppendCommentToRoot, InsertTemplate, AddAttributesToRoot, AddAttributesToBody, RemoveBody, PopUntil, Close, CloseToken, CloseP, CloseItem, ImpliedEndTagsExcept, ImpliedEndTagsExceptToken, AnyOtherEndTag, CheckBodyEnd, SetHeadElem, PushHeadElem, RemoveHeadElem, SetFormElem, RemoveFormElem, ForgetFormElem, Reconstruct, InsertFormatting, AdoptionAgency, AdoptNobr, CloseMisnestedA, SetQuirks, FramesetNotOkUnlessWhite, InsertPendingText, EnterForeign, InsertForeign, CloseForeign}
 use Rattle.html_rules.specs.Templates.{insert_template}
 use Rattle.html_rules.specs.Tokens.{attributes_of, name_of}
 use Rattle.html_rules.specs.declared.tag_set.TagSet.TheVariants as set
@@ -230,15 +230,15 @@ grown_kept = record {
   opens = open_element-grows;
   adopts = adopt_from-grows;
   adds = attributes_to-grows;
-  removes = remove_if-grows
+  removes = remove_if-grows;
 }
 
 formatting-grows : (tag : Tag) → Grows (create_formatting_element_for tag)
 unfolding create_formatting_element_for
 formatting-grows tag s = kept-after s _ _ (grown_kept.stacks s _ _ _) (list-keeps grown_kept tag _)
 
-pending-grows : Grows tell_pending_text
-unfolding tell_pending_text
+pending-grows : Grows insert_pending_text
+unfolding insert_pending_text
 pending-grows s = let is = tell-keeps grown_kept s.pending_table_text s in record { grown = record { nodes = is.grown.nodes }; head = is.head; form = is.form; context = is.context }
 
 or_parts : (a b : Bool) → (a || b) ≡ false → (a ≡ false) × (b ≡ false)
@@ -257,7 +257,7 @@ sets_pointer _ = false
 
 -- no action makes a tree smaller, and any other one keeps the pointers
 pub act-grows : (a : Action) → sets_pointer a ≡ false → (t : Token) → Grows (act a t)
-unfolding pop_but_root pop_until_current remove_body handle_misnested_a_tags foreign_start close_foreign set_foster_parenting generate_implied_end_tags set_head_elem push_head_elem remove_head_elem set_form_elem remove_form_elem forget_form_elem push_marker clear_active_formatting_to_marker set_mode keep_mode back_to_original reset_insertion_mode push_template_mode set_template_mode pop_template_mode frameset_not_ok set_ignore_lf keep_text pop_foreign
+unfolding pop_but_root pop_until_current remove_body handle_misnested_a_tags foreign_start close_foreign set_foster_parenting generate_implied_end_tags set_head_elem push_head_elem remove_head_elem set_form_elem remove_form_elem forget_form_elem push_marker clear_active_formatting_to_marker set_mode save_mode restore_mode reset_insertion_mode push_template_mode set_template_mode pop_template_mode frameset_not_ok set_ignore_lf keep_text pop_foreign
 act-grows (Then a b) e t s =
     let each = or_parts (sets_pointer a) (sets_pointer b) e in
     kept-after s (act a t s) (act b t (act a t s)) (act-grows a each.0 t s) (act-grows b each.1 t (act a t s))
@@ -296,7 +296,7 @@ act-grows InsertFormatting e t s = for_tag-keeps grown_kept create_formatting_el
 act-grows AdoptionAgency e t s = agency-keeps grown_kept (name_of t) s
 act-grows AdoptNobr e t s = agency-keeps grown_kept (codes "nobr") s
 act-grows CloseMisnestedA e t s = misnested-keeps grown_kept (last_named (codes "a") s.active_formatting) s
-act-grows TellPendingText e t s = pending-grows s
+act-grows InsertPendingText e t s = pending-grows s
 act-grows (EnterForeign namespace) e t s = for_tag-keeps grown_kept (enter_foreign namespace) t (enter-keeps grown_kept namespace) s
 act-grows InsertForeign e t s = for_tag-keeps grown_kept foreign_start t (λ tag s. foreign-keeps grown_kept (adjusted_current_node s) tag s) s
 act-grows CloseForeign e t s = close_by-keeps grown_kept (foreign_end (name_of t) s) s

@@ -3,14 +3,14 @@ use Rattle.std.proofs.Common.{◌≡◌, ℕ, zero, suc, Bool, true, false, List
 use Rattle.std.specs.Prelude.{◌&&◌}
 use Rattle.std.proofs.lemmas.Bool.{and_parts}
 use Rattle.html_tokens.specs.declared.token.Token.{Token}
-use Rattle.html_rules.specs.Actions.{act, back_to_original, set_mode}
+use Rattle.html_rules.specs.Actions.{act, restore_mode, set_mode}
 use Rattle.html_rules.specs.Choice.{choose}
 use Rattle.html_rules.specs.ForeignContent.{is_foreign}
 use Rattle.html_rules.specs.Modes.Foreign.{in_foreign_content}
 use Rattle.html_rules.specs.Rules.{Ending, Finished, Again, Replied, Settled, Turn, check_acknowledged, concluded, first_fit, fits, four_for_each, is_self_closing, most_modes, rows, settle, settled_by, turn, turn_by_row, using_rules_for, within}
 use Rattle.html_rules.specs.Stack.{parse_error}
 use Rattle.html_rules.specs.State.{Open, State, current_number}
-use Rattle.html_rules.specs.Table.{Row, Action, Nothing, Conclusion, Done, Acknowledged, Reprocess, ReprocessInOriginal, ReprocessInMode, Using, UsingThen, UsingCurrentMode, RawText, PlainText, RunScript, TellEncoding}
+use Rattle.html_rules.specs.Table.{Row, Action, Nothing, Conclusion, Done, Acknowledged, Reprocess, ReprocessInOriginal, ReprocessInMode, Using, UsingThen, UsingCurrentMode, RawText, PlainText, RunScript, ReportEncoding}
 use Rattle.html_rules.specs.declared.insertion_mode.InsertionMode.{InsertionMode}
 use Rattle.html_rules_laws.proofs.FirstFit.{by_fit}
 
@@ -29,7 +29,7 @@ pub record IsKept (R : State → State → Type 0) (test : Action → Bool) : Ty
   pub after : (s r q : State) → R s r → R r q → R s q
   pub acts : (a : Action) → test a ≡ true → (t : Token) (s : State) → R s (act a t s)
   pub moves : (m : InsertionMode) (s : State) → R s (set_mode m s)
-  pub returns : (s : State) → R s (back_to_original s)
+  pub returns : (s : State) → R s (restore_mode s)
   pub errs : (s : State) → R s (parse_error s)
   pub modes : (m : InsertionMode) → all_pass test (rows m) ≡ true
   pub foreign : all_pass test in_foreign_content ≡ true
@@ -48,7 +48,7 @@ module _ (R : State → State → Type 0) (test : Action → Bool) (is : IsKept 
   concluded-kept using t go (RawText kind) h script s = is.same s
   concluded-kept using t go PlainText h script s = is.same s
   concluded-kept using t go RunScript h script s = is.same s
-  concluded-kept using t go TellEncoding h script s = is.same s
+  concluded-kept using t go ReportEncoding h script s = is.same s
 
   first-kept : (using : InsertionMode → Token → State → Turn) (t : Token) → ((m : InsertionMode) (s : State) → R s (using m t s).state) → (rs : List Row) → all_pass test rs ≡ true → (s : State) → R s (turn_by_row using (first_fit rs t s) t s).state
   first-kept using t go [] h s = is.acts Nothing is.nothing t s

@@ -7,7 +7,7 @@ use Rattle.markup.specs.declared.attributes.Attribute.{Attribute}
 use Rattle.html_tokens.specs.declared.tags.Tag.{Tag}
 use Rattle.html_tokens.specs.declared.token.Token.{Token}
 use Rattle.html_tokens.specs.declared.token.Token.TheVariants.{TagToken}
-use Rattle.html_rules.specs.Actions.{append_in_body, for_tag, frameset_not_ok_unless_white, push_head, remove_from_stack_if, set_foster_parenting, tell_text}
+use Rattle.html_rules.specs.Actions.{append_in_body, for_tag, frameset_not_ok_unless_white, push_head, remove_from_stack_if, set_foster_parenting, insert_table_text}
 use Rattle.html_rules.specs.Adoption.{adopt_from, adopt_listed, adopt_open, adoption_agency, adoption_turn, adoption_turns, close_misnested, error_if_not_current, furthest_block, is_number, opened_after, unlist}
 use Rattle.html_rules.specs.Choice.{choose}
 use Rattle.html_rules.specs.ForeignContent.{ForeignEnd, Dropped, AsInMode, Closed, close_foreign_by, enter_foreign, foreign_start_at}
@@ -176,7 +176,7 @@ module _ {R : State → State → Type 0} (is : IsKeptBySteps R) where
   for_tag-keeps step (TagToken tag) h s = h tag s
   for_tag-keeps step t h s = is.same s
 
-  pub tell-keeps : (text : List ℕ) → Keeps R (tell_text text)
+  pub tell-keeps : (text : List ℕ) → Keeps R (insert_table_text text)
   unfolding set_foster_parenting
   tell-keeps text s =
       let fostered : State = set_foster_parenting true (parse_error s) in

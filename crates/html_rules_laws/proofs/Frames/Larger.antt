@@ -7,7 +7,7 @@ use Rattle.markup.specs.declared.quirks.QuirksMode.{QuirksMode}
 use Rattle.html_tokens.specs.declared.token.Doctype.{Doctype}
 use Rattle.html_tokens.specs.declared.token.Token.{Token}
 use Rattle.html_tokens.specs.declared.token.Token.TheVariants.{DoctypeToken, TagToken, CharacterTokens, EOFToken}
-use Rattle.html_rules.specs.Actions.{act, back_to_original, for_tag, forget_form_elem, insert_form_void, set_form_elem, set_head_elem, set_ignore_lf, set_mode, set_quirks_mode}
+use Rattle.html_rules.specs.Actions.{act, restore_mode, for_tag, forget_form_elem, insert_form_void, set_form_elem, set_head_elem, set_ignore_lf, set_mode, set_quirks_mode}
 use Rattle.html_rules.specs.Choice.{choose}
 use Rattle.html_rules.specs.Conditions.{holds}
 use Rattle.html_rules.specs.Doctypes.{doctype_error, quirks_of}
@@ -61,8 +61,8 @@ moved-larger : (m : InsertionMode) (s : State) → Larger s (set_mode m s)
 unfolding set_mode
 moved-larger m s = record { grown = grown-same s.forest; context = refl }
 
-back-larger : (s : State) → Larger s (back_to_original s)
-unfolding back_to_original
+back-larger : (s : State) → Larger s (restore_mode s)
+unfolding restore_mode
 back-larger s = record { grown = grown-same s.forest; context = refl }
 
 error-larger : (s : State) → Larger s (parse_error s)

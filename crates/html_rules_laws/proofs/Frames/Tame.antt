@@ -7,7 +7,7 @@ use Rattle.std.proofs.lemmas.Bool.{and_parts}
 use Rattle.markup.specs.Forest.{node_count}
 use Rattle.markup.specs.declared.attributes.Attribute.{Attribute}
 use Rattle.html_tokens.specs.declared.tags.Tag.{Tag}
-use Rattle.html_rules.specs.Actions.{append_in_body, frameset_not_ok_unless_white, remove_from_stack_if, set_foster_parenting, tell_text}
+use Rattle.html_rules.specs.Actions.{append_in_body, frameset_not_ok_unless_white, remove_from_stack_if, set_foster_parenting, insert_table_text}
 use Rattle.html_rules.specs.Adoption.{Walk, adopt, adopt_from, adopt_listed, adopt_open, adoption_agency, adoption_turn, adoption_turns, begin_walk, between, close_misnested, copy_if, cut_at, furthest_block, is_number, listed_as, opened_after, opened_before, relist, unlist, walk}
 use Rattle.html_rules.specs.Choice.{choose}
 use Rattle.html_rules.specs.ForeignContent.{ForeignEnd, Dropped, AsInMode, Closed, close_foreign_by, enter_foreign, foreign_start_at}
@@ -340,7 +340,7 @@ in_body-tame text s l =
     let made : State = reconstruct_active_formatting_elements s in
     after-tame s (frameset_not_ok_unless_white text made) _ (after-tame s made _ (reconstruct-tame s l) (part-tame made _ (part-same made.open_elems))) (append_text-tame text (frameset_not_ok_unless_white text made))
 
-pub tell-tame : (text : List ℕ) → Tames (tell_text text)
+pub tell-tame : (text : List ℕ) → Tames (insert_table_text text)
 unfolding set_foster_parenting
 tell-tame text s l =
     let fostered : State = set_foster_parenting true (parse_error s) in

@@ -6,7 +6,7 @@ use Rattle.markup.specs.Forest.{node_count}
 use Rattle.html_tokens.specs.declared.tags.Tag.{Tag}
 use Rattle.html_tokens.specs.declared.token.Token.{Token}
 use Rattle.html_tokens.specs.declared.token.Token.TheVariants.{TagToken}
-use Rattle.html_rules.specs.Actions.{act, keep_mode, set_foster_parenting, set_mode}
+use Rattle.html_rules.specs.Actions.{act, save_mode, set_foster_parenting, set_mode}
 use Rattle.html_rules.specs.Choice.{choose}
 use Rattle.html_rules.specs.Conditions.{context_is, holds}
 use Rattle.html_rules.specs.ForeignContent.{is_end_tag, is_start_tag}
@@ -16,7 +16,7 @@ use Rattle.html_rules.specs.Sets.{is_among, mathml_names_of, names_of, svg_names
 use Rattle.html_rules.specs.Shape.{one_if}
 use Rattle.html_rules.specs.Stack.{in_scope}
 use Rattle.html_rules.specs.State.{Open, State, current_is, is_in, is_named}
-use Rattle.html_rules.specs.Table.{Condition, InScope, TokenInScope, CurrentIs, Action, Nothing as NoAction, Then, ParseError, InsertElement, KeepMode, SwitchTo, EnableFosterParenting, DisableFosterParenting}
+use Rattle.html_rules.specs.Table.{Condition, InScope, TokenInScope, CurrentIs, Action, Nothing as NoAction, Then, ParseError, InsertElement, SaveMode, SwitchTo, EnableFosterParenting, DisableFosterParenting}
 use Rattle.html_rules.specs.Tokens.{name_of}
 use Rattle.html_rules.specs.declared.insertion_mode.InsertionMode.{InsertionMode}
 use Rattle.html_rules.specs.declared.insertion_mode.InsertionMode.TheVariants as mode
@@ -121,8 +121,8 @@ moved-nested g template w to r h f n i b = fluid-nested g template (record w { m
 
 -- text of an element comes
 
-text-nested : (g : Ground) (template : Bool) (w : At) (r : State) → Fluid g template w r → is_bodily w.mode ≡ true → has_base w.mode w.base ≡ true → (tag : Tag) → IsLoose (record { number = node_count r.forest; namespace = Html; name = tag.name }) → IsNested (set_mode mode.Text (keep_mode (insert_element_for tag r)))
-unfolding set_mode keep_mode insert_element
+text-nested : (g : Ground) (template : Bool) (w : At) (r : State) → Fluid g template w r → is_bodily w.mode ≡ true → has_base w.mode w.base ≡ true → (tag : Tag) → IsLoose (record { number = node_count r.forest; namespace = Html; name = tag.name }) → IsNested (set_mode mode.Text (save_mode (insert_element_for tag r)))
+unfolding set_mode save_mode insert_element
 text-nested g template w r h f b tag l =
     let x : Open = record { number = node_count r.forest; namespace = Html; name = tag.name } in
     let fits = flow-fits g template w.mode w.base r.open_elems f b h.nested h.base (root-flows g template w.mode w.base h.takes h.in_template) in
@@ -142,7 +142,7 @@ raw kind gd a w = false
 
 module _ (g : Ground) (template : Bool) (t : Token) where
   to-text : (kind : Kind) (a b : Action) (w : At) → (is_insert a && (is_to_text b && ((is_tag_kind kind && loose_kind kind) && (is_bodily w.mode && has_base w.mode w.base)))) ≡ true → is_of kind t ≡ true → (s : State) → Fluid g template w s → IsNested (act b t (act a t s))
-  to-text kind InsertElement (Then KeepMode (SwitchTo mode.Text)) w h k s fluid =
+  to-text kind InsertElement (Then SaveMode (SwitchTo mode.Text)) w h k s fluid =
       let one = and_parts (is_tag_kind kind && loose_kind kind) _ h in
       let two = and_parts (is_bodily w.mode) _ one.1 in
       let three = and_parts (is_tag_kind kind) (loose_kind kind) one.0 in
@@ -156,8 +156,8 @@ module _ (g : Ground) (template : Bool) (t : Token) where
       tagged (EndsBut names) u g k P h = no k
       tagged kind u g k P h = no g
 
-      by : (u : Token) → t ≡ u → is_of kind u ≡ true → is_tag_kind kind ≡ true → loose_kind kind ≡ true → is_bodily w.mode ≡ true → has_base w.mode w.base ≡ true → IsNested (act (Then KeepMode (SwitchTo mode.Text)) u (act InsertElement u s))
-      by u e k i l f b = tagged kind u i k (λ u. IsNested (act (Then KeepMode (SwitchTo mode.Text)) u (act InsertElement u s))) (λ tag same. text-nested g template w s fluid f b tag (name-loose tag.name (kind-loose kind tag l (subst (λ u. is_of kind u ≡ true) same k)) (node_count s.forest)))
+      by : (u : Token) → t ≡ u → is_of kind u ≡ true → is_tag_kind kind ≡ true → loose_kind kind ≡ true → is_bodily w.mode ≡ true → has_base w.mode w.base ≡ true → IsNested (act (Then SaveMode (SwitchTo mode.Text)) u (act InsertElement u s))
+      by u e k i l f b = tagged kind u i k (λ u. IsNested (act (Then SaveMode (SwitchTo mode.Text)) u (act InsertElement u s))) (λ tag same. text-nested g template w s fluid f b tag (name-loose tag.name (kind-loose kind tag l (subst (λ u. is_of kind u ≡ true) same k)) (node_count s.forest)))
   to-text kind InsertElement b w h k s fluid = no h
   to-text kind a b w h k s fluid = no h
 

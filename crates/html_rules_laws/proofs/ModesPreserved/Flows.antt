@@ -6,7 +6,7 @@ use Rattle.markup.specs.Forest.{data_of, element_name, node_count}
 use Rattle.html_tokens.specs.declared.tags.Tag.{Tag}
 use Rattle.html_tokens.specs.declared.token.Token.{Token}
 use Rattle.html_tokens.specs.declared.token.Token.TheVariants.{TagToken}
-use Rattle.html_rules.specs.Actions.{act, for_tag, frameset_not_ok, frameset_not_ok_unless_white, keep_text, remove_form_elem, remove_from_stack_if, set_foster_parenting, set_ignore_lf, set_quirks_mode, tell_pending_text}
+use Rattle.html_rules.specs.Actions.{act, for_tag, frameset_not_ok, frameset_not_ok_unless_white, keep_text, remove_form_elem, remove_from_stack_if, set_foster_parenting, set_ignore_lf, set_quirks_mode, insert_pending_text}
 use Rattle.html_rules.specs.Adoption.{handle_misnested_a_tags}
 use Rattle.std.specs.List.{list_all}
 use Rattle.std.proofs.lemmas.Slice.Eq.{bytes_eq-Decides}
@@ -19,7 +19,7 @@ use Rattle.html_rules.specs.Places.{append_comment, append_comment_to_doc, appen
 use Rattle.html_rules.specs.Sets.{is_among, mathml_names_of, names_in, names_of, svg_names_of}
 use Rattle.html_rules.specs.Stack.{add_attributes_to, add_attributes_to_body, close_item, without_current_but_root, add_attributes_to_root, body_elem, check_body_end, generate_implied_end_tags, parse_error, pop_but_root, pop_until}
 use Rattle.html_rules.specs.State.{Open, State, current_is, is_in, is_named, named_in}
-use Rattle.html_rules.specs.Table.{Action, Nothing, ParseError, InsertElement, InsertVoid, InsertVoidAs, InsertNew, InsertNewVoid, AppendText, AppendReplacement, AppendComment, AppendCommentToDocument, AppendCommentToRoot, AddAttributesToRoot, AddAttributesToBody, Pop, PopUntil, CloseToken, CloseP, CloseItem, ImpliedEndTags, ImpliedEndTagsExcept, ImpliedEndTagsExceptToken, AnyOtherEndTag, CheckBodyEnd, RemoveFormElem, Reconstruct, InsertFormatting, InsertMarker, ClearToMarker, AdoptionAgency, AdoptNobr, CloseMisnestedA, SetQuirks, FramesetNotOk, FramesetNotOkUnlessWhite, IgnoreLineFeed, EnableFosterParenting, DisableFosterParenting, KeepText, TellPendingText, EnterForeign, PopForeign}
+use Rattle.html_rules.specs.Table.{Action, Nothing, ParseError, InsertElement, InsertVoid, InsertVoidAs, InsertNew, InsertNewVoid, AppendText, AppendReplacement, AppendComment, AppendCommentToDocument, AppendCommentToRoot, AddAttributesToRoot, AddAttributesToBody, Pop, PopUntil, CloseToken, CloseP, CloseItem, ImpliedEndTags, ImpliedEndTagsExcept, ImpliedEndTagsExceptToken, AnyOtherEndTag, CheckBodyEnd, RemoveFormElem, Reconstruct, InsertFormatting, InsertMarker, ClearToMarker, AdoptionAgency, AdoptNobr, CloseMisnestedA, SetQuirks, FramesetNotOk, FramesetNotOkUnlessWhite, IgnoreLineFeed, EnableFosterParenting, DisableFosterParenting, KeepText, InsertPendingText, EnterForeign, PopForeign}
 use Rattle.html_rules.specs.Tokens.{attributes_of, name_of}
 use Rattle.html_rules.specs.declared.tag_set.TagSet.{TagSet}
 use Rattle.html_rules.specs.declared.tag_set.TagSet.TheVariants as set
@@ -89,7 +89,7 @@ flows kind gd b InsertFormatting = formatting_kind kind
 flows kind gd b AdoptionAgency = is_tag_kind kind && loose_kind kind
 flows kind gd b AdoptNobr = true
 flows kind gd b CloseMisnestedA = true
-flows kind gd b TellPendingText = true
+flows kind gd b InsertPendingText = true
 flows kind gd b (EnterForeign namespace) = not (is_html namespace)
 flows kind gd b PopForeign = true
 flows kind gd b RemoveFormElem = true
@@ -155,8 +155,8 @@ form-flow : (g : Ground) (o : Option ℕ) (s : State) → IfSome o (λ n. elemen
 form-flow g None s h is = flow-same g s.open_elems
 form-flow g (Some n) s h is = removed-flow g n (codes "form") s h form-loose is
 
-pending-flow : (g : Ground) (s : State) → are_formatting s.active_formatting ≡ true → IsFlow g s.open_elems (tell_pending_text s).open_elems
-unfolding tell_pending_text
+pending-flow : (g : Ground) (s : State) → are_formatting s.active_formatting ≡ true → IsFlow g s.open_elems (insert_pending_text s).open_elems
+unfolding insert_pending_text
 pending-flow g s l = tell-flow g s.pending_table_text s l
 
 body-flow : (g : Ground) (o : Option ℕ) (attributes : List Attribute) (s : State) → IsFlow g s.open_elems (add_attributes_to o attributes s).open_elems
@@ -212,7 +212,7 @@ act-flow g kind gd b InsertFormatting f l t k s e h form fs is = tag-flow g crea
 act-flow g kind gd b AdoptionAgency f l t k s e h form fs is = let tests = and_parts (is_tag_kind kind) _ f in agency-flow g (name_of t) s (token-loose kind t tests.0 tests.1 k) fs is
 act-flow g kind gd b AdoptNobr f l t k s e h form fs is = agency-flow g (codes "nobr") s (names-loose (codes "nobr") nobr-loose) fs is
 act-flow g kind gd b CloseMisnestedA f l t k s e h form fs is = misnested_a-flow g s fs is
-act-flow g kind gd b TellPendingText f l t k s e h form fs is = pending-flow g s fs
+act-flow g kind gd b InsertPendingText f l t k s e h form fs is = pending-flow g s fs
 act-flow g kind gd b (EnterForeign namespace) f l t k s e h form fs is = tag-flow g (enter_foreign namespace) kind t k s (λ tag j. foreign-flow g namespace tag (not_true _ f) s)
 act-flow g kind gd b PopForeign f l t k s e h form fs is = pop_foreign-flow g s
 act-flow g kind gd b RemoveFormElem f l t k s e h form fs is = form-flow g s.form_elem s form is
@@ -224,8 +224,8 @@ tag-framed : (step : Tag → State → State) (t : Token) → ((tag : Tag) (s : 
 tag-framed step (TagToken tag) h s = h tag s
 tag-framed step t h s = framed.same s
 
-pending-framed : (s : State) → IsFramed s (tell_pending_text s)
-unfolding tell_pending_text
+pending-framed : (s : State) → IsFramed s (insert_pending_text s)
+unfolding insert_pending_text
 pending-framed s = let told = tell-keeps framed.framed_kept s.pending_table_text s in record { framed = told.framed; form = told.form }
 
 formatting-framed : (tag : Tag) (s : State) → IsFramed s (create_formatting_element_for tag s)
@@ -272,7 +272,7 @@ act-framed kind gd b InsertFormatting f t s = tag-framed create_formatting_eleme
 act-framed kind gd b AdoptionAgency f t s = agency-keeps framed.framed_kept (name_of t) s
 act-framed kind gd b AdoptNobr f t s = agency-keeps framed.framed_kept (codes "nobr") s
 act-framed kind gd b CloseMisnestedA f t s = misnested-keeps framed.framed_kept (last_named (codes "a") s.active_formatting) s
-act-framed kind gd b TellPendingText f t s = pending-framed s
+act-framed kind gd b InsertPendingText f t s = pending-framed s
 act-framed kind gd b (EnterForeign namespace) f t s = tag-framed (enter_foreign namespace) t ((enter-keeps framed.framed_kept) namespace) s
 act-framed kind gd b PopForeign f t s = pop_until_current-keeps framed.framed_kept ends_foreign s
 act-framed kind gd b RemoveFormElem f t s = unopened-keeps framed.framed_kept s.form_elem s

@@ -5,7 +5,7 @@ use Rattle.std.proofs.lemmas.Bool.{and_parts}
 use Rattle.markup.specs.Forest.{node_count}
 use Rattle.html_tokens.specs.declared.tags.Tag.{Tag}
 use Rattle.html_tokens.specs.declared.token.Token.{Token}
-use Rattle.html_rules.specs.Actions.{act, back_to_original, or_mode, set_mode, tell_pending_text}
+use Rattle.html_rules.specs.Actions.{act, restore_mode, or_mode, set_mode, insert_pending_text}
 use Rattle.html_rules.specs.Choice.{choose}
 use Rattle.html_rules.specs.Conditions.{context_is, holds}
 use Rattle.html_rules.specs.Formatting.{reconstruct_active_formatting_elements, reopen}
@@ -16,7 +16,7 @@ use Rattle.html_rules.specs.Sets.{is_among, mathml_names_of, names_of, svg_names
 use Rattle.html_rules.specs.Shape.{has_root}
 use Rattle.html_rules.specs.Stack.{is_open, open_templates, pop_but_root, without_current_but_root}
 use Rattle.html_rules.specs.State.{Open, Entry, Element, Marker, State, is_in}
-use Rattle.html_rules.specs.Table.{Action, Then, When, InsertElement, AppendText, Pop, Reconstruct, SwitchTo, FramesetNotOkUnlessWhite, TellPendingText, Conclusion, Done, ReprocessInOriginal}
+use Rattle.html_rules.specs.Table.{Action, Then, When, InsertElement, AppendText, Pop, Reconstruct, SwitchTo, FramesetNotOkUnlessWhite, InsertPendingText, Conclusion, Done, ReprocessInOriginal}
 use Rattle.html_rules.specs.declared.insertion_mode.InsertionMode.{InsertionMode}
 use Rattle.html_rules.specs.declared.insertion_mode.InsertionMode.TheVariants as mode
 use Rattle.html_rules.specs.declared.tag_set.TagSet.TheVariants as set
@@ -242,20 +242,20 @@ table-back g template (Some original) m xs ys h f =
     let after = f.flow direct.0 (base-takes g template original (base xs) direct.1.0 direct.1.1) in
     (flow-parts g template original None ys bodily (flow-fits g template original (base xs) ys bodily direct.1.0 after.0 after.1.0 direct.1.1), after.1.1)
 
-told-nested : (kind : Kind) (t : Token) → is_of kind t ≡ true → (s : State) → s.mode ≡ mode.InTableText → are_formatting s.active_formatting ≡ true → Standing s → IsNested s → IsNested (back_to_original (tell_pending_text s))
-unfolding back_to_original
+told-nested : (kind : Kind) (t : Token) → is_of kind t ≡ true → (s : State) → s.mode ≡ mode.InTableText → are_formatting s.active_formatting ≡ true → Standing s → IsNested s → IsNested (restore_mode (insert_pending_text s))
+unfolding restore_mode
 told-nested kind t k s at listed standing n =
     let g : Ground = ground_of s.context_elem in
     let template : Bool = context_is set.Template s.context_elem in
-    let r : State = tell_pending_text s in
-    let aside = act-aside kind TellPendingText refl t s in
-    let like = like-act kind TellPendingText refl refl t k s listed standing (act-framed kind NoGuard Loose TellPendingText refl t s) in
-    let flow = act-flow g kind NoGuard (base s.open_elems) TellPendingText refl (base-solid s.open_elems) t k s refl tt n.form listed standing in
+    let r : State = insert_pending_text s in
+    let aside = act-aside kind InsertPendingText refl t s in
+    let like = like-act kind InsertPendingText refl refl t k s listed standing (act-framed kind NoGuard Loose InsertPendingText refl t s) in
+    let flow = act-flow g kind NoGuard (base s.open_elems) InsertPendingText refl (base-solid s.open_elems) t k s refl tt n.form listed standing in
     let was : fits_table g template s.orig_mode s.open_elems ≡ true = rw at at n.fits in
     let back = table-back g template s.orig_mode r.mode s.open_elems r.open_elems was flow in
-    like-nested s (back_to_original r) (record { context = like.context; modes = like.modes; framed = like.framed; form = like.form; names = like.names }) back.1 (rw aside.original back.0) n
+    like-nested s (restore_mode r) (record { context = like.context; modes = like.modes; framed = like.framed; form = like.form; names = like.names }) back.1 (rw aside.original back.0) n
 
 pub table_text-nested : (using : InsertionMode → Token → State → Turn) (kind : Kind) (a : Action) (e : Conclusion) → table_text_ok a e ≡ true → (t : Token) → is_of kind t ≡ true → (script : ℕ) (s : State) → s.mode ≡ mode.InTableText → are_formatting s.active_formatting ≡ true → Standing s → IsNested s
     → IsNested (concluded using e t script (act a t s)).state
-table_text-nested using kind TellPendingText ReprocessInOriginal h t k script s at listed standing n = told-nested kind t k s at listed standing n
+table_text-nested using kind InsertPendingText ReprocessInOriginal h t k script s at listed standing n = told-nested kind t k s at listed standing n
 table_text-nested using kind a e h t k script s at listed standing n = no h

@@ -9,7 +9,7 @@ use Rattle.markup.specs.declared.names.QualName.{QualName}
 use Rattle.html_tokens.specs.declared.tags.Tag.{Tag}
 use Rattle.html_tokens.specs.declared.token.Token.{Token}
 use Rattle.html_tokens.specs.declared.token.Token.TheVariants.{TagToken}
-use Rattle.html_rules.specs.Actions.{act, frameset_not_ok, keep_mode, push_head, push_head_elem, push_template_mode, remove_from_stack_if, remove_head_elem, set_mode}
+use Rattle.html_rules.specs.Actions.{act, frameset_not_ok, save_mode, push_head, push_head_elem, push_template_mode, remove_from_stack_if, remove_head_elem, set_mode}
 use Rattle.html_rules.specs.Choice.{choose}
 use Rattle.html_rules.specs.Conditions.{context_is}
 use Rattle.html_rules.specs.ForeignContent.{is_start_tag}
@@ -21,7 +21,7 @@ use Rattle.html_rules.specs.Sets.{is_among, names_of}
 use Rattle.html_rules.specs.Shape.{one_if}
 use Rattle.html_rules.specs.Stack.{open_templates, remove_from_stack, without_number}
 use Rattle.html_rules.specs.State.{Open, State, current_is, is_in, is_named}
-use Rattle.html_rules.specs.Table.{Action, Then, ParseError, InsertElement, KeepMode, SwitchTo, InsertMarker, FramesetNotOk, PushTemplateMode, InsertTemplate, PushHeadElem, RemoveHeadElem, Conclusion, Done, RawText, TellEncoding}
+use Rattle.html_rules.specs.Table.{Action, Then, ParseError, InsertElement, SaveMode, SwitchTo, InsertMarker, FramesetNotOk, PushTemplateMode, InsertTemplate, PushHeadElem, RemoveHeadElem, Conclusion, Done, RawText, ReportEncoding}
 use Rattle.html_rules.specs.Templates.{insert_template}
 use Rattle.html_rules.specs.declared.insertion_mode.InsertionMode.{InsertionMode}
 use Rattle.html_rules.specs.declared.insertion_mode.InsertionMode.TheVariants as mode
@@ -114,20 +114,20 @@ calm-again a h kind t k n q w =
 abbrev opened_for : Tag → State → Open
 opened_for tag q = record { number = node_count q.forest; namespace = Html; name = tag.name }
 
-text-elements : (tag : Tag) → is_loose_name tag.name parts ≡ true → (n : ℕ) (q : State) → IsAgain n q → without_number n (set_mode mode.Text (keep_mode (insert_element_for tag (push_head (Some n) q)))).open_elems ≡ opened_for tag q ∷ q.open_elems
-unfolding set_mode keep_mode insert_element
+text-elements : (tag : Tag) → is_loose_name tag.name parts ≡ true → (n : ℕ) (q : State) → IsAgain n q → without_number n (set_mode mode.Text (save_mode (insert_element_for tag (push_head (Some n) q)))).open_elems ≡ opened_for tag q ∷ q.open_elems
+unfolding set_mode save_mode insert_element
 text-elements tag l n q w =
     let p : State = push_head (Some n) q in
-    let r : State = set_mode mode.Text (keep_mode (insert_element_for tag p)) in
+    let r : State = set_mode mode.Text (save_mode (insert_element_for tag p)) in
     let opened = (insert_element-Standing Html tag.name tag.attrs tag.had_duplicate_attributes tt p w.pushed.upright.standing).opened in
     taken-out n (opened_for tag q) q.open_elems (apart-number r.forest (node_count q.forest) n tag.name (codes "head") opened.0.named opened.1.0.named (loose-head tag.name l))
 
 -- the text of an element
-text-again : (tag : Tag) → is_loose_name tag.name parts ≡ true → (n : ℕ) (q : State) → IsAgain n q → IsNested (remove_from_stack n (set_mode mode.Text (keep_mode (insert_element_for tag (push_head (Some n) q)))))
-unfolding remove_from_stack set_mode keep_mode insert_element
+text-again : (tag : Tag) → is_loose_name tag.name parts ≡ true → (n : ℕ) (q : State) → IsAgain n q → IsNested (remove_from_stack n (set_mode mode.Text (save_mode (insert_element_for tag (push_head (Some n) q)))))
+unfolding remove_from_stack set_mode save_mode insert_element
 text-again tag l n q w =
     let p : State = push_head (Some n) q in
-    let r : State = set_mode mode.Text (keep_mode (insert_element_for tag p)) in
+    let r : State = set_mode mode.Text (save_mode (insert_element_for tag p)) in
     let x : Open = opened_for tag q in
     let loose = name-loose tag.name l (node_count q.forest) in
     let elements : without_number n r.open_elems ≡ x ∷ q.open_elems = text-elements tag l n q w in
@@ -141,8 +141,8 @@ text-again tag l n q w =
 raw-again : (kind : Kind) (a : Action) → raw_row kind a ≡ true → (t : Token) → is_of kind t ≡ true → (n : ℕ) (q : State) → IsAgain n q → IsNested (remove_from_stack n (act a t (push_head (Some n) q)))
 raw-again kind a h t k n q w = let tests = and_parts (raw_text_only a) (loose_tags kind) h in by a tests.0 where
   by : (a : Action) → raw_text_only a ≡ true → IsNested (remove_from_stack n (act a t (push_head (Some n) q)))
-  by (Then InsertElement (Then KeepMode (SwitchTo mode.Text))) r =
-      loosened kind (and_parts (raw_text_only a) (loose_tags kind) h).1 t k (λ t. IsNested (remove_from_stack n (act (Then InsertElement (Then KeepMode (SwitchTo mode.Text))) t (push_head (Some n) q)))) (λ tag l. text-again tag l n q w)
+  by (Then InsertElement (Then SaveMode (SwitchTo mode.Text))) r =
+      loosened kind (and_parts (raw_text_only a) (loose_tags kind) h).1 t k (λ t. IsNested (remove_from_stack n (act (Then InsertElement (Then SaveMode (SwitchTo mode.Text))) t (push_head (Some n) q)))) (λ tag l. text-again tag l n q w)
   by (Then InsertElement b) r = no r
   by a r = no r
 
@@ -151,8 +151,8 @@ pub raw-on-top : (kind : Kind) (a : Action) → raw_row kind a ≡ true → (t :
 unfolding remove_from_stack
 raw-on-top kind a h t k n q w = let tests = and_parts (raw_text_only a) (loose_tags kind) h in by a tests.0 where
   by : (a : Action) → raw_text_only a ≡ true → IsOnTop t (without_number n (act a t (push_head (Some n) q)).open_elems)
-  by (Then InsertElement (Then KeepMode (SwitchTo mode.Text))) r =
-      loosened kind (and_parts (raw_text_only a) (loose_tags kind) h).1 t k (λ t. IsOnTop t (without_number n (act (Then InsertElement (Then KeepMode (SwitchTo mode.Text))) t (push_head (Some n) q)).open_elems))
+  by (Then InsertElement (Then SaveMode (SwitchTo mode.Text))) r =
+      loosened kind (and_parts (raw_text_only a) (loose_tags kind) h).1 t k (λ t. IsOnTop t (without_number n (act (Then InsertElement (Then SaveMode (SwitchTo mode.Text))) t (push_head (Some n) q)).open_elems))
       (λ tag l. subst (λ xs. current_is (is_named tag.name) xs ≡ true) (sym (text-elements tag l n q w)) (same-name tag.name))
   by (Then InsertElement b) r = no r
   by a r = no r
@@ -214,14 +214,14 @@ opens-again kind a o h t k n q w = no o
 -- the rows that take such a tag
 
 abbrev pub again_row : Kind → Action → Conclusion → Bool
-again_row kind a TellEncoding = calm a
+again_row kind a ReportEncoding = calm a
 again_row kind a (RawText raw) = raw_row kind a
 again_row kind a Done = calm a || (opens a && starts_template kind)
 again_row kind a e = false
 
 row-again : (kind : Kind) (a : Action) (e : Conclusion) → again_row kind a e ≡ true → (using : InsertionMode → Token → State → Turn) (t : Token) → is_of kind t ≡ true → (script : ℕ) (n : ℕ) (q : State) → IsAgain n q
     → IsNested (remove_from_stack n (concluded using e t script (act a t (push_head (Some n) q))).state)
-row-again kind a TellEncoding h using t k script n q w = calm-again a h kind t k n q w
+row-again kind a ReportEncoding h using t k script n q w = calm-again a h kind t k n q w
 row-again kind a (RawText raw) h using t k script n q w = raw-again kind a h t k n q w
 row-again kind a Done h using t k script n q w = or_by (calm a) _ h (λ c. calm-again a c kind t k n q w) (λ o. let tests = and_parts (opens a) (starts_template kind) o in opens-again kind a tests.0 tests.1 t k n q w)
 row-again kind a e h using t k script n q w = no h
@@ -232,7 +232,7 @@ calm-head : (kind : Kind) (a : Action) → calm a ≡ true → (t : Token) (s : 
 calm-head kind a h t s = (act-aside kind a (quiet-tame kind a (and_parts (quiet a) _ h).0) t s).head
 
 same-head : (kind : Kind) (a : Action) (e : Conclusion) → again_row kind a e ≡ true → (using : InsertionMode → Token → State → Turn) (t : Token) (script : ℕ) (s : State) → (concluded using e t script (act a t s)).state.head_elem ≡ s.head_elem
-same-head kind a TellEncoding h using t script s = calm-head kind a h t s
+same-head kind a ReportEncoding h using t script s = calm-head kind a h t s
 same-head kind a (RawText raw) h using t script s = raw-same a (and_parts (raw_text_only a) _ h).0 t s
 same-head kind a Done h using t script s = or_by (calm a) _ h (λ c. calm-head kind a c t s) (λ o. opens-same a (and_parts (opens a) (starts_template kind) o).0 t s)
 same-head kind a e h using t script s = no h

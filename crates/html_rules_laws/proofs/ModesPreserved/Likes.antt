@@ -8,14 +8,14 @@ use Rattle.markup.specs.declared.names.QualName.{QualName}
 use Rattle.html_tokens.specs.declared.tags.Tag.{Tag}
 use Rattle.html_tokens.specs.declared.token.Token.{Token}
 use Rattle.html_tokens.specs.declared.token.Token.TheVariants.{TagToken}
-use Rattle.html_rules.specs.Actions.{act, back_to_original, keep_mode, or_mode, set_mode}
+use Rattle.html_rules.specs.Actions.{act, restore_mode, save_mode, or_mode, set_mode}
 use Rattle.html_rules.specs.Conditions.{context_is, holds, is_nonempty}
 use Rattle.html_rules.specs.Names.{Html}
 use Rattle.html_rules.specs.Places.{insert_element, insert_element_for}
 use Rattle.html_rules.specs.Shape.{one_if}
 use Rattle.html_rules.specs.Stack.{open_templates, pop_but_root, without_current_but_root}
 use Rattle.html_rules.specs.State.{Open, State, is_in}
-use Rattle.html_rules.specs.Table.{Action, Nothing, Then, When, ParseError, InsertElement, InsertVoid, AppendText, AppendReplacement, AppendComment, AppendCommentToDocument, AppendCommentToRoot, AddAttributesToRoot, SetQuirks, FramesetNotOk, FramesetNotOkUnlessWhite, IgnoreLineFeed, DisableFosterParenting, KeepText, KeepMode, SwitchTo}
+use Rattle.html_rules.specs.Table.{Action, Nothing, Then, When, ParseError, InsertElement, InsertVoid, AppendText, AppendReplacement, AppendComment, AppendCommentToDocument, AppendCommentToRoot, AddAttributesToRoot, SetQuirks, FramesetNotOk, FramesetNotOkUnlessWhite, IgnoreLineFeed, DisableFosterParenting, KeepText, SaveMode, SwitchTo}
 use Rattle.html_rules.specs.declared.insertion_mode.InsertionMode.{InsertionMode}
 use Rattle.html_rules.specs.declared.insertion_mode.InsertionMode.TheVariants as mode
 use Rattle.html_rules.specs.declared.tag_set.TagSet.TheVariants as set
@@ -147,15 +147,15 @@ direct-nonempty m e g template [] h = by m e h where
 
 -- text of an element comes
 
-pub text-nested : (tag : Tag) → is_loose_name tag.name parts ≡ true → (s : State) → is_first s.mode ≡ false → is_text_mode s.mode ≡ false → Standing s → IsNested s → IsNested (set_mode mode.Text (keep_mode (insert_element_for tag s)))
-unfolding set_mode keep_mode insert_element
+pub text-nested : (tag : Tag) → is_loose_name tag.name parts ≡ true → (s : State) → is_first s.mode ≡ false → is_text_mode s.mode ≡ false → Standing s → IsNested s → IsNested (set_mode mode.Text (save_mode (insert_element_for tag s)))
+unfolding set_mode save_mode insert_element
 text-nested tag l s f e standing h =
     let x : Open = record { number = node_count s.forest; namespace = Html; name = tag.name } in
     let loose = name-loose tag.name l (node_count s.forest) in
     let like = like-insert tag.name tag.attrs tag.had_duplicate_attributes s standing in
     let fits = parts-direct s.mode e (ground_of s.context_elem) (context_is set.Template s.context_elem) s.orig_mode s.open_elems h.fits in
     let some = direct-nonempty s.mode f (ground_of s.context_elem) (context_is set.Template s.context_elem) s.open_elems fits in
-    like-nested s (set_mode mode.Text (keep_mode (insert_element_for tag s))) (record { context = like.context; modes = like.modes; framed = like.framed; form = like.form; names = like.names })
+    like-nested s (set_mode mode.Text (save_mode (insert_element_for tag s))) (record { context = like.context; modes = like.modes; framed = like.framed; form = like.form; names = like.names })
     (pushed-templates x s.open_elems loose) (rw (loose, some) fits) h
 
 abbrev pub raw_row : Kind → Action → Bool
@@ -168,12 +168,12 @@ raw-nested kind a h t k s f e standing n =
     by a kind t one.0 two.0 two.1 k
   where
     by : (a : Action) (kind : Kind) (t : Token) → raw_text_only a ≡ true → is_tag_kind kind ≡ true → loose_kind kind ≡ true → is_of kind t ≡ true → IsNested (act a t s)
-    by (Then InsertElement (Then KeepMode (SwitchTo mode.Text))) kind (TagToken tag) r g l k = text-nested tag (kind-loose kind tag l k) s f e standing n
-    by (Then InsertElement (Then KeepMode (SwitchTo mode.Text))) (Starts names) t r g l k = no k
-    by (Then InsertElement (Then KeepMode (SwitchTo mode.Text))) (Ends names) t r g l k = no k
-    by (Then InsertElement (Then KeepMode (SwitchTo mode.Text))) (StartsBut names) t r g l k = no k
-    by (Then InsertElement (Then KeepMode (SwitchTo mode.Text))) (EndsBut names) t r g l k = no k
-    by (Then InsertElement (Then KeepMode (SwitchTo mode.Text))) kind t r g l k = no g
+    by (Then InsertElement (Then SaveMode (SwitchTo mode.Text))) kind (TagToken tag) r g l k = text-nested tag (kind-loose kind tag l k) s f e standing n
+    by (Then InsertElement (Then SaveMode (SwitchTo mode.Text))) (Starts names) t r g l k = no k
+    by (Then InsertElement (Then SaveMode (SwitchTo mode.Text))) (Ends names) t r g l k = no k
+    by (Then InsertElement (Then SaveMode (SwitchTo mode.Text))) (StartsBut names) t r g l k = no k
+    by (Then InsertElement (Then SaveMode (SwitchTo mode.Text))) (EndsBut names) t r g l k = no k
+    by (Then InsertElement (Then SaveMode (SwitchTo mode.Text))) kind t r g l k = no g
     by (Then InsertElement b) kind t r g l k = no r
     by a kind t r g l k = no r
 
@@ -191,9 +191,9 @@ under-fits g template (Some original) m (x ∷ xs) h =
     let two = and_parts (is_nonempty xs) _ one.1 in
     rw (not-root x one.0) (direct-parts g template original None xs two.1, sym (loose-count x xs one.0))
 
-pub over-nested : (s : State) → s.mode ≡ mode.Text → IsNested s → IsNested (back_to_original (pop_but_root s))
-unfolding back_to_original pop_but_root
+pub over-nested : (s : State) → s.mode ≡ mode.Text → IsNested s → IsNested (restore_mode (pop_but_root s))
+unfolding restore_mode pop_but_root
 over-nested s at h =
     let was : fits_under (ground_of s.context_elem) (context_is set.Template s.context_elem) s.orig_mode s.open_elems ≡ true = rw at at h.fits in
     let left = under-fits (ground_of s.context_elem) (context_is set.Template s.context_elem) s.orig_mode s.mode s.open_elems was in
-    like-nested s (back_to_original (pop_but_root s)) (record { context = refl; modes = refl; framed = λ e. e; form = refl; names = λ n name e. e }) left.1 left.0 h
+    like-nested s (restore_mode (pop_but_root s)) (record { context = refl; modes = refl; framed = λ e. e; form = refl; names = λ n name e. e }) left.1 left.0 h

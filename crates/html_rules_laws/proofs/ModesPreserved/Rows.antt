@@ -9,7 +9,7 @@ use Rattle.html_tokens.specs.declared.token.Token.{Token}
 use Rattle.html_tokens.specs.declared.tags.TagKind.{TagKind}
 use Rattle.html_tokens.specs.declared.tags.TagKind.TheVariants.{StartTag, EndTag}
 use Rattle.html_tokens.specs.declared.token.Token.TheVariants.{DoctypeToken, TagToken, CommentToken, CharacterTokens, NullCharacterToken, EOFToken, ParseError as ErrorToken}
-use Rattle.html_rules.specs.Actions.{act, keep_mode, set_foster_parenting, set_mode}
+use Rattle.html_rules.specs.Actions.{act, save_mode, set_foster_parenting, set_mode}
 use Rattle.html_rules.specs.Choice.{choose}
 use Rattle.html_rules.specs.Conditions.{context_is, holds, is_nonempty}
 use Rattle.html_rules.specs.ForeignContent.{is_end_tag, is_start_tag}
@@ -20,7 +20,7 @@ use Rattle.html_rules.specs.Sets.{is_among, mathml_names_of, names_of, svg_names
 use Rattle.html_rules.specs.Shape.{one_if}
 use Rattle.html_rules.specs.Stack.{body_elem, if_body, left_from, open_templates, parse_error, pop_until_current, remove_body, remove_if, second_of}
 use Rattle.html_rules.specs.State.{Open, State, current_is, current_number, is_in}
-use Rattle.html_rules.specs.Table.{Row, Condition, Both, CurrentIs, FramesetOk, SecondIsBody, Action, Then, ParseError, RemoveBody, InsertElement, SwitchTo, Nothing as NoAction, EnableFosterParenting, KeepMode, Conclusion, Done, Acknowledged, Reprocess, ReprocessInOriginal, ReprocessInMode, Using, UsingThen, UsingCurrentMode, RawText, PlainText, RunScript, TellEncoding}
+use Rattle.html_rules.specs.Table.{Row, Condition, Both, CurrentIs, FramesetOk, SecondIsBody, Action, Then, ParseError, RemoveBody, InsertElement, SwitchTo, Nothing as NoAction, EnableFosterParenting, SaveMode, Conclusion, Done, Acknowledged, Reprocess, ReprocessInOriginal, ReprocessInMode, Using, UsingThen, UsingCurrentMode, RawText, PlainText, RunScript, ReportEncoding}
 use Rattle.html_rules.specs.declared.insertion_mode.InsertionMode.{InsertionMode}
 use Rattle.html_rules.specs.declared.insertion_mode.InsertionMode.TheVariants as mode
 use Rattle.html_rules.specs.declared.tag_set.TagSet.TheVariants as set
@@ -52,7 +52,7 @@ use Rattle.html_rules_laws.proofs.Frames.KeptBySteps.{insert-keeps, pop_until_cu
 -- what is tested of rows, in a mode and with a part that was opened last
 
 abbrev is_keep : Action → Bool
-is_keep KeepMode = true
+is_keep SaveMode = true
 is_keep a = false
 
 abbrev is_table_text : InsertionMode → Bool
@@ -170,14 +170,14 @@ over-table (CurrentIs set.FosterTarget) h t s o = by s.open_elems o where
 over-table c h t s o = no h
 
 kept-nested : (a : Action) (to : InsertionMode) → is_keep a ≡ true → is_table_text to ≡ true → (t : Token) (s : State) → is_foster (top s.open_elems) ≡ true → is_table_mode s.mode ≡ true → IsNested s → IsNested (set_mode to (act a t s))
-unfolding set_mode keep_mode
-kept-nested KeepMode mode.InTableText k l t s foster table n = record { fits = both _ _ foster (both _ _ table (table-direct s.mode table n.fits)); count = n.count; framed = n.framed; form = n.form } where
+unfolding set_mode save_mode
+kept-nested SaveMode mode.InTableText k l t s foster table n = record { fits = both _ _ foster (both _ _ table (table-direct s.mode table n.fits)); count = n.count; framed = n.framed; form = n.form } where
   table-direct : (m : InsertionMode) → is_table_mode m ≡ true → fits_parts (ground_of s.context_elem) (context_is set.Template s.context_elem) m s.orig_mode s.open_elems ≡ true → fits_nested (ground_of s.context_elem) (context_is set.Template s.context_elem) m s.open_elems ≡ true
   table-direct mode.InTable h f = f
   table-direct mode.InTableBody h f = f
   table-direct mode.InRow h f = f
   table-direct m h f = no h
-kept-nested KeepMode to k l t s foster table n = no l
+kept-nested SaveMode to k l t s foster table n = no l
 kept-nested a to k l t s foster table n = no k
 
 -- a frameset takes the place of the body
@@ -375,7 +375,7 @@ module _ (g : Ground) (template : Bool) (t : Token) (m : InsertionMode) (b : Par
   ends-sound uses using go kind c a Acknowledged h k s o fluid extra script = run-nested kind (guard_of kind b c) a h k s (guard-holds g kind b c t s fluid.nested fluid.base k o) fluid
   ends-sound uses using go kind c a PlainText h k s o fluid extra script = run-nested kind (guard_of kind b c) a h k s (guard-holds g kind b c t s fluid.nested fluid.base k o) fluid
   ends-sound uses using go kind c a RunScript h k s o fluid extra script = run-nested kind (guard_of kind b c) a h k s (guard-holds g kind b c t s fluid.nested fluid.base k o) fluid
-  ends-sound uses using go kind c a TellEncoding h k s o fluid extra script = run-nested kind (guard_of kind b c) a h k s (guard-holds g kind b c t s fluid.nested fluid.base k o) fluid
+  ends-sound uses using go kind c a ReportEncoding h k s o fluid extra script = run-nested kind (guard_of kind b c) a h k s (guard-holds g kind b c t s fluid.nested fluid.base k o) fluid
 
   row-sound : (uses : Kind → InsertionMode → Bool) (using : InsertionMode → Token → State → Turn) → Nester uses using → (kind : Kind) (r : Row) → row_nested uses m b kind r ≡ true → is_of kind t ≡ true → (s : State) → holds r.when t s ≡ true → Fluid g template (loose_at m b) s → Extra s → IsNested (turn_by_row using r t s).state
   row-sound uses using go kind r h k s o fluid extra =

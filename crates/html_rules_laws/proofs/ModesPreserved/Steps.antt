@@ -7,7 +7,7 @@ use Rattle.std.proofs.lemmas.Slice.Eq.{bytes_eq-Decides}
 use Rattle.markup.specs.Forest.{Forest, data_of, element_name, node_count}
 use Rattle.markup.specs.declared.names.QualName.{QualName}
 use Rattle.html_tokens.specs.declared.tags.Tag.{Tag}
-use Rattle.html_rules.specs.Actions.{frameset_not_ok_unless_white, set_foster_parenting, tell_text}
+use Rattle.html_rules.specs.Actions.{frameset_not_ok_unless_white, set_foster_parenting, insert_table_text}
 use Rattle.html_rules.specs.Adoption.{Walk, adopt, adopt_from, adopt_listed, adopt_open, adoption_agency, adoption_turn, adoption_turns, begin_walk, between, close_misnested, copy_if, furthest_block, handle_misnested_a_tags, is_number, listed_as, opened_after, opened_before, unlist, walk}
 use Rattle.html_rules.specs.Choice.{choose}
 use Rattle.html_rules.specs.ForeignContent.{ForeignEnd, Dropped, AsInMode, Closed, close_foreign, close_foreign_by, ends_foreign, foreign_end, foreign_end_from, is_html_element, is_named_any_case, pop_foreign}
@@ -189,7 +189,7 @@ pub reconstruct-flow : (g : Ground) (s : State) → are_formatting s.active_form
 unfolding reconstruct_active_formatting_elements
 reconstruct-flow g s h = reopen-flow g s.active_formatting h s
 
-pub tell-flow : (g : Ground) (text : List ℕ) (s : State) → are_formatting s.active_formatting ≡ true → IsFlow g s.open_elems (tell_text text s).open_elems
+pub tell-flow : (g : Ground) (text : List ℕ) (s : State) → are_formatting s.active_formatting ≡ true → IsFlow g s.open_elems (insert_table_text text s).open_elems
 unfolding set_foster_parenting parse_error append_text frameset_not_ok_unless_white
 tell-flow g text s h = flow-either g s.open_elems (is_white text) (append_text text s) _ (flow-same g s.open_elems) (reconstruct-flow g (set_foster_parenting true (parse_error s)) h)
 

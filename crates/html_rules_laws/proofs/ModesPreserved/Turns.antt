@@ -14,7 +14,7 @@ use Rattle.html_rules.specs.Sets.{mathml_names_of, names_of, svg_names_of}
 use Rattle.html_rules.specs.Shape.{has_root}
 use Rattle.html_rules.specs.Stack.{has_open, parse_error}
 use Rattle.html_rules.specs.State.{Open, State, adjusted_by, adjusted_current_node, current_number, is_in}
-use Rattle.html_rules.specs.Table.{Row, Condition, Action, Nothing as NoAction, Then, ParseError, Pop, BackToOriginal, PushHeadElem, RemoveHeadElem, Conclusion, Done, Acknowledged, ReprocessInOriginal, Using, UsingThen, RawText, RunScript, TellEncoding}
+use Rattle.html_rules.specs.Table.{Row, Condition, Action, Nothing as NoAction, Then, ParseError, Pop, RestoreMode, PushHeadElem, RemoveHeadElem, Conclusion, Done, Acknowledged, ReprocessInOriginal, Using, UsingThen, RawText, RunScript, ReportEncoding}
 use Rattle.html_rules.specs.declared.insertion_mode.InsertionMode.{InsertionMode}
 use Rattle.html_rules.specs.declared.insertion_mode.InsertionMode.TheVariants as mode
 use Rattle.html_rules.specs.declared.tag_set.TagSet.TheVariants as set
@@ -50,7 +50,7 @@ use Rattle.html_rules_laws.proofs.Bools.{no, not_true, or_by, or_true}
 abbrev calm_ends : Conclusion → Bool
 calm_ends Done = true
 calm_ends Acknowledged = true
-calm_ends TellEncoding = true
+calm_ends ReportEncoding = true
 calm_ends e = false
 
 abbrev uses_next : (Kind → InsertionMode → Bool) → Kind → Action → Conclusion → Bool
@@ -154,7 +154,7 @@ head-case (suc n) t before kind h g k s f =
 calm-row : (using : InsertionMode → Token → State → Turn) (kind : Kind) (a : Action) (e : Conclusion) → calm a ≡ true → calm_ends e ≡ true → (t : Token) → is_of kind t ≡ true → (m : InsertionMode) (s : State) → IsFound m s → (script : ℕ) → IsNested (concluded using e t script (act a t s)).state
 calm-row using kind a Done c h t k m s f script = calm-nested a c kind t k s f.listed f.standing f.is
 calm-row using kind a Acknowledged c h t k m s f script = calm-nested a c kind t k s f.listed f.standing f.is
-calm-row using kind a TellEncoding c h t k m s f script = calm-nested a c kind t k s f.listed f.standing f.is
+calm-row using kind a ReportEncoding c h t k m s f script = calm-nested a c kind t k s f.listed f.standing f.is
 calm-row using kind a e c h t k m s f script = no h
 
 raw-end : (using : InsertionMode → Token → State → Turn) (kind : Kind) (a : Action) (e : Conclusion) → is_raw e ≡ true → raw_row kind a ≡ true → (t : Token) → is_of kind t ≡ true → (m : InsertionMode) → keeps_text m ≡ true → (s : State) → IsFound m s → (script : ℕ) → IsNested (concluded using e t script (act a t s)).state
@@ -196,8 +196,8 @@ opens_head-row using t again kind a e o h k s f script = no o
 -- text of an element is over
 text-row : (using : InsertionMode → Token → State → Turn) (a : Action) (e : Conclusion) → text_ok a e ≡ true → (t : Token) (s : State) → IsFound mode.Text s → (script : ℕ) → IsNested (concluded using e t script (act a t s)).state
 text-row using (Then ParseError Pop) ReprocessInOriginal h t s f script = over-nested (parse_error s) (error-mode s ∙ f.at) (erred-nested s f.is)
-text-row using (Then Pop BackToOriginal) Done h t s f script = over-nested s f.at f.is
-text-row using (Then Pop BackToOriginal) RunScript h t s f script = over-nested s f.at f.is
+text-row using (Then Pop RestoreMode) Done h t s f script = over-nested s f.at f.is
+text-row using (Then Pop RestoreMode) RunScript h t s f script = over-nested s f.at f.is
 text-row using a e h t s f script = no h
 
 own-row : (using : InsertionMode → Token → State → Turn) (t : Token) → HeadCase using t → (m : InsertionMode) (kind : Kind) (c : Condition) (a : Action) (e : Conclusion) → own_row m kind c a e ≡ true → is_of kind t ≡ true → (s : State) → holds c t s ≡ true → IsFound m s → (script : ℕ) → IsNested (concluded using e t script (act a t s)).state

@@ -5,7 +5,7 @@ use Rattle.std.proofs.lemmas.Bool.{and_parts}
 use Rattle.html_tokens.specs.declared.tags.Tag.{Tag}
 use Rattle.html_tokens.specs.declared.token.Token.{Token}
 use Rattle.html_tokens.specs.declared.token.Token.TheVariants.{TagToken}
-use Rattle.html_rules.specs.Actions.{act, keep_mode, set_foster_parenting, set_mode}
+use Rattle.html_rules.specs.Actions.{act, save_mode, set_foster_parenting, set_mode}
 use Rattle.html_rules.specs.Choice.{choose}
 use Rattle.html_rules.specs.Conditions.{holds}
 use Rattle.html_rules.specs.Encodings.{encoding_hint}
@@ -15,7 +15,7 @@ use Rattle.html_rules.specs.Places.{insert_element}
 use Rattle.html_rules.specs.Rules.{Ending, Finished, Again, Replied, Settled, Turn, concluded, encoding_reply, first_fit, fits, four_for_each, most_modes, rows, settle, settled_by, turn, turn_by_row, using_rules_for, within}
 use Rattle.html_rules.specs.Sets.{names_of}
 use Rattle.html_rules.specs.State.{Open, State, current_is, current_number, is_named}
-use Rattle.html_rules.specs.Table.{Row, Class, StartTags, Action, Then, ParseError, InsertElement, KeepMode, SwitchTo, PushHeadElem, RemoveHeadElem, DisableFosterParenting, Conclusion, Done, Acknowledged, Reprocess, ReprocessInOriginal, ReprocessInMode, Using, UsingThen, UsingCurrentMode, RawText, PlainText, RunScript, TellEncoding}
+use Rattle.html_rules.specs.Table.{Row, Class, StartTags, Action, Then, ParseError, InsertElement, SaveMode, SwitchTo, PushHeadElem, RemoveHeadElem, DisableFosterParenting, Conclusion, Done, Acknowledged, Reprocess, ReprocessInOriginal, ReprocessInMode, Using, UsingThen, UsingCurrentMode, RawText, PlainText, RunScript, ReportEncoding}
 use Rattle.html_rules.specs.Tokens.{attributes_of, class_fits}
 use Rattle.html_rules.specs.declared.insertion_mode.InsertionMode.{InsertionMode}
 use Rattle.html_rules.specs.declared.insertion_mode.InsertionMode.TheVariants as mode
@@ -71,7 +71,7 @@ starts c = false
 
 -- an element is inserted last of all
 abbrev ends_raw : Action → Bool
-ends_raw (Then InsertElement (Then KeepMode (SwitchTo mode.Text))) = true
+ends_raw (Then InsertElement (Then SaveMode (SwitchTo mode.Text))) = true
 ends_raw (Then a b) = ends_raw b
 ends_raw a = false
 
@@ -120,7 +120,7 @@ silent-none using ReprocessInOriginal h t script s raw = raw
 silent-none using ReprocessInMode h t script s raw = raw
 silent-none using PlainText h t script s raw = raw
 silent-none using RunScript h t script s raw = raw
-silent-none using TellEncoding h t script s raw = encoding-none (encoding_hint (attributes_of t)) raw
+silent-none using ReportEncoding h t script s raw = encoding-none (encoding_hint (attributes_of t)) raw
 silent-none using e h t script s raw = no h
 
 silent-end : (using : InsertionMode → Token → State → Turn) (e : Conclusion) → is_silent e ≡ true → (t : Token) (script : ℕ) (s : State) → IsNamed t (concluded using e t script s)
@@ -139,8 +139,8 @@ other-end using t go (UsingThen m after) h script s raw = no h
 other-end using t go e h script s raw = no h
 
 raw-top : (a : Action) → ends_raw a ≡ true → (tag : Tag) (s : State) → current_is (is_named tag.name) (act a (TagToken tag) s).open_elems ≡ true
-unfolding set_mode keep_mode insert_element
-raw-top (Then InsertElement (Then KeepMode (SwitchTo mode.Text))) h tag s = same-name tag.name
+unfolding set_mode save_mode insert_element
+raw-top (Then InsertElement (Then SaveMode (SwitchTo mode.Text))) h tag s = same-name tag.name
 raw-top (Then a b) h tag s = raw-top b h tag (act a (TagToken tag) s)
 raw-top a h tag s = no h
 

@@ -5,7 +5,7 @@ use Rattle.std.proofs.lemmas.Bool.{and_parts}
 use Rattle.html_tokens.specs.Sink.{Reply}
 use Rattle.html_tokens.specs.declared.replies.TokenSinkResult.TheVariants.{RawData}
 use Rattle.html_tokens.specs.declared.token.Token.{Token}
-use Rattle.html_rules.specs.Actions.{act, back_to_original, keep_mode, or_mode, pop_template_mode, push_head_elem, push_template_mode, set_head_elem, set_mode, set_template_mode}
+use Rattle.html_rules.specs.Actions.{act, restore_mode, save_mode, or_mode, pop_template_mode, push_head_elem, push_template_mode, set_head_elem, set_mode, set_template_mode}
 use Rattle.html_rules.specs.Choice.{choose}
 use Rattle.html_rules.specs.Conditions.{holds}
 use Rattle.html_rules.specs.ForeignContent.{foreign_start, is_foreign}
@@ -17,7 +17,7 @@ use Rattle.html_rules.specs.Rules.{Ending, Finished, Again, Replied, Settled, Tu
 use Rattle.html_rules.specs.Sets.{names_of}
 use Rattle.html_rules.specs.Stack.{parse_error}
 use Rattle.html_rules.specs.State.{Open, State, adjusted_current_node, current_number}
-use Rattle.html_rules.specs.Table.{Row, Action, Then, When, InsertNew, CreateRoot, CreateNewRoot, InsertTemplate, SetHeadElem, PushHeadElem, SwitchTo, KeepMode, BackToOriginal, ResetMode, PushTemplateMode, SetTemplateMode, PopTemplateMode, InsertForeign, Conclusion, Done, Acknowledged, Reprocess, ReprocessInOriginal, ReprocessInMode, Using, UsingThen, UsingCurrentMode, RawText, PlainText, RunScript, TellEncoding}
+use Rattle.html_rules.specs.Table.{Row, Action, Then, When, InsertNew, CreateRoot, CreateNewRoot, InsertTemplate, SetHeadElem, PushHeadElem, SwitchTo, SaveMode, RestoreMode, ResetMode, PushTemplateMode, SetTemplateMode, PopTemplateMode, InsertForeign, Conclusion, Done, Acknowledged, Reprocess, ReprocessInOriginal, ReprocessInMode, Using, UsingThen, UsingCurrentMode, RawText, PlainText, RunScript, ReportEncoding}
 use Rattle.html_rules.specs.Templates.{insert_template}
 use Rattle.html_rules.specs.declared.insertion_mode.InsertionMode.{InsertionMode}
 use Rattle.html_rules.specs.declared.insertion_mode.InsertionMode.TheVariants as mode
@@ -69,8 +69,8 @@ abbrev out_in : Action → Bool
 out_in (Then a b) = out_in a && out_in b
 out_in (When c a) = out_in a
 out_in (SwitchTo m) = not (is_text m)
-out_in KeepMode = true
-out_in BackToOriginal = true
+out_in SaveMode = true
+out_in RestoreMode = true
 out_in ResetMode = true
 out_in PopTemplateMode = true
 out_in (PushTemplateMode m) = is_template_mode m
@@ -96,8 +96,8 @@ pub moved-out : (m : InsertionMode) → is_text m ≡ false → (s : State) → 
 unfolding set_mode
 moved-out m k s h = record { mode = k; original = h.original; modes = h.modes }
 
-pub back-out : (s : State) → is_text s.mode ≡ false → is_text_original s.orig_mode ≡ false → are_template_modes s.template_modes ≡ true → Outside (back_to_original s)
-unfolding back_to_original
+pub back-out : (s : State) → is_text s.mode ≡ false → is_text_original s.orig_mode ≡ false → are_template_modes s.template_modes ≡ true → Outside (restore_mode s)
+unfolding restore_mode
 back-out s k o m = record { mode = or-out s.orig_mode s.mode o k; original = refl; modes = m }
 
 pub reset-out : (s : State) → is_text_original s.orig_mode ≡ false → are_template_modes s.template_modes ≡ true → Outside (reset_insertion_mode s)
@@ -105,12 +105,12 @@ unfolding reset_insertion_mode
 reset-out s o m = record { mode = open-out s s.open_elems m; original = o; modes = m }
 
 act-out : (a : Action) → out_in a ≡ true → (t : Token) (s : State) → Outside s → Outside (act a t s)
-unfolding keep_mode pop_template_mode push_template_mode set_template_mode create_root set_head_elem push_head_elem foreign_start
+unfolding save_mode pop_template_mode push_template_mode set_template_mode create_root set_head_elem push_head_elem foreign_start
 act-out (Then a b) p t s h = let tests = and_parts (out_in a) (out_in b) p in act-out b tests.1 t (act a t s) (act-out a tests.0 t s h)
 act-out (When c a) p t s h = either-out (holds c t s) (act a t s) s (act-out a p t s h) h
 act-out (SwitchTo m) p t s h = moved-out m (not_true _ p) s h
-act-out KeepMode p t s h = record { mode = h.mode; original = h.mode; modes = h.modes }
-act-out BackToOriginal p t s h = back-out s h.mode h.original h.modes
+act-out SaveMode p t s h = record { mode = h.mode; original = h.mode; modes = h.modes }
+act-out RestoreMode p t s h = back-out s h.mode h.original h.modes
 act-out ResetMode p t s h = reset-out s h.original h.modes
 act-out PopTemplateMode p t s h = record { mode = h.mode; original = h.original; modes = first-modes s.template_modes h.modes }
 act-out (PushTemplateMode m) p t s h = record { mode = h.mode; original = h.original; modes = rw p h.modes }
@@ -212,7 +212,7 @@ concluded-out using t go UsingCurrentMode h script s o = go s.mode s o
 concluded-out using t go (RawText kind) h script s o = inl o
 concluded-out using t go PlainText h script s o = inl o
 concluded-out using t go RunScript h script s o = inl o
-concluded-out using t go TellEncoding h script s o = inl o
+concluded-out using t go ReportEncoding h script s o = inl o
 
 raw-out : (using : InsertionMode → Token → State → Turn) (t : Token) (a : Action) (e : Conclusion) → to_text a ≡ true → is_raw e ≡ true → (script : ℕ) (s : State) → IsOut (concluded using e t script (act a t s))
 unfolding IsOut

@@ -18,7 +18,7 @@ use Rattle.html_tokens.specs.declared.tags.TagKind.TheVariants.{StartTag, EndTag
 use Rattle.html_tokens.specs.declared.token.Doctype.{Doctype}
 use Rattle.html_tokens.specs.declared.token.Token.{Token}
 use Rattle.html_tokens.specs.declared.token.Token.TheVariants.{DoctypeToken, TagToken, CommentToken, CharacterTokens, NullCharacterToken, EOFToken, ParseError as ErrorToken}
-use Rattle.html_rules.specs.Actions.{back_to_original, or_mode, set_ignore_lf, set_mode, set_quirks_mode}
+use Rattle.html_rules.specs.Actions.{restore_mode, or_mode, set_ignore_lf, set_mode, set_quirks_mode}
 use Rattle.html_rules.specs.Choice.{choose}
 use Rattle.html_rules.specs.Conditions.{context_is, is_nonempty}
 use Rattle.html_rules.specs.Doctypes.{doctype_error, quirks_of}
@@ -33,7 +33,7 @@ use Rattle.html_rules.specs.Shape.{is_fit}
 use Rattle.html_rules.specs.Stack.{parse_error, pop_but_root}
 use Rattle.html_rules.specs.State.{Open, State, hushed, is_in}
 use Rattle.html_rules.specs.Step.{answered, behind, behind_line_feed, doctype_taken, ended, first_doctype_taken, if_kept, is_barred, is_idle, step, taken, taken_by, text_taken, untouched}
-use Rattle.html_rules.specs.Table.{Row as TableRow, EndTags, AnyEndTag, Then, Pop, BackToOriginal, Done, RunScript, row}
+use Rattle.html_rules.specs.Table.{Row as TableRow, EndTags, AnyEndTag, Then, Pop, RestoreMode, Done, RunScript, row}
 use Rattle.html_rules.specs.declared.insertion_mode.InsertionMode.{InsertionMode}
 use Rattle.html_rules.specs.declared.insertion_mode.InsertionMode.TheVariants as mode
 use Rattle.html_rules.specs.declared.tag_set.TagSet.TheVariants as set
@@ -197,15 +197,15 @@ under-mode g template (Some original) m (x ∷ xs) h = by original (and_parts (i
   by mode.Text h = no h
   by m h = refl
 
-over-out : (s : State) → s.mode ≡ mode.Text → IsNested s → are_template_modes s.template_modes ≡ true → Outside (back_to_original (pop_but_root s))
-unfolding back_to_original pop_but_root
+over-out : (s : State) → s.mode ≡ mode.Text → IsNested s → are_template_modes s.template_modes ≡ true → Outside (restore_mode (pop_but_root s))
+unfolding restore_mode pop_but_root
 over-out s at is modes = record { mode = under-mode (ground_of s.context_elem) (context_is set.Template s.context_elem) s.orig_mode s.mode s.open_elems (rw at at is.fits); original = refl; modes = modes }
 
 abbrev script_row : TableRow
-script_row = row (EndTags set.Script) (Then Pop BackToOriginal) RunScript
+script_row = row (EndTags set.Script) (Then Pop RestoreMode) RunScript
 
 abbrev end_row : TableRow
-end_row = row AnyEndTag (Then Pop BackToOriginal) Done
+end_row = row AnyEndTag (Then Pop RestoreMode) Done
 
 end-fit : (P : TableRow → Type 0) (tag : Tag) (s : State) → is_end_tag tag.kind ≡ true → P script_row → P end_row → P (first_fit (rows mode.Text) (TagToken tag) s)
 unfolding rows
@@ -221,7 +221,7 @@ end-settled tag s e at may is =
     let after = within 15 (four_for_each s.open_elems t) t in
     let over = over-out s at is may.held.modes in
     own-turn (λ made. Outside (settled_by after made.ends t made.state).state) t s at may is
-    (end-fit (λ r. Outside (settled_by after (turn_by_row (using_rules_for 3) r t s).ends t (turn_by_row (using_rules_for 3) r t s).state).state) tag s e over (check-out false t (back_to_original (pop_but_root s)) over))
+    (end-fit (λ r. Outside (settled_by after (turn_by_row (using_rules_for 3) r t s).ends t (turn_by_row (using_rules_for 3) r t s).state).state) tag s e over (check-out false t (restore_mode (pop_but_root s)) over))
 
 start-end : (kind : TagKind) → is_end_tag kind ≡ true → is_start_tag kind ≡ false
 start-end StartTag e = no e

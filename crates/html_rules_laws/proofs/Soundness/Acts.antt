@@ -5,7 +5,7 @@ use Rattle.std.proofs.lemmas.Bool.{and_parts}
 use Rattle.html_tokens.specs.declared.tags.Tag.{Tag}
 use Rattle.html_tokens.specs.declared.token.Token.{Token}
 use Rattle.html_tokens.specs.declared.token.Token.TheVariants.{TagToken}
-use Rattle.html_rules.specs.Actions.{act, for_tag, forget_form_elem, frameset_not_ok, frameset_not_ok_unless_white, insert_form_void, keep_text, remove_form_elem, remove_head_elem, set_foster_parenting, set_form_elem, set_ignore_lf, set_quirks_mode, tell_pending_text}
+use Rattle.html_rules.specs.Actions.{act, for_tag, forget_form_elem, frameset_not_ok, frameset_not_ok_unless_white, insert_form_void, keep_text, remove_form_elem, remove_head_elem, set_foster_parenting, set_form_elem, set_ignore_lf, set_quirks_mode, insert_pending_text}
 use Rattle.html_rules.specs.Adoption.{handle_misnested_a_tags}
 use Rattle.html_rules.specs.Conditions.{holds}
 use Rattle.html_rules.specs.ForeignContent.{close_foreign, ends_foreign, enter_foreign, foreign_end, is_start_tag, is_end_tag, pop_foreign}
@@ -15,7 +15,7 @@ use Rattle.html_rules.specs.Places.{append_comment, append_comment_to_doc, appen
 use Rattle.html_rules.specs.Sets.{is_among, names_of}
 use Rattle.html_rules.specs.Stack.{add_attributes_to_body, add_attributes_to_root, body_elem, generate_implied_end_tags, pop_but_root, remove_body, remove_if}
 use Rattle.html_rules.specs.State.{State, is_in, is_named}
-use Rattle.html_rules.specs.Table.{Action, Nothing, Then, When, ParseError, InsertElement, InsertVoid, InsertVoidAs, InsertFormVoid, InsertNew, InsertNewVoid, AppendText, AppendReplacement, AppendComment, AppendCommentToDocument, AppendCommentToRoot, AddAttributesToRoot, AddAttributesToBody, RemoveBody, Pop, PopUntil, ClearBackTo, Close, CloseToken, CloseP, CloseItem, ImpliedEndTags, ImpliedEndTagsExcept, ImpliedEndTagsExceptToken, ImpliedEndTagsThoroughly, AnyOtherEndTag, CheckBodyEnd, RemoveHeadElem, SetFormElem, ForgetFormElem, RemoveFormElem, Reconstruct, InsertFormatting, InsertMarker, ClearToMarker, AdoptionAgency, AdoptNobr, CloseMisnestedA, SetQuirks, FramesetNotOk, FramesetNotOkUnlessWhite, IgnoreLineFeed, EnableFosterParenting, DisableFosterParenting, KeepText, TellPendingText, EnterForeign, PopForeign, CloseForeign}
+use Rattle.html_rules.specs.Table.{Action, Nothing, Then, When, ParseError, InsertElement, InsertVoid, InsertVoidAs, InsertFormVoid, InsertNew, InsertNewVoid, AppendText, AppendReplacement, AppendComment, AppendCommentToDocument, AppendCommentToRoot, AddAttributesToRoot, AddAttributesToBody, RemoveBody, Pop, PopUntil, ClearBackTo, Close, CloseToken, CloseP, CloseItem, ImpliedEndTags, ImpliedEndTagsExcept, ImpliedEndTagsExceptToken, ImpliedEndTagsThoroughly, AnyOtherEndTag, CheckBodyEnd, RemoveHeadElem, SetFormElem, ForgetFormElem, RemoveFormElem, Reconstruct, InsertFormatting, InsertMarker, ClearToMarker, AdoptionAgency, AdoptNobr, CloseMisnestedA, SetQuirks, FramesetNotOk, FramesetNotOkUnlessWhite, IgnoreLineFeed, EnableFosterParenting, DisableFosterParenting, KeepText, InsertPendingText, EnterForeign, PopForeign, CloseForeign}
 use Rattle.html_rules.specs.Tokens.{attributes_of, name_of, text_of}
 use Rattle.html_rules.specs.declared.tag_set.TagSet.{TagSet}
 use Rattle.html_rules.specs.declared.tag_set.TagSet.TheVariants as set
@@ -116,7 +116,7 @@ tame_in kind IgnoreLineFeed = true
 tame_in kind EnableFosterParenting = true
 tame_in kind DisableFosterParenting = true
 tame_in kind KeepText = true
-tame_in kind TellPendingText = true
+tame_in kind InsertPendingText = true
 tame_in kind (EnterForeign namespace) = not (is_html namespace)
 tame_in kind PopForeign = true
 tame_in kind CloseForeign = true
@@ -140,12 +140,12 @@ implied-aside : (implied : TagSet) → Asides (generate_implied_end_tags implied
 unfolding generate_implied_end_tags
 implied-aside implied s = other s _ _ _ _ _
 
-pending-tame : Tames tell_pending_text
-unfolding tell_pending_text
+pending-tame : Tames insert_pending_text
+unfolding insert_pending_text
 pending-tame s l = let told = tell-tame s.pending_table_text s l in record { firm = told.firm; listed = told.listed }
 
-pending-aside : Asides tell_pending_text
-unfolding tell_pending_text
+pending-aside : Asides insert_pending_text
+unfolding insert_pending_text
 pending-aside s = let told = tell-keeps aside_kept s.pending_table_text s in record { mode = told.mode; original = told.original; modes = told.modes; head = told.head; context = told.context; ended = told.ended }
 
 pub act-tame : (kind : Kind) (a : Action) → tame_in kind a ≡ true → (t : Token) → is_of kind t ≡ true → Tames (act a t)
@@ -201,7 +201,7 @@ act-tame kind IgnoreLineFeed p t f s l = part-tame s _ (part-same s.open_elems) 
 act-tame kind EnableFosterParenting p t f s l = part-tame s _ (part-same s.open_elems) l
 act-tame kind DisableFosterParenting p t f s l = part-tame s _ (part-same s.open_elems) l
 act-tame kind KeepText p t f s l = part-tame s _ (part-same s.open_elems) l
-act-tame kind TellPendingText p t f s l = pending-tame s l
+act-tame kind InsertPendingText p t f s l = pending-tame s l
 act-tame kind (EnterForeign namespace) p t f s l = tag-tame (enter_foreign namespace) kind t f (λ tag n. enter-tame namespace tag (not_true _ p)) s l
 act-tame kind PopForeign p t f s l = pop_until_current-tame ends_foreign s l
 act-tame kind CloseForeign p t f s l = close_by-tame (foreign_end (name_of t) s) s (foreign_end-part true (name_of t) s.open_elems) l
@@ -260,7 +260,7 @@ act-aside kind IgnoreLineFeed p t s = record { mode = refl; original = refl; mod
 act-aside kind EnableFosterParenting p t s = record { mode = refl; original = refl; modes = refl; head = refl; context = refl; ended = refl }
 act-aside kind DisableFosterParenting p t s = record { mode = refl; original = refl; modes = refl; head = refl; context = refl; ended = refl }
 act-aside kind KeepText p t s = record { mode = refl; original = refl; modes = refl; head = refl; context = refl; ended = refl }
-act-aside kind TellPendingText p t s = pending-aside s
+act-aside kind InsertPendingText p t s = pending-aside s
 act-aside kind (EnterForeign namespace) p t s = for_tag-keeps aside_kept (enter_foreign namespace) t (enter-keeps aside_kept namespace) s
 act-aside kind PopForeign p t s = pop_until_current-keeps aside_kept ends_foreign s
 act-aside kind CloseForeign p t s = close_by-keeps aside_kept (foreign_end (name_of t) s) s

@@ -5,7 +5,7 @@ use Rattle.std.proofs.lemmas.Bool.{and_parts, eq-eqb}
 use Rattle.markup.specs.Forest.{node_count}
 use Rattle.html_tokens.specs.declared.token.Token.{Token}
 use Rattle.html_tokens.specs.declared.token.Token.TheVariants.{TagToken}
-use Rattle.html_rules.specs.Actions.{act, for_tag, frameset_not_ok, keep_mode, push_head, push_head_elem, push_template_mode, remove_from_stack_if, remove_head_elem, set_mode}
+use Rattle.html_rules.specs.Actions.{act, for_tag, frameset_not_ok, save_mode, push_head, push_head_elem, push_template_mode, remove_from_stack_if, remove_head_elem, set_mode}
 use Rattle.html_rules.specs.Choice.{choose}
 use Rattle.html_rules.specs.Conditions.{context_is}
 use Rattle.html_rules.specs.Formatting.{push_marker}
@@ -16,7 +16,7 @@ use Rattle.html_rules.specs.Sets.{names_of}
 use Rattle.html_rules.specs.Shape.{one_if}
 use Rattle.html_rules.specs.Stack.{open_templates, remove_from_stack, without_number}
 use Rattle.html_rules.specs.State.{Open, State, is_in}
-use Rattle.html_rules.specs.Table.{Action, Then, ParseError, InsertVoid, PushHeadElem, RemoveHeadElem, InsertElement, InsertMarker, FramesetNotOk, SwitchTo, KeepMode, PushTemplateMode, InsertTemplate, Conclusion, Done, RawText, TellEncoding}
+use Rattle.html_rules.specs.Table.{Action, Then, ParseError, InsertVoid, PushHeadElem, RemoveHeadElem, InsertElement, InsertMarker, FramesetNotOk, SwitchTo, SaveMode, PushTemplateMode, InsertTemplate, Conclusion, Done, RawText, ReportEncoding}
 use Rattle.html_rules.specs.Templates.{insert_template}
 use Rattle.html_rules.specs.declared.insertion_mode.InsertionMode.{InsertionMode}
 use Rattle.html_rules.specs.declared.insertion_mode.InsertionMode.TheVariants as mode
@@ -124,7 +124,7 @@ is_void InsertVoid = true
 is_void a = false
 
 abbrev pub head_row : Kind → Action → Conclusion → Bool
-head_row kind a TellEncoding = is_void a
+head_row kind a ReportEncoding = is_void a
 head_row kind a (RawText raw) = raw_text_only a && starts_plain kind
 head_row kind a Done = opens a && starts_template kind
 head_row kind a e = false
@@ -132,7 +132,7 @@ head_row kind a e = false
 -- where no head is known
 none-held : (kind : Kind) (a : Action) (e : Conclusion) → head_row kind a e ≡ true → (using : InsertionMode → Token → State → Turn) (t : Token) → is_of kind t ≡ true → (script : ℕ) (s : State) → IsCalm s → s.mode ≡ mode.AfterHead
     → Held (concluded using e t script (act a t s)).state
-none-held kind a TellEncoding h using t f script s is at = void a h where
+none-held kind a ReportEncoding h using t f script s is at = void a h where
   void : (a : Action) → is_void a ≡ true → Held (act a t s)
   void InsertVoid h = quiet-held kind InsertVoid refl t f s is.held
   void a h = no h
@@ -143,9 +143,9 @@ none-held kind a e h using t f script s is at = no h
 -- such rows leave the pointer to the head as it is
 
 pub raw-same : (a : Action) → raw_text_only a ≡ true → (t : Token) (s : State) → (act a t s).head_elem ≡ s.head_elem
-unfolding set_mode keep_mode insert_element
-raw-same (Then InsertElement (Then KeepMode (SwitchTo mode.Text))) h (TagToken tag) s = refl
-raw-same (Then InsertElement (Then KeepMode (SwitchTo mode.Text))) h t s = refl
+unfolding set_mode save_mode insert_element
+raw-same (Then InsertElement (Then SaveMode (SwitchTo mode.Text))) h (TagToken tag) s = refl
+raw-same (Then InsertElement (Then SaveMode (SwitchTo mode.Text))) h t s = refl
 raw-same (Then InsertElement b) h t s = no h
 raw-same a h t s = no h
 
@@ -163,7 +163,7 @@ void-head kind InsertVoid h t s = (act-aside kind InsertVoid refl t s).head
 void-head kind a h t s = no h
 
 head-same : (kind : Kind) (a : Action) (e : Conclusion) → head_row kind a e ≡ true → (using : InsertionMode → Token → State → Turn) (t : Token) (script : ℕ) (s : State) → (concluded using e t script (act a t s)).state.head_elem ≡ s.head_elem
-head-same kind a TellEncoding h using t script s = void-head kind a h t s
+head-same kind a ReportEncoding h using t script s = void-head kind a h t s
 head-same kind a (RawText raw) h using t script s = raw-same a (and_parts (raw_text_only a) (starts_plain kind) h).0 t s
 head-same kind a Done h using t script s = opens-same a (and_parts (opens a) (starts_template kind) h).0 t s
 head-same kind a e h using t script s = no h
@@ -183,17 +183,17 @@ plain-own : (n : ℕ) (name : List ℕ) → IsPlain (record { number = n; namesp
 plain-own n name is = rw (is.root, is.template) refl
 
 some-raw : (kind : Kind) (a : Action) → raw_text_only a ≡ true → starts_plain kind ≡ true → (t : Token) → is_of kind t ≡ true → (n : ℕ) (q : State) → q.mode ≡ mode.AfterHead → Held q → Held (remove_from_stack n (act a t (push_head (Some n) q)))
-unfolding remove_from_stack set_mode keep_mode insert_element
-some-raw (Starts names) (Then InsertElement (Then KeepMode (SwitchTo mode.Text))) h p (TagToken tag) f n q at is =
+unfolding remove_from_stack set_mode save_mode insert_element
+some-raw (Starts names) (Then InsertElement (Then SaveMode (SwitchTo mode.Text))) h p (TagToken tag) f n q at is =
     let s : State = push_head (Some n) q in
-    let r : State = set_mode mode.Text (keep_mode (insert_element_for tag s)) in
+    let r : State = set_mode mode.Text (save_mode (insert_element_for tag s)) in
     let x : Open = record { number = node_count q.forest; namespace = Html; name = tag.name } in
     elim (taken-out n x q.open_elems) [
       | inl one ↦ over-held q (remove_from_stack n r) x at is one (plain-own (node_count q.forest) tag.name (plain-of (Starts names) tag p f (node_count q.forest))) refl (ap Some at) refl refl refl is.listed
       | inr other ↦ over-held q (remove_from_stack n r) (again n) at is other (own-head n) refl (ap Some at) refl refl refl is.listed
     ]
-some-raw (Starts names) (Then InsertElement (Then KeepMode (SwitchTo mode.Text))) h p t f n q at is = no f
-some-raw kind (Then InsertElement (Then KeepMode (SwitchTo mode.Text))) h p t f n q at is = no p
+some-raw (Starts names) (Then InsertElement (Then SaveMode (SwitchTo mode.Text))) h p t f n q at is = no f
+some-raw kind (Then InsertElement (Then SaveMode (SwitchTo mode.Text))) h p t f n q at is = no p
 some-raw kind (Then InsertElement b) h p t f n q at is = no h
 some-raw kind a h p t f n q at is = no h
 
@@ -216,7 +216,7 @@ some-opens kind a o p t f n q at is = no o
 
 some-held : (kind : Kind) (a : Action) (e : Conclusion) → head_row kind a e ≡ true → (using : InsertionMode → Token → State → Turn) (t : Token) → is_of kind t ≡ true → (script : ℕ) (n : ℕ) (q : State) → q.mode ≡ mode.AfterHead → Held q
     → Held (remove_from_stack n (concluded using e t script (act a t (push_head (Some n) q))).state)
-some-held kind a TellEncoding h using t f script n q at is = some-void kind a h t f n q is
+some-held kind a ReportEncoding h using t f script n q at is = some-void kind a h t f n q is
 some-held kind a (RawText raw) h using t f script n q at is = let parts = and_parts (raw_text_only a) (starts_plain kind) h in some-raw kind a parts.0 parts.1 t f n q at is
 some-held kind a Done h using t f script n q at is = let parts = and_parts (opens a) (starts_template kind) h in some-opens kind a parts.0 parts.1 t f n q at is
 some-held kind a e h using t f script n q at is = no h

@@ -4,7 +4,7 @@ use Rattle.std.specs.Prelude.{◌||◌, not, is_some}
 use Rattle.std.proofs.lemmas.Bool.{and_parts}
 use Rattle.markup.specs.Forest.{node_count}
 use Rattle.html_tokens.specs.declared.tags.Tag.{Tag}
-use Rattle.html_rules.specs.Actions.{keep_mode, set_mode, set_template_mode, without_first}
+use Rattle.html_rules.specs.Actions.{save_mode, set_mode, set_template_mode, without_first}
 use Rattle.html_rules.specs.Choice.{choose}
 use Rattle.html_rules.specs.Conditions.{context_is}
 use Rattle.html_rules.specs.ForeignContent.{is_html_element}
@@ -166,8 +166,8 @@ mode-placed m h o xs = refl
 own-plain : (x : Open) → IsPlain x → is_html_element x ≡ true → is_own x ≡ true
 own-plain x plain html = rw (html, plain.root, plain.template) refl
 
-pub text-held : (s : State) (tag : Tag) → ((n : ℕ) → IsPlain (record { number = n; namespace = Html; name = tag.name })) → is_text_mode s.mode ≡ false → is_later s.mode ≡ true → Held s → Held (set_mode mode.Text (keep_mode (insert_element_for tag s)))
-unfolding set_mode keep_mode insert_element
+pub text-held : (s : State) (tag : Tag) → ((n : ℕ) → IsPlain (record { number = n; namespace = Html; name = tag.name })) → is_text_mode s.mode ≡ false → is_later s.mode ≡ true → Held s → Held (set_mode mode.Text (save_mode (insert_element_for tag s)))
+unfolding set_mode save_mode insert_element
 text-held s tag plain text later h =
     let x : Open = record { number = node_count s.forest; namespace = Html; name = tag.name } in
     let is = plain (node_count s.forest) in

@@ -13,7 +13,7 @@ use Rattle.html_rules.specs.Places.{append_comment, append_comment_to_doc, appen
 use Rattle.html_rules.specs.Sets.{names_of}
 use Rattle.html_rules.specs.Stack.{add_attributes_to_root, parse_error}
 use Rattle.html_rules.specs.State.{State}
-use Rattle.html_rules.specs.Table.{Condition, TemplateOpen, Action, Nothing, Then, When, ParseError, InsertElement, InsertVoid, AppendText, AppendReplacement, AppendComment, AppendCommentToDocument, AppendCommentToRoot, InsertTemplate, AddAttributesToRoot, PopUntil, Close, ImpliedEndTagsThoroughly, InsertMarker, ClearToMarker, SwitchTo, KeepMode, ResetMode, PushTemplateMode, SetTemplateMode, PopTemplateMode, SetQuirks, FramesetNotOk, FramesetNotOkUnlessWhite, IgnoreLineFeed, DisableFosterParenting, KeepText}
+use Rattle.html_rules.specs.Table.{Condition, TemplateOpen, Action, Nothing, Then, When, ParseError, InsertElement, InsertVoid, AppendText, AppendReplacement, AppendComment, AppendCommentToDocument, AppendCommentToRoot, InsertTemplate, AddAttributesToRoot, PopUntil, Close, ImpliedEndTagsThoroughly, InsertMarker, ClearToMarker, SwitchTo, SaveMode, ResetMode, PushTemplateMode, SetTemplateMode, PopTemplateMode, SetQuirks, FramesetNotOk, FramesetNotOkUnlessWhite, IgnoreLineFeed, DisableFosterParenting, KeepText}
 use Rattle.html_rules.specs.Templates.{insert_template}
 use Rattle.html_rules.specs.declared.insertion_mode.InsertionMode.{InsertionMode}
 use Rattle.html_rules.specs.declared.insertion_mode.InsertionMode.TheVariants as mode
@@ -155,7 +155,7 @@ is_insert InsertElement = true
 is_insert a = false
 
 abbrev pub is_to_text : Action → Bool
-is_to_text (Then KeepMode (SwitchTo mode.Text)) = true
+is_to_text (Then SaveMode (SwitchTo mode.Text)) = true
 is_to_text a = false
 
 abbrev pub raw_text : Kind → Action → Bool
@@ -167,9 +167,9 @@ raw_text_only (Then a b) = is_insert a && is_to_text b
 raw_text_only a = false
 
 inserted-text : (kind : Kind) (a b : Action) → is_insert a ≡ true → is_to_text b ≡ true → starts_plain kind ≡ true → (t : Token) → is_of kind t ≡ true → (s : State) → is_text_mode s.mode ≡ false → is_later s.mode ≡ true → Held s → Held (act b t (act a t s))
-inserted-text (Starts names) InsertElement (Then KeepMode (SwitchTo mode.Text)) i k p (TagToken tag) f s text later h = text-held s tag (plain-of (Starts names) tag p f) text later h
-inserted-text (Starts names) InsertElement (Then KeepMode (SwitchTo mode.Text)) i k p t f s text later h = no f
-inserted-text kind InsertElement (Then KeepMode (SwitchTo mode.Text)) i k p t f s text later h = no p
+inserted-text (Starts names) InsertElement (Then SaveMode (SwitchTo mode.Text)) i k p (TagToken tag) f s text later h = text-held s tag (plain-of (Starts names) tag p f) text later h
+inserted-text (Starts names) InsertElement (Then SaveMode (SwitchTo mode.Text)) i k p t f s text later h = no f
+inserted-text kind InsertElement (Then SaveMode (SwitchTo mode.Text)) i k p t f s text later h = no p
 inserted-text kind InsertElement b i k p t f s text later h = no k
 inserted-text kind a b i k p t f s text later h = no i
 

@@ -7,7 +7,7 @@ use Rattle.markup.specs.declared.attributes.Attribute.{Attribute}
 use Rattle.html_tokens.specs.declared.tags.Tag.{Tag}
 use Rattle.html_tokens.specs.declared.token.Token.{Token}
 use Rattle.html_tokens.specs.declared.token.Token.TheVariants.{TagToken}
-use Rattle.html_rules.specs.Actions.{act, back_to_original, or_mode, pop_template_mode, set_head_elem, set_mode, tell_pending_text, without_first}
+use Rattle.html_rules.specs.Actions.{act, restore_mode, or_mode, pop_template_mode, set_head_elem, set_mode, insert_pending_text, without_first}
 use Rattle.html_rules.specs.Choice.{choose}
 use Rattle.html_rules.specs.Conditions.{holds, is_nonempty}
 use Rattle.html_rules.specs.ForeignContent.{is_html_element, is_start_tag}
@@ -20,7 +20,7 @@ use Rattle.html_rules.specs.Sets.{is_among, mathml_names_of, names_of, svg_names
 use Rattle.html_rules.specs.Shape.{is_at_root}
 use Rattle.html_rules.specs.Stack.{expect_to_close, generate_implied_end_tags, has_open, left_below, left_from, parse_error, pop_but_root, pop_until, without_current_but_root}
 use Rattle.html_rules.specs.State.{Open, State, current_is, is_in}
-use Rattle.html_rules.specs.Table.{Condition, TemplateOpen, Action, Then, ParseError, InsertElement, InsertNew, CreateRoot, CreateNewRoot, Pop, PopUntil, Close, ImpliedEndTagsThoroughly, SetHeadElem, ClearToMarker, SwitchTo, BackToOriginal, ResetMode, PopTemplateMode, TellPendingText, Conclusion, Done, Reprocess, ReprocessInOriginal, RunScript}
+use Rattle.html_rules.specs.Table.{Condition, TemplateOpen, Action, Then, ParseError, InsertElement, InsertNew, CreateRoot, CreateNewRoot, Pop, PopUntil, Close, ImpliedEndTagsThoroughly, SetHeadElem, ClearToMarker, SwitchTo, RestoreMode, ResetMode, PopTemplateMode, InsertPendingText, Conclusion, Done, Reprocess, ReprocessInOriginal, RunScript}
 use Rattle.html_rules.specs.Tokens.{attributes_of}
 use Rattle.html_rules.specs.declared.insertion_mode.InsertionMode.{InsertionMode}
 use Rattle.html_rules.specs.declared.insertion_mode.InsertionMode.TheVariants as mode
@@ -288,8 +288,8 @@ under-placed (Some m) (x ∷ xs) h =
     let parts = and_parts (is_own x) _ h in
     rw (own-root x parts.0) (mode-in m None xs (and_parts (is_later m) _ parts.1).1)
 
-text-back : (s : State) → s.mode ≡ mode.Text → Held s → Held (back_to_original (pop_but_root s))
-unfolding back_to_original pop_but_root
+text-back : (s : State) → s.mode ≡ mode.Text → Held s → Held (restore_mode (pop_but_root s))
+unfolding restore_mode pop_but_root
 text-back s e h =
     let firm = firm-part s.open_elems (without_current_but_root s.open_elems) (part-but_root s.open_elems) in
     let fewer = firm.fewer in
@@ -306,14 +306,14 @@ text-back s e h =
 
 abbrev pub text_ok : Action → Conclusion → Bool
 text_ok (Then ParseError Pop) ReprocessInOriginal = true
-text_ok (Then Pop BackToOriginal) Done = true
-text_ok (Then Pop BackToOriginal) RunScript = true
+text_ok (Then Pop RestoreMode) Done = true
+text_ok (Then Pop RestoreMode) RunScript = true
 text_ok a e = false
 
 pub text-ends : (using : InsertionMode → Token → State → Turn) (a : Action) (e : Conclusion) → text_ok a e ≡ true → (t : Token) (script : ℕ) (s : State) → s.mode ≡ mode.Text → Held s → Held (concluded using e t script (act a t s)).state
 text-ends using (Then ParseError Pop) ReprocessInOriginal h t script s at is = text-back (parse_error s) (error-mode s ∙ at) (erred-held s is)
-text-ends using (Then Pop BackToOriginal) Done h t script s at is = text-back s at is
-text-ends using (Then Pop BackToOriginal) RunScript h t script s at is = text-back s at is
+text-ends using (Then Pop RestoreMode) Done h t script s at is = text-back s at is
+text-ends using (Then Pop RestoreMode) RunScript h t script s at is = text-back s at is
 text-ends using a e h t script s at is = no h
 
 -- text of a table is over
@@ -327,8 +327,8 @@ table-placed (Some m) xs h g = by m h where
   by mode.InRow h = g
   by m h = no h
 
-table-back : (s : State) → s.mode ≡ mode.InTableText → Held s → Held (back_to_original s)
-unfolding back_to_original
+table-back : (s : State) → s.mode ≡ mode.InTableText → Held s → Held (restore_mode s)
+unfolding restore_mode
 table-back s e h =
     let later = or-later s.orig_mode s.mode h.original (later-at s mode.InTableText e refl) in
     record {
@@ -344,12 +344,12 @@ table-back s e h =
     }
 
 abbrev pub table_text_ok : Action → Conclusion → Bool
-table_text_ok TellPendingText ReprocessInOriginal = true
+table_text_ok InsertPendingText ReprocessInOriginal = true
 table_text_ok a e = false
 
 pub table_text-ends : (using : InsertionMode → Token → State → Turn) (kind : Kind) (a : Action) (e : Conclusion) → table_text_ok a e ≡ true → (t : Token) → is_of kind t ≡ true → (script : ℕ) (s : State) → s.mode ≡ mode.InTableText → Held s
     → Held (concluded using e t script (act a t s)).state
-table_text-ends using kind TellPendingText ReprocessInOriginal h t f script s at is =
-    let aside = act-aside kind TellPendingText refl t s in
-    table-back (tell_pending_text s) (aside.mode ∙ at) (loose-tame s (ap is_loose at) is (tell_pending_text s) (act-tame kind TellPendingText refl t f s is.listed) aside)
+table_text-ends using kind InsertPendingText ReprocessInOriginal h t f script s at is =
+    let aside = act-aside kind InsertPendingText refl t s in
+    table-back (insert_pending_text s) (aside.mode ∙ at) (loose-tame s (ap is_loose at) is (insert_pending_text s) (act-tame kind InsertPendingText refl t f s is.listed) aside)
 table_text-ends using kind a e h t f script s at is = no h

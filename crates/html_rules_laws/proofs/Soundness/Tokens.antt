@@ -3,14 +3,14 @@ use Rattle.std.proofs.Common.{◌≡◌, ◌∙◌, ℕ, zero, suc, Bool, true, 
 use Rattle.std.specs.Prelude.{◌||◌, ◌&&◌}
 use Rattle.std.proofs.lemmas.Bool.{and_parts}
 use Rattle.html_tokens.specs.declared.token.Token.{Token}
-use Rattle.html_rules.specs.Actions.{act, keep_mode, set_mode}
+use Rattle.html_rules.specs.Actions.{act, save_mode, set_mode}
 use Rattle.html_rules.specs.Choice.{choose}
 use Rattle.html_rules.specs.Conditions.{holds}
 use Rattle.html_rules.specs.Modes.Foreign.{in_foreign_content}
 use Rattle.html_rules.specs.Rules.{Turn, concluded, rows, turn_by_row, using_rules_for}
 use Rattle.html_rules.specs.Sets.{mathml_names_of, names_of, svg_names_of}
 use Rattle.html_rules.specs.State.{State, current_number}
-use Rattle.html_rules.specs.Table.{Row, Condition, Action, Then, ParseError, KeepMode, PushHeadElem, RemoveHeadElem, InsertForeign, Conclusion, Done, Acknowledged, Reprocess, ReprocessInOriginal, ReprocessInMode, Using, UsingThen, UsingCurrentMode, RawText, PlainText, RunScript, TellEncoding}
+use Rattle.html_rules.specs.Table.{Row, Condition, Action, Then, ParseError, SaveMode, PushHeadElem, RemoveHeadElem, InsertForeign, Conclusion, Done, Acknowledged, Reprocess, ReprocessInOriginal, ReprocessInMode, Using, UsingThen, UsingCurrentMode, RawText, PlainText, RunScript, ReportEncoding}
 use Rattle.html_rules.specs.declared.insertion_mode.InsertionMode.{InsertionMode}
 use Rattle.html_rules.specs.declared.insertion_mode.InsertionMode.TheVariants as mode
 use Rattle.html_rules_laws.specs.Held.{Held}
@@ -37,7 +37,7 @@ quiet_ends uses m kind ReprocessInMode = false
 quiet_ends uses m kind e = true
 
 abbrev is_keep : Action → Bool
-is_keep KeepMode = true
+is_keep SaveMode = true
 is_keep a = false
 
 abbrev is_table_text : InsertionMode → Bool
@@ -186,7 +186,7 @@ quiet-ends uses using m t go kind a Acknowledged q h f s is e script = quiet-hel
 quiet-ends uses using m t go kind a (RawText raw) q h f s is e script = quiet-held kind a q t f s is
 quiet-ends uses using m t go kind a PlainText q h f s is e script = quiet-held kind a q t f s is
 quiet-ends uses using m t go kind a RunScript q h f s is e script = quiet-held kind a q t f s is
-quiet-ends uses using m t go kind a TellEncoding q h f s is e script = quiet-held kind a q t f s is
+quiet-ends uses using m t go kind a ReportEncoding q h f s is e script = quiet-held kind a q t f s is
 
 table-general : (m : InsertionMode) → is_table_mode m ≡ true → is_free m ≡ true
 table-general mode.InTable h = refl
@@ -195,8 +195,8 @@ table-general mode.InRow h = refl
 table-general m h = no h
 
 keep-held : (a : Action) (to : InsertionMode) → is_keep a ≡ true → is_table_text to ≡ true → (t : Token) (s : State) → is_table_mode s.mode ≡ true → Held s → Held (set_mode to (act a t s))
-unfolding set_mode keep_mode
-keep-held KeepMode mode.InTableText k l t s table h =
+unfolding set_mode save_mode
+keep-held SaveMode mode.InTableText k l t s table h =
     let free = table-general s.mode table in
     record {
       listed = h.listed;
@@ -206,7 +206,7 @@ keep-held KeepMode mode.InTableText k l t s table h =
       most = h.most;
       placed = λ e root. both _ _ table (sym (free-placed s.mode free s.orig_mode s.open_elems) ∙ h.placed e (λ _. root refl));
     }
-keep-held KeepMode to k l t s table h = no l
+keep-held SaveMode to k l t s table h = no l
 keep-held a to k l t s table h = no k
 
 after-head : (m : InsertionMode) → is_after_head m ≡ true → m ≡ mode.AfterHead
@@ -248,7 +248,7 @@ free-ends uses using m t go again kind c a (RawText raw) h f s o is e script = l
 free-ends uses using m t go again kind c a Acknowledged h f s o is e script = (act-calm kind a h t f s is).held
 free-ends uses using m t go again kind c a PlainText h f s o is e script = (act-calm kind a h t f s is).held
 free-ends uses using m t go again kind c a RunScript h f s o is e script = (act-calm kind a h t f s is).held
-free-ends uses using m t go again kind c a TellEncoding h f s o is e script = (act-calm kind a h t f s is).held
+free-ends uses using m t go again kind c a ReportEncoding h f s o is e script = (act-calm kind a h t f s is).held
 
 -- rows of the other modes
 

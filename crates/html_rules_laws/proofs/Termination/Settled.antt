@@ -4,7 +4,7 @@ use Rattle.std.specs.Prelude.{◌&&◌, not}
 use Rattle.std.proofs.lemmas.Bool.{and_parts}
 use Rattle.html_tokens.specs.declared.token.Token.{Token}
 use Rattle.html_tokens.specs.declared.token.Token.TheVariants.{CharacterTokens, CommentToken, DoctypeToken, EOFToken, NullCharacterToken, ParseError, TagToken}
-use Rattle.html_rules.specs.Actions.{back_to_original, or_mode, set_ignore_lf, set_mode}
+use Rattle.html_rules.specs.Actions.{restore_mode, or_mode, set_ignore_lf, set_mode}
 use Rattle.html_rules.specs.Rules.{Settled, rows, settle}
 use Rattle.html_rules.specs.Shape.{fits_in, fits_in_original, fits_mode, has_root, has_template_modes, is_at_root, is_fit}
 use Rattle.html_rules.specs.Stack.{parse_error, without_current}
@@ -51,8 +51,8 @@ moved-rest : (m : InsertionMode) (s : State) → IsRest s (set_mode m s)
 unfolding set_mode
 moved-rest m s = record { context = refl; ended = refl; modes = λ h. h }
 
-back-rest : (s : State) → IsRest s (back_to_original s)
-unfolding back_to_original
+back-rest : (s : State) → IsRest s (restore_mode s)
+unfolding restore_mode
 back-rest s = record { context = refl; ended = refl; modes = λ h. h }
 
 error-rest : (s : State) → IsRest s (parse_error s)

@@ -6,7 +6,7 @@ use Rattle.std.proofs.lemmas.Bool.{and_parts, cases_lt, eqb-true}
 use Rattle.markup.specs.Forest.{node_count}
 use Rattle.html_tokens.specs.declared.tags.Tag.{Tag}
 use Rattle.html_tokens.specs.declared.token.Token.{Token}
-use Rattle.html_rules.specs.Actions.{act, frameset_not_ok_unless_white, keep_mode, pop_template_mode, push_head, push_head_elem, remove_from_stack_if, remove_head_elem, set_foster_parenting, set_head_elem, set_quirks_mode, set_template_mode, tell_pending_text, tell_text}
+use Rattle.html_rules.specs.Actions.{act, frameset_not_ok_unless_white, save_mode, pop_template_mode, push_head, push_head_elem, remove_from_stack_if, remove_head_elem, set_foster_parenting, set_head_elem, set_quirks_mode, set_template_mode, insert_pending_text, insert_table_text}
 use Rattle.html_rules.specs.Choice.{choose}
 use Rattle.html_rules.specs.ForeignContent.{ends_foreign, pop_foreign}
 use Rattle.html_rules.specs.Formatting.{clear_active_formatting_to_marker, reconstruct_active_formatting_elements, reopen}
@@ -16,7 +16,7 @@ use Rattle.html_rules.specs.Reset.{reset_insertion_mode}
 use Rattle.html_rules.specs.Sets.{is_among, names_of}
 use Rattle.html_rules.specs.Stack.{check_body_end, expect_to_close, generate_implied_end_tags, is_open, nothing, parse_error, pop_but_root, pop_until, pop_until_current, remove_from_stack}
 use Rattle.html_rules.specs.State.{Open, Entry, Element, Marker, State, current_is, is_in}
-use Rattle.html_rules.specs.Table.{Action, Nothing, Then, ParseError, InsertNew, CreateNewRoot, Pop, PopUntil, ClearBackTo, Close, ImpliedEndTags, CheckBodyEnd, SetHeadElem, PushHeadElem, RemoveHeadElem, ClearToMarker, KeepMode, ResetMode, SetTemplateMode, PopTemplateMode, SetQuirks, EnableFosterParenting, DisableFosterParenting, PopForeign}
+use Rattle.html_rules.specs.Table.{Action, Nothing, Then, ParseError, InsertNew, CreateNewRoot, Pop, PopUntil, ClearBackTo, Close, ImpliedEndTags, CheckBodyEnd, SetHeadElem, PushHeadElem, RemoveHeadElem, ClearToMarker, SaveMode, ResetMode, SetTemplateMode, PopTemplateMode, SetQuirks, EnableFosterParenting, DisableFosterParenting, PopForeign}
 use Rattle.html_rules.specs.Tokens.{is_white}
 use Rattle.html_rules.specs.declared.tag_set.TagSet.TheVariants as set
 use Rattle.html_rules_laws.specs.Ready.{are_formatting}
@@ -49,7 +49,7 @@ is_known ImpliedEndTags = true
 is_known CheckBodyEnd = true
 is_known SetHeadElem = true
 is_known ClearToMarker = true
-is_known KeepMode = true
+is_known SaveMode = true
 is_known ResetMode = true
 is_known (SetTemplateMode mode) = is_template_mode mode
 is_known PopTemplateMode = true
@@ -83,7 +83,7 @@ new-brings name xs n = by (is_among name paying_names) where
   by false = omega arith
 
 pub known-brings : (a : Action) → is_known a ≡ true → (t : Token) (s : State) → Brings (brought a) s (act a t s)
-unfolding parse_error insert_element create_root pop_but_root pop_until pop_until_current generate_implied_end_tags check_body_end set_head_elem clear_active_formatting_to_marker keep_mode reset_insertion_mode set_template_mode pop_template_mode set_quirks_mode
+unfolding parse_error insert_element create_root pop_but_root pop_until pop_until_current generate_implied_end_tags check_body_end set_head_elem clear_active_formatting_to_marker save_mode reset_insertion_mode set_template_mode pop_template_mode set_quirks_mode
 known-brings (Then a b) k t s =
     let parts = and_parts (is_known a) (is_known b) k in
     let one = known-brings a parts.0 t s in
@@ -101,7 +101,7 @@ known-brings ImpliedEndTags k t s = brings-part s _ (part-from (λ x. not (is_in
 known-brings CheckBodyEnd k t s = brings-choose (list_all (is_in set.BodyEnd) s.open_elems) 0 s s (parse_error s) (brings-none s s (omega arith) refl) (brings-none s (parse_error s) (omega arith) refl)
 known-brings SetHeadElem k t s = brings-none s _ (omega arith) refl
 known-brings ClearToMarker k t s = brings-none s _ (omega arith) refl
-known-brings KeepMode k t s = brings-none s _ (omega arith) refl
+known-brings SaveMode k t s = brings-none s _ (omega arith) refl
 known-brings ResetMode k t s = brings-none s _ (omega arith) refl
 known-brings (SetTemplateMode mode) k t s = record { payers = omega arith; modes = λ h. rw k (first-modes s.template_modes h) }
 known-brings PopTemplateMode k t s = record { payers = omega arith; modes = first-modes s.template_modes }
@@ -243,11 +243,11 @@ reconstructed-told : (s : State) → are_formatting s.active_formatting ≡ true
 unfolding reconstruct_active_formatting_elements
 reconstructed-told s h = reopened-told s.active_formatting h s
 
-pub pending-told : (s : State) → are_formatting s.active_formatting ≡ true → IsTold s (tell_pending_text s)
-unfolding tell_pending_text append_text set_foster_parenting frameset_not_ok_unless_white parse_error
+pub pending-told : (s : State) → are_formatting s.active_formatting ≡ true → IsTold s (insert_pending_text s)
+unfolding insert_pending_text append_text set_foster_parenting frameset_not_ok_unless_white parse_error
 pending-told s h =
     let made = reconstructed-told (set_foster_parenting true (parse_error s)) h in
-    let told : IsTold s (tell_text s.pending_table_text s) =
+    let told : IsTold s (insert_table_text s.pending_table_text s) =
     told-choose (is_white s.pending_table_text) s _ _ (record { payers = omega arith; mode = refl; original = refl; modes = refl })
     (record { payers = made.payers; mode = made.mode; original = made.original; modes = made.modes }) in
     record { payers = told.payers; mode = told.mode; original = told.original; modes = told.modes }

@@ -4,7 +4,7 @@ use Rattle.std.specs.Prelude.{◌||◌, ◌&&◌, not, nat_eq, nat_le, nat_lt}
 use Rattle.std.proofs.lemmas.Bool.{and_parts, eqb-true, leb-true, ltb-true}
 use Rattle.html_tokens.specs.Sink.{Reply}
 use Rattle.html_tokens.specs.declared.token.Token.{Token}
-use Rattle.html_rules.specs.Actions.{act, back_to_original, or_mode, set_mode}
+use Rattle.html_rules.specs.Actions.{act, restore_mode, or_mode, set_mode}
 use Rattle.html_rules.specs.Choice.{choose}
 use Rattle.html_rules.specs.Conditions.{holds}
 use Rattle.html_rules.specs.Encodings.{encoding_hint}
@@ -14,7 +14,7 @@ use Rattle.html_rules.specs.Reset.{mode_of_html, reset_insertion_mode}
 use Rattle.html_rules.specs.Rules.{Ending, Finished, Again, Replied, Settled, Turn, concluded, encoding_reply, first_fit, four_for_each, most_modes, rows, settle, settled_by, turn, turn_by_row, using_rules_for, within}
 use Rattle.html_rules.specs.Stack.{pop_but_root, pop_until_current}
 use Rattle.html_rules.specs.State.{Open, State, current_number}
-use Rattle.html_rules.specs.Table.{Row, Condition, CurrentIs, InScope, Action, Then, ClearBackTo, Pop, ResetMode, TellPendingText, Conclusion, Done, Acknowledged, Reprocess, ReprocessInOriginal, ReprocessInMode, Using, UsingThen, UsingCurrentMode, RawText, PlainText, RunScript, TellEncoding}
+use Rattle.html_rules.specs.Table.{Row, Condition, CurrentIs, InScope, Action, Then, ClearBackTo, Pop, ResetMode, InsertPendingText, Conclusion, Done, Acknowledged, Reprocess, ReprocessInOriginal, ReprocessInMode, Using, UsingThen, UsingCurrentMode, RawText, PlainText, RunScript, ReportEncoding}
 use Rattle.html_rules.specs.Tokens.{attributes_of, class_fits}
 use Rattle.html_rules.specs.declared.insertion_mode.InsertionMode.{InsertionMode}
 use Rattle.html_rules.specs.declared.insertion_mode.InsertionMode.TheVariants as mode
@@ -180,17 +180,17 @@ reset-goes φ r t s h k e is =
 
 -- back to the original mode
 
-back-goes : (φ : Family) (s r : State) → rank φ s.mode ≡ 16 → payers r.open_elems ≤ payers s.open_elems → r.mode ≡ s.mode → r.orig_mode ≡ s.orig_mode → r.template_modes ≡ s.template_modes → Settling φ s → Gone φ s (back_to_original r)
-unfolding back_to_original
+back-goes : (φ : Family) (s r : State) → rank φ s.mode ≡ 16 → payers r.open_elems ≤ payers s.open_elems → r.mode ≡ s.mode → r.orig_mode ≡ s.orig_mode → r.template_modes ≡ s.template_modes → Settling φ s → Gone φ s (restore_mode r)
+unfolding restore_mode
 back-goes φ s r e less mode original modes is =
     let below : rank φ (or_mode r.orig_mode r.mode) < 16 = rw (original, mode) (is.back e) in
     record { modes = rw modes is.modes; below = below; less = omega arith }
 
-telling-goes : (a : Action) → is_telling a ≡ true → (φ : Family) (t : Token) (s : State) → rank φ s.mode ≡ 16 → Settling φ s → Gone φ s (back_to_original (act a t s))
-telling-goes TellPendingText h φ t s e is = let told = pending-told s (is.listed e) in back-goes φ s _ e told.payers told.mode told.original told.modes is
+telling-goes : (a : Action) → is_telling a ≡ true → (φ : Family) (t : Token) (s : State) → rank φ s.mode ≡ 16 → Settling φ s → Gone φ s (restore_mode (act a t s))
+telling-goes InsertPendingText h φ t s e is = let told = pending-told s (is.listed e) in back-goes φ s _ e told.payers told.mode told.original told.modes is
 telling-goes a h φ t s e is = absurd (true≢false (sym h))
 
-original-goes : (φ : Family) (r : Row) (t : Token) (s : State) → (nat_eq (rank φ s.mode) 16 && (is_mild r.does || is_telling r.does)) ≡ true → Settling φ s → Gone φ s (back_to_original (act r.does t s))
+original-goes : (φ : Family) (r : Row) (t : Token) (s : State) → (nat_eq (rank φ s.mode) 16 && (is_mild r.does || is_telling r.does)) ≡ true → Settling φ s → Gone φ s (restore_mode (act r.does t s))
 original-goes φ r t s h is = by (is_mild r.does) refl parts.1 where
   parts : (nat_eq (rank φ s.mode) 16 ≡ true) × ((is_mild r.does || is_telling r.does) ≡ true)
   parts = and_parts (nat_eq (rank φ s.mode) 16) _ h
@@ -198,7 +198,7 @@ original-goes φ r t s h is = by (is_mild r.does) refl parts.1 where
   at : rank φ s.mode ≡ 16
   at = eqb-true (rank φ s.mode) 16 parts.0
 
-  by : (b : Bool) → is_mild r.does ≡ b → (b || is_telling r.does) ≡ true → Gone φ s (back_to_original (act r.does t s))
+  by : (b : Bool) → is_mild r.does ≡ b → (b || is_telling r.does) ≡ true → Gone φ s (restore_mode (act r.does t s))
   by true f g = let mild = mild-is r.does f t s in back-goes φ s _ at mild.payers mild.mode mild.original mild.modes is
   by false f g = telling-goes r.does g φ t s at is
 
@@ -269,7 +269,7 @@ ends-goes uses using φ m t go kind r UsingCurrentMode h k f s c is e script aga
 ends-goes uses using φ m t go kind r (RawText raw) h k f s c is e script again = replied _ again
 ends-goes uses using φ m t go kind r PlainText h k f s c is e script again = replied _ again
 ends-goes uses using φ m t go kind r RunScript h k f s c is e script again = replied _ again
-ends-goes uses using φ m t go kind r TellEncoding h k f s c is e script again = hint-goes φ s (act r.does t s) (encoding_hint (attributes_of t)) again
+ends-goes uses using φ m t go kind r ReportEncoding h k f s c is e script again = hint-goes φ s (act r.does t s) (encoding_hint (attributes_of t)) again
 
 row-goes : (uses : Kind → InsertionMode → Bool) (using : InsertionMode → Token → State → Turn) (φ : Family) (m : InsertionMode) (t : Token) → Goers uses using φ m t → (kind : Kind) (r : Row) → row_ok uses φ m kind r ≡ true
     → class_fits r.on t ≡ true → is_of kind t ≡ true → (s : State) → holds r.when t s ≡ true → Settling φ s → s.mode ≡ m → Goes φ s (turn_by_row using r t s)

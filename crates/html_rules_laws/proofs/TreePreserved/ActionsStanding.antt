@@ -6,7 +6,7 @@ use Rattle.markup.specs.declared.quirks.QuirksMode.TheVariants.{Quirks}
 use Rattle.html_tokens.specs.declared.tags.Tag.{Tag}
 use Rattle.html_tokens.specs.declared.token.Token.{Token}
 use Rattle.html_tokens.specs.declared.token.Token.TheVariants.{TagToken}
-use Rattle.html_rules.specs.Actions.{act, push_head, push_head_elem, back_to_original, for_tag, forget_form_elem, frameset_not_ok, frameset_not_ok_unless_white, insert_form_void, keep_mode, keep_text, pop_template_mode, push_template_mode, remove_form_elem, remove_head_elem, set_form_elem, set_foster_parenting, set_head_elem, set_ignore_lf, set_mode, set_template_mode}
+use Rattle.html_rules.specs.Actions.{act, push_head, push_head_elem, restore_mode, for_tag, forget_form_elem, frameset_not_ok, frameset_not_ok_unless_white, insert_form_void, save_mode, keep_text, pop_template_mode, push_template_mode, remove_form_elem, remove_head_elem, set_form_elem, set_foster_parenting, set_head_elem, set_ignore_lf, set_mode, set_template_mode}
 use Rattle.html_rules.specs.Conditions.{holds}
 use Rattle.html_rules.specs.ForeignContent.{enter_foreign}
 use Rattle.html_rules.specs.Formatting.{create_formatting_element_for}
@@ -14,7 +14,7 @@ use Rattle.html_rules.specs.Names.{element_name_of, Html, MathMl, Svg, Other}
 use Rattle.html_rules.specs.Places.{insert_and_pop_element_for, insert_element_for}
 use Rattle.html_rules.specs.Reset.{reset_insertion_mode}
 use Rattle.html_rules.specs.State.{State, is_in, is_named}
-use Rattle.html_rules.specs.Table.{Action, Nothing, Then, When, ParseError, InsertElement, InsertVoid, InsertVoidAs, InsertFormVoid, InsertNew, InsertNewVoid, CreateRoot, CreateNewRoot, AppendText, AppendReplacement, AppendComment, AppendCommentToDocument, AppendCommentToRoot, InsertTemplate, AddAttributesToRoot, AddAttributesToBody, RemoveBody, Pop, PopUntil, ClearBackTo, Close, CloseToken, CloseP, CloseItem, ImpliedEndTags, ImpliedEndTagsExcept, ImpliedEndTagsExceptToken, ImpliedEndTagsThoroughly, AnyOtherEndTag, CheckBodyEnd, SetHeadElem, PushHeadElem, RemoveHeadElem, SetFormElem, ForgetFormElem, RemoveFormElem, Reconstruct, InsertFormatting, InsertMarker, ClearToMarker, AdoptionAgency, AdoptNobr, CloseMisnestedA, SwitchTo, KeepMode, BackToOriginal, ResetMode, PushTemplateMode, SetTemplateMode, PopTemplateMode, SetQuirks, FramesetNotOk, FramesetNotOkUnlessWhite, IgnoreLineFeed, EnableFosterParenting, DisableFosterParenting, KeepText, TellPendingText, EnterForeign, InsertForeign, PopForeign, CloseForeign}
+use Rattle.html_rules.specs.Table.{Action, Nothing, Then, When, ParseError, InsertElement, InsertVoid, InsertVoidAs, InsertFormVoid, InsertNew, InsertNewVoid, CreateRoot, CreateNewRoot, AppendText, AppendReplacement, AppendComment, AppendCommentToDocument, AppendCommentToRoot, InsertTemplate, AddAttributesToRoot, AddAttributesToBody, RemoveBody, Pop, PopUntil, ClearBackTo, Close, CloseToken, CloseP, CloseItem, ImpliedEndTags, ImpliedEndTagsExcept, ImpliedEndTagsExceptToken, ImpliedEndTagsThoroughly, AnyOtherEndTag, CheckBodyEnd, SetHeadElem, PushHeadElem, RemoveHeadElem, SetFormElem, ForgetFormElem, RemoveFormElem, Reconstruct, InsertFormatting, InsertMarker, ClearToMarker, AdoptionAgency, AdoptNobr, CloseMisnestedA, SwitchTo, SaveMode, RestoreMode, ResetMode, PushTemplateMode, SetTemplateMode, PopTemplateMode, SetQuirks, FramesetNotOk, FramesetNotOkUnlessWhite, IgnoreLineFeed, EnableFosterParenting, DisableFosterParenting, KeepText, InsertPendingText, EnterForeign, InsertForeign, PopForeign, CloseForeign}
 use Rattle.html_rules.specs.Templates.{insert_template}
 use Rattle.html_rules.specs.Tokens.{attributes_of, name_of, text_of}
 use Rattle.html_rules.specs.declared.tag_set.TagSet.TheVariants as set
@@ -34,7 +34,7 @@ form_void-Standing : (tag : Tag) → Keeps (insert_form_void tag)
 form_void-Standing tag s is = void-Standing tag s is
 
 act-Standing : (a : Action) → is_plain_action a ≡ true → (t : Token) (s : State) → Standing s → Standing (act a t s)
-unfolding set_mode keep_mode back_to_original push_template_mode pop_template_mode set_template_mode frameset_not_ok frameset_not_ok_unless_white set_ignore_lf set_foster_parenting set_head_elem remove_head_elem set_form_elem forget_form_elem remove_form_elem keep_text reset_insertion_mode
+unfolding set_mode save_mode restore_mode push_template_mode pop_template_mode set_template_mode frameset_not_ok frameset_not_ok_unless_white set_ignore_lf set_foster_parenting set_head_elem remove_head_elem set_form_elem forget_form_elem remove_form_elem keep_text reset_insertion_mode
 act-Standing Nothing p t s is = is
 act-Standing (Then a b) p t s is = let parts = and_parts (is_plain_action a) (is_plain_action b) p in act-Standing b parts.1 t (act a t s) (act-Standing a parts.0 t s is)
 act-Standing (When c a) p t s is = choose-Standing (holds c t s) (act a t s) s (act-Standing a p t s is) is
@@ -83,8 +83,8 @@ act-Standing AdoptionAgency p t s is = agency-Standing (name_of t) s is
 act-Standing AdoptNobr p t s is = agency-Standing (codes "nobr") s is
 act-Standing CloseMisnestedA p t s is = misnested_a-Standing s is
 act-Standing (SwitchTo mode) p t s is = is
-act-Standing KeepMode p t s is = is
-act-Standing BackToOriginal p t s is = is
+act-Standing SaveMode p t s is = is
+act-Standing RestoreMode p t s is = is
 act-Standing ResetMode p t s is = is
 act-Standing (PushTemplateMode mode) p t s is = is
 act-Standing (SetTemplateMode mode) p t s is = is
@@ -96,7 +96,7 @@ act-Standing IgnoreLineFeed p t s is = is
 act-Standing EnableFosterParenting p t s is = is
 act-Standing DisableFosterParenting p t s is = is
 act-Standing KeepText p t s is = is
-act-Standing TellPendingText p t s is = tell_pending-Standing s is
+act-Standing InsertPendingText p t s is = tell_pending-Standing s is
 act-Standing (EnterForeign Html) p t s is = for_tag-Standing (enter_foreign Html) t (λ tag s. enter_foreign-Standing Html tag tt s) s is
 act-Standing (EnterForeign MathMl) p t s is = for_tag-Standing (enter_foreign MathMl) t (λ tag s. enter_foreign-Standing MathMl tag tt s) s is
 act-Standing (EnterForeign Svg) p t s is = for_tag-Standing (enter_foreign Svg) t (λ tag s. enter_foreign-Standing Svg tag tt s) s is

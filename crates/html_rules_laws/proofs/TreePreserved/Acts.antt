@@ -4,14 +4,14 @@ use Rattle.std.proofs.lemmas.Bool.{and_parts}
 use Rattle.html_tokens.specs.declared.tags.Tag.{Tag}
 use Rattle.html_tokens.specs.declared.token.Token.{Token}
 use Rattle.html_tokens.specs.declared.token.Token.TheVariants.{TagToken}
-use Rattle.html_rules.specs.Actions.{act, for_tag, forget_form_elem, frameset_not_ok, frameset_not_ok_unless_white, insert_form_void, keep_text, remove_form_elem, remove_head_elem, set_foster_parenting, set_form_elem, set_ignore_lf, tell_pending_text}
+use Rattle.html_rules.specs.Actions.{act, for_tag, forget_form_elem, frameset_not_ok, frameset_not_ok_unless_white, insert_form_void, keep_text, remove_form_elem, remove_head_elem, set_foster_parenting, set_form_elem, set_ignore_lf, insert_pending_text}
 use Rattle.html_rules.specs.Conditions.{holds}
 use Rattle.html_rules.specs.ForeignContent.{close_foreign, ends_foreign, enter_foreign, foreign_end, pop_foreign}
 use Rattle.html_rules.specs.Formatting.{clear_active_formatting_to_marker, create_formatting_element_for, push_marker}
 use Rattle.html_rules.specs.Names.{Html, MathMl, Svg, Other}
 use Rattle.html_rules.specs.Places.{insert_and_pop_element_for, insert_element_for}
 use Rattle.html_rules.specs.State.{State, is_in, is_named}
-use Rattle.html_rules.specs.Table.{Action, Nothing, Then, When, ParseError, InsertElement, InsertVoid, InsertVoidAs, InsertFormVoid, InsertNew, InsertNewVoid, AppendText, AppendReplacement, AppendComment, AppendCommentToDocument, AppendCommentToRoot, AddAttributesToRoot, AddAttributesToBody, RemoveBody, Pop, PopUntil, ClearBackTo, Close, CloseToken, CloseP, CloseItem, ImpliedEndTags, ImpliedEndTagsExcept, ImpliedEndTagsExceptToken, ImpliedEndTagsThoroughly, AnyOtherEndTag, CheckBodyEnd, RemoveHeadElem, SetFormElem, ForgetFormElem, RemoveFormElem, Reconstruct, InsertFormatting, InsertMarker, ClearToMarker, AdoptionAgency, AdoptNobr, CloseMisnestedA, SetQuirks, FramesetNotOk, FramesetNotOkUnlessWhite, IgnoreLineFeed, EnableFosterParenting, DisableFosterParenting, KeepText, TellPendingText, EnterForeign, PopForeign, CloseForeign}
+use Rattle.html_rules.specs.Table.{Action, Nothing, Then, When, ParseError, InsertElement, InsertVoid, InsertVoidAs, InsertFormVoid, InsertNew, InsertNewVoid, AppendText, AppendReplacement, AppendComment, AppendCommentToDocument, AppendCommentToRoot, AddAttributesToRoot, AddAttributesToBody, RemoveBody, Pop, PopUntil, ClearBackTo, Close, CloseToken, CloseP, CloseItem, ImpliedEndTags, ImpliedEndTagsExcept, ImpliedEndTagsExceptToken, ImpliedEndTagsThoroughly, AnyOtherEndTag, CheckBodyEnd, RemoveHeadElem, SetFormElem, ForgetFormElem, RemoveFormElem, Reconstruct, InsertFormatting, InsertMarker, ClearToMarker, AdoptionAgency, AdoptNobr, CloseMisnestedA, SetQuirks, FramesetNotOk, FramesetNotOkUnlessWhite, IgnoreLineFeed, EnableFosterParenting, DisableFosterParenting, KeepText, InsertPendingText, EnterForeign, PopForeign, CloseForeign}
 use Rattle.html_rules.specs.Tokens.{attributes_of, name_of, text_of}
 use Rattle.html_rules.specs.declared.tag_set.TagSet.TheVariants as set
 use Rattle.markup.specs.declared.quirks.QuirksMode.TheVariants.{Quirks}
@@ -24,7 +24,7 @@ use Rattle.html_rules_laws.proofs.TreePreserved.StandingActions.{foreign_end-par
 use Rattle.html_rules_laws.proofs.Frames.Tame.{plain-name}
 use Rattle.html_rules_laws.proofs.TreePreserved.Adoption.{agency-eased, misnested_a-eased}
 use Rattle.html_rules_laws.proofs.TreePreserved.Eases.{Eases, eased-after, eased-either, eased-same}
-use Rattle.html_rules_laws.proofs.TreePreserved.Steps.{EasesBy, append_comment-eased, append_comment_to_doc-eased, append_comment_to_html-eased, append_text-eased, body_attributes-eased, check-eased, close_by-eased, close_item-eased, close_p-eased, enter_foreign-eased, except-eased, expect_to_close-eased, formatting-eased, generic-eased, implied-eased, insert_element-eased, parse_error-eased, pop_but_root-eased, pop_until-eased, pop_until_current-eased, put_element-eased, quirks-eased, reconstruct-eased, remove_body-eased, remove_from_stack_if-eased, root_attributes-eased, tell_text-eased}
+use Rattle.html_rules_laws.proofs.TreePreserved.Steps.{EasesBy, append_comment-eased, append_comment_to_doc-eased, append_comment_to_html-eased, append_text-eased, body_attributes-eased, check-eased, close_by-eased, close_item-eased, close_p-eased, enter_foreign-eased, except-eased, expect_to_close-eased, formatting-eased, generic-eased, implied-eased, insert_element-eased, parse_error-eased, pop_but_root-eased, pop_until-eased, pop_until_current-eased, put_element-eased, quirks-eased, reconstruct-eased, remove_body-eased, remove_from_stack_if-eased, root_attributes-eased, insert_table_text-eased}
 use Rattle.html_rules_laws.proofs.Bools.{no, not_true}
 
 tag-eased : (step : Tag → State → State) (kind : Kind) (t : Token) → is_of kind t ≡ true → ((tag : Tag) → is_of kind (TagToken tag) ≡ true → EasesBy (step tag)) → EasesBy (for_tag step t)
@@ -37,9 +37,9 @@ void-eased tag s is = put_element-eased Html tag.name tag.attrs tag.had_duplicat
 form_void-eased : (tag : Tag) → EasesBy (insert_form_void tag)
 form_void-eased tag s is = let made = void-eased tag s is in record { names = made.names; rooted = made.rooted }
 
-pending-eased : (s : State) → are_formatting s.active_formatting ≡ true → Standing s → Eases s (tell_pending_text s)
-unfolding tell_pending_text
-pending-eased s l is = let told = tell_text-eased s.pending_table_text s l is in record { names = told.names; rooted = told.rooted }
+pending-eased : (s : State) → are_formatting s.active_formatting ≡ true → Standing s → Eases s (insert_pending_text s)
+unfolding insert_pending_text
+pending-eased s l is = let told = insert_table_text-eased s.pending_table_text s l is in record { names = told.names; rooted = told.rooted }
 
 pub act-eased : (kind : Kind) (a : Action) → tame_in kind a ≡ true → is_plain_action a ≡ true → (t : Token) → is_of kind t ≡ true → (s : State) → are_formatting s.active_formatting ≡ true → Standing s → Eases s (act a t s)
 unfolding remove_head_elem remove_form_elem push_marker clear_active_formatting_to_marker frameset_not_ok frameset_not_ok_unless_white set_ignore_lf set_foster_parenting set_form_elem forget_form_elem keep_text pop_foreign close_foreign foreign_end
@@ -96,7 +96,7 @@ act-eased kind IgnoreLineFeed p q t f s l is = record { names = λ n name e. e; 
 act-eased kind EnableFosterParenting p q t f s l is = record { names = λ n name e. e; rooted = λ h. h }
 act-eased kind DisableFosterParenting p q t f s l is = record { names = λ n name e. e; rooted = λ h. h }
 act-eased kind KeepText p q t f s l is = record { names = λ n name e. e; rooted = λ h. h }
-act-eased kind TellPendingText p q t f s l is = pending-eased s l is
+act-eased kind InsertPendingText p q t f s l is = pending-eased s l is
 act-eased kind (EnterForeign Html) p q t f s l is = no p
 act-eased kind (EnterForeign MathMl) p q t f s l is = tag-eased (enter_foreign MathMl) kind t f (λ tag k. enter_foreign-eased MathMl tag tt refl) s is
 act-eased kind (EnterForeign Svg) p q t f s l is = tag-eased (enter_foreign Svg) kind t f (λ tag k. enter_foreign-eased Svg tag tt refl) s is

@@ -4,14 +4,14 @@ use Rattle.std.specs.Prelude.{◌&&◌}
 use Rattle.std.proofs.lemmas.Bool.{and_parts}
 use Rattle.html_tokens.specs.declared.token.Token.{Token}
 use Rattle.html_tokens.specs.declared.token.Token.TheVariants.{TagToken}
-use Rattle.html_rules.specs.Actions.{act, back_to_original, or_mode, set_mode}
+use Rattle.html_rules.specs.Actions.{act, restore_mode, or_mode, set_mode}
 use Rattle.html_rules.specs.Choice.{choose}
 use Rattle.html_rules.specs.ForeignContent.{is_foreign}
 use Rattle.html_rules.specs.Modes.Foreign.{in_foreign_content}
 use Rattle.html_rules.specs.Rules.{Finished, Again, Turn, concluded, encoding_reply, first_fit, most_modes, rows, turn, turn_by_row, using_rules_for}
 use Rattle.html_rules.specs.Sets.{mathml_names_of, names_of, svg_names_of}
 use Rattle.html_rules.specs.State.{State, current_number}
-use Rattle.html_rules.specs.Table.{Row, Action, TellPendingText, Conclusion, Done, Acknowledged, Reprocess, ReprocessInOriginal, ReprocessInMode, Using, UsingThen, UsingCurrentMode, RawText, PlainText, RunScript, TellEncoding}
+use Rattle.html_rules.specs.Table.{Row, Action, InsertPendingText, Conclusion, Done, Acknowledged, Reprocess, ReprocessInOriginal, ReprocessInMode, Using, UsingThen, UsingCurrentMode, RawText, PlainText, RunScript, ReportEncoding}
 use Rattle.html_rules.specs.Tokens.{attributes_of}
 use Rattle.html_rules.specs.Encodings.{encoding_hint}
 use Rattle.html_rules.specs.declared.insertion_mode.InsertionMode.{InsertionMode}
@@ -70,7 +70,7 @@ ends-avoiding uses using t go kind UsingCurrentMode h f script s again = no h
 ends-avoiding uses using t go kind (RawText raw) h f script s again = absurd (cc)
 ends-avoiding uses using t go kind PlainText h f script s again = absurd (cc)
 ends-avoiding uses using t go kind RunScript h f script s again = absurd (cc)
-ends-avoiding uses using t go kind TellEncoding h f script s again = encoded (encoding_hint (attributes_of t)) again
+ends-avoiding uses using t go kind ReportEncoding h f script s again = encoded (encoding_hint (attributes_of t)) again
 
 uses-avoiding : (n : ℕ) (t : Token) (kind : Kind) (to : InsertionMode) → uses_avoiding n kind to ≡ true → is_of kind t ≡ true → (s : State) → Avoids (using_rules_for n to t s)
 unfolding uses_avoiding using_rules_for Avoids
@@ -91,7 +91,7 @@ avoiding-next : (r : State) → avoids r.mode ≡ true → IsNext r
 avoiding-next r h = record { head = λ e. true≢false (sym h ∙ ap avoids e); original = λ e o. true≢false (sym h ∙ ap avoids e) }
 
 abbrev is_told : Action → Conclusion → Bool
-is_told TellPendingText ReprocessInOriginal = true
+is_told InsertPendingText ReprocessInOriginal = true
 is_told a e = false
 
 abbrev tells : Kind → Row → Bool
@@ -102,9 +102,9 @@ or-next None h e = absurd (cc)
 or-next (Some m) h e = h (ap Some e)
 
 told-next : (using : InsertionMode → Token → State → Turn) (a : Action) (e : Conclusion) → is_told a e ≡ true → (t : Token) (script : ℕ) (s : State) → s.mode ≡ mode.InTableText → (s.orig_mode ≡ Some mode.AfterHead → ⊥) → IsNext (concluded using e t script (act a t s)).state
-unfolding back_to_original
-told-next using TellPendingText ReprocessInOriginal h t script s at original =
-    let aside = act-aside (Starts []) TellPendingText refl t s in
+unfolding restore_mode
+told-next using InsertPendingText ReprocessInOriginal h t script s at original =
+    let aside = act-aside (Starts []) InsertPendingText refl t s in
     record { head = λ e. or-next s.orig_mode original (rw (aside.original, aside.mode, at) at e); original = λ e o. absurd (cc) }
 told-next using a e h t script s at original = no h
 

@@ -7,7 +7,7 @@ use Rattle.markup.specs.declared.names.QualName.{QualName}
 use Rattle.html_tokens.specs.declared.tags.Tag.{Tag}
 use Rattle.html_tokens.specs.declared.token.Token.{Token}
 use Rattle.html_tokens.specs.declared.token.Token.TheVariants.{TagToken}
-use Rattle.html_rules.specs.Actions.{act, back_to_original, for_tag, keep_mode, or_mode, pop_template_mode, push_template_mode, set_mode, set_template_mode, without_first}
+use Rattle.html_rules.specs.Actions.{act, restore_mode, for_tag, save_mode, or_mode, pop_template_mode, push_template_mode, set_mode, set_template_mode, without_first}
 use Rattle.html_rules.specs.Choice.{choose}
 use Rattle.html_rules.specs.Conditions.{holds}
 use Rattle.html_rules.specs.ForeignContent.{is_start_tag}
@@ -17,7 +17,7 @@ use Rattle.html_rules.specs.Reset.{current_template_mode, mode_of, mode_of_conte
 use Rattle.html_rules.specs.Sets.{is_among, mathml_names_of, names_of, svg_names_of}
 use Rattle.html_rules.specs.Stack.{pop}
 use Rattle.html_rules.specs.State.{Open, State, adjusted_current_node, is_in}
-use Rattle.html_rules.specs.Table.{Action, Then, When, InsertTemplate, SwitchTo, KeepMode, BackToOriginal, ResetMode, PushTemplateMode, SetTemplateMode, PopTemplateMode}
+use Rattle.html_rules.specs.Table.{Action, Then, When, InsertTemplate, SwitchTo, SaveMode, RestoreMode, ResetMode, PushTemplateMode, SetTemplateMode, PopTemplateMode}
 use Rattle.html_rules.specs.Templates.{attach_shadow_root, insert_template, may_be_shadow_root, number_of}
 use Rattle.html_rules.specs.declared.insertion_mode.InsertionMode.{InsertionMode}
 use Rattle.html_rules.specs.declared.insertion_mode.InsertionMode.TheVariants as mode
@@ -161,8 +161,8 @@ pub moved-poised : (m : InsertionMode) (s : State) → is_first m ≡ false → 
 unfolding set_mode
 moved-poised m s k h = record { upright = record { standing = h.upright.standing; rooted = h.upright.rooted; head = h.upright.head; context = h.upright.context }; listed = h.listed; mode = k; original = h.original; modes = h.modes }
 
-pub back-poised : (s : State) → Poised s → Poised (back_to_original s)
-unfolding back_to_original
+pub back-poised : (s : State) → Poised s → Poised (restore_mode s)
+unfolding restore_mode
 back-poised s h = record { upright = record { standing = h.upright.standing; rooted = h.upright.rooted; head = h.upright.head; context = h.upright.context }; listed = h.listed; mode = first-or s.orig_mode s.mode h.original h.mode; original = refl; modes = h.modes }
 
 abbrev pub poised_in : Kind → Action → Bool
@@ -170,8 +170,8 @@ poised_in kind (Then a b) = poised_in kind a && poised_in kind b
 poised_in kind (When c a) = poised_in kind a
 poised_in kind InsertTemplate = starts_template kind
 poised_in kind (SwitchTo m) = not (is_first m)
-poised_in kind KeepMode = true
-poised_in kind BackToOriginal = true
+poised_in kind SaveMode = true
+poised_in kind RestoreMode = true
 poised_in kind ResetMode = true
 poised_in kind (PushTemplateMode m) = not (is_first m)
 poised_in kind (SetTemplateMode m) = not (is_first m)
@@ -183,13 +183,13 @@ either-poised true x y h k = h
 either-poised false x y h k = k
 
 pub act-poised : (kind : Kind) (a : Action) → poised_in kind a ≡ true → (t : Token) → is_of kind t ≡ true → (s : State) → Poised s → Poised (act a t s)
-unfolding keep_mode reset_insertion_mode push_template_mode set_template_mode pop_template_mode
+unfolding save_mode reset_insertion_mode push_template_mode set_template_mode pop_template_mode
 act-poised kind (Then a b) p t f s h = let parts = and_parts (poised_in kind a) (poised_in kind b) p in act-poised kind b parts.1 t f (act a t s) (act-poised kind a parts.0 t f s h)
 act-poised kind (When c a) p t f s h = either-poised (holds c t s) (act a t s) s (act-poised kind a p t f s h) h
 act-poised kind InsertTemplate p t f s h = tag-template kind p t f s h
 act-poised kind (SwitchTo m) p t f s h = moved-poised m s (not_true _ p) h
-act-poised kind KeepMode p t f s h = record { upright = record { standing = h.upright.standing; rooted = h.upright.rooted; head = h.upright.head; context = h.upright.context }; listed = h.listed; mode = h.mode; original = h.mode; modes = h.modes }
-act-poised kind BackToOriginal p t f s h = back-poised s h
+act-poised kind SaveMode p t f s h = record { upright = record { standing = h.upright.standing; rooted = h.upright.rooted; head = h.upright.head; context = h.upright.context }; listed = h.listed; mode = h.mode; original = h.mode; modes = h.modes }
+act-poised kind RestoreMode p t f s h = back-poised s h
 act-poised kind ResetMode p t f s h = record { upright = record { standing = h.upright.standing; rooted = h.upright.rooted; head = h.upright.head; context = h.upright.context }; listed = h.listed; mode = first-open s s.open_elems h.modes; original = h.original; modes = h.modes }
 act-poised kind (PushTemplateMode m) p t f s h = record { upright = record { standing = h.upright.standing; rooted = h.upright.rooted; head = h.upright.head; context = h.upright.context }; listed = h.listed; mode = h.mode; original = h.original; modes = both _ _ p h.modes }
 act-poised kind (SetTemplateMode m) p t f s h = record { upright = record { standing = h.upright.standing; rooted = h.upright.rooted; head = h.upright.head; context = h.upright.context }; listed = h.listed; mode = h.mode; original = h.original; modes = both _ _ p (first-without s.template_modes h.modes) }

@@ -12,7 +12,7 @@ use Rattle.html_rules.specs.Sets.{names_of}
 use Rattle.html_rules.specs.Shape.{is_at_root}
 use Rattle.html_rules.specs.Stack.{parse_error}
 use Rattle.html_rules.specs.State.{State, current_number}
-use Rattle.html_rules.specs.Table.{Row, Action, Then, ParseError, PushHeadElem, RemoveHeadElem, Conclusion, Done, Acknowledged, Reprocess, ReprocessInOriginal, ReprocessInMode, Using, UsingThen, UsingCurrentMode, RawText, PlainText, RunScript, TellEncoding}
+use Rattle.html_rules.specs.Table.{Row, Action, Then, ParseError, PushHeadElem, RemoveHeadElem, Conclusion, Done, Acknowledged, Reprocess, ReprocessInOriginal, ReprocessInMode, Using, UsingThen, UsingCurrentMode, RawText, PlainText, RunScript, ReportEncoding}
 use Rattle.html_rules.specs.declared.insertion_mode.InsertionMode.{InsertionMode}
 use Rattle.html_rules.specs.declared.insertion_mode.InsertionMode.TheVariants as mode
 use Rattle.html_rules.specs.declared.tag_set.TagSet.TheVariants as set
@@ -78,7 +78,7 @@ ends-poised uses using t go kind UsingCurrentMode h f script s is = no h
 ends-poised uses using t go kind (RawText raw) h f script s is = is
 ends-poised uses using t go kind PlainText h f script s is = is
 ends-poised uses using t go kind RunScript h f script s is = is
-ends-poised uses using t go kind TellEncoding h f script s is = is
+ends-poised uses using t go kind ReportEncoding h f script s is = is
 
 row-poised : (uses : Kind → InsertionMode → Bool) (using : InsertionMode → Token → State → Turn) (t : Token) → Keeper uses using t → (kind : Kind) (r : Row) → row_poised uses kind r ≡ true → is_of kind t ≡ true → (s : State) → Poised s → Poised (turn_by_row using r t s).state
 row-poised uses using t go kind r h f s is =

@@ -15,7 +15,7 @@ use Rattle.markup.proofs.Trees.{IsTree-add_attributes, IsTree-remove}
 use Rattle.markup.proofs.Walks.{Above-less}
 use Rattle.markup.proofs.PutTexts.{IsInPlace-add_attributes, IsParent-document, element-IsNode, element_name-with_attributes}
 use Rattle.html_tokens.specs.declared.tags.Tag.{Tag}
-use Rattle.html_rules.specs.Actions.{append_in_body, frameset_not_ok_unless_white, push_head, remove_from_stack_if, set_foster_parenting, set_quirks_mode, tell_pending_text, tell_text}
+use Rattle.html_rules.specs.Actions.{append_in_body, frameset_not_ok_unless_white, push_head, remove_from_stack_if, set_foster_parenting, set_quirks_mode, insert_pending_text, insert_table_text}
 use Rattle.html_rules.specs.Choice.{choose}
 use Rattle.html_rules.specs.ForeignContent.{ForeignEnd, Dropped, AsInMode, Closed, close_foreign, close_foreign_by, ends_foreign, enter_foreign, foreign_end, foreign_end_from, foreign_start, foreign_start_at, is_html_element, is_named_any_case, pop_foreign}
 use Rattle.html_rules.specs.Formatting.{reconstruct_active_formatting_elements}
@@ -164,13 +164,13 @@ append_in_body-Standing text s is = append_text-Standing text _ (relabel (recons
   relabel : Standing (reconstruct_active_formatting_elements s) → Standing (frameset_not_ok_unless_white text (reconstruct_active_formatting_elements s))
   relabel h = h
 
-pub tell_text-Standing : (text : List ℕ) → Keeps (tell_text text)
+pub insert_table_text-Standing : (text : List ℕ) → Keeps (insert_table_text text)
 unfolding set_foster_parenting
-tell_text-Standing text s is = choose-Standing (is_white text) _ _ (append_text-Standing text s is) (append_in_body-Standing text _ (parse_error-Standing s is))
+insert_table_text-Standing text s is = choose-Standing (is_white text) _ _ (append_text-Standing text s is) (append_in_body-Standing text _ (parse_error-Standing s is))
 
-pub tell_pending-Standing : Keeps tell_pending_text
-unfolding tell_pending_text
-tell_pending-Standing s is = tell_text-Standing s.pending_table_text s is
+pub tell_pending-Standing : Keeps insert_pending_text
+unfolding insert_pending_text
+tell_pending-Standing s is = insert_table_text-Standing s.pending_table_text s is
 
 -- foreign content
 

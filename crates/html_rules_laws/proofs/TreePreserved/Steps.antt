@@ -10,7 +10,7 @@ use Rattle.markup.specs.declared.quirks.QuirksMode.{QuirksMode}
 use Rattle.markup.proofs.PutTexts.{IsParent-document}
 use Rattle.html_tokens.specs.declared.tags.Tag.{Tag}
 use Rattle.html_tokens.specs.declared.token.Doctype.{Doctype}
-use Rattle.html_rules.specs.Actions.{append_in_body, frameset_not_ok_unless_white, remove_from_stack_if, set_foster_parenting, set_quirks_mode, tell_text}
+use Rattle.html_rules.specs.Actions.{append_in_body, frameset_not_ok_unless_white, remove_from_stack_if, set_foster_parenting, set_quirks_mode, insert_table_text}
 use Rattle.html_rules.specs.ForeignContent.{ForeignEnd, Dropped, AsInMode, Closed, close_foreign_by, enter_foreign, foreign_start_at}
 use Rattle.html_rules.specs.Formatting.{create_formatting_element_for, list_current, reconstruct_active_formatting_elements, reopen}
 use Rattle.html_rules.specs.Names.{Namespace, Html, is_html}
@@ -232,8 +232,8 @@ append_in_body-eased text s h is =
     relabel : Standing (reconstruct_active_formatting_elements s) → Standing (frameset_not_ok_unless_white text (reconstruct_active_formatting_elements s))
     relabel h = h
 
-pub tell_text-eased : (text : List ℕ) (s : State) → are_formatting s.active_formatting ≡ true → Standing s → Eases s (tell_text text s)
+pub insert_table_text-eased : (text : List ℕ) (s : State) → are_formatting s.active_formatting ≡ true → Standing s → Eases s (insert_table_text text s)
 unfolding set_foster_parenting parse_error
-tell_text-eased text s h is =
+insert_table_text-eased text s h is =
     eased-either (is_white text) s (append_text text s) _ (append_text-eased text s is)
     (eased-after s (parse_error s) _ (parse_error-eased s is) (let made = append_in_body-eased text (set_foster_parenting true (parse_error s)) h (parse_error-Standing s is) in record { names = made.names; rooted = made.rooted }))

@@ -75,7 +75,7 @@ fn is_current<Sink: TreeSink>(
 }
 
 /// An error, if a node is not the current one.
-fn tell_unless_current<Sink: TreeSink>(
+fn report_unless_current<Sink: TreeSink>(
     sink: &mut Sink,
     elements: &[OpenElement<Sink::Handle>],
     node: &Sink::Handle,
@@ -110,7 +110,7 @@ fn turn_open<Sink: TreeSink>(
     ensures below { take from elements.new.items ≡ take from elements.old.items }
     ensures fault { IfErr result (λ fault. fault ≡ Memory) }
 {
-    tell_unless_current(sink, elements.as_slice(), &formatting.node);
+    report_unless_current(sink, elements.as_slice(), &formatting.node);
     let Some(block) = furthest_block::<Sink>(&elements.as_slice()[from + 1..]) else {
         elements.truncate(from);
         unlist(sink, entries, &formatting.node);

@@ -33,7 +33,7 @@ fn has_form_attribute(attributes: &[Attribute]) -> bool
 }
 
 /// Tells the sink of the form to which a new element belongs, if there is one, and of the nodes that say where the element is put.
-fn tell_owner<Sink: TreeSink>(
+fn report_owner<Sink: TreeSink>(
     sink: &mut Sink,
     made: &Sink::Handle,
     owner: Option<Sink::Handle>,
@@ -57,7 +57,7 @@ fn tell_owner<Sink: TreeSink>(
 }
 
 /// Tells the sink of a script that has started.
-fn tell_started<Sink: TreeSink>(sink: &mut Sink, made: &Sink::Handle, already_started: bool)
+fn report_started<Sink: TreeSink>(sink: &mut Sink, made: &Sink::Handle, already_started: bool)
     requires { IsNode (Sink.forest sink.old) (Sink.node made.now) }
     ensures { Sink.forest sink.new ≡ Sink.forest sink.old }
 {
@@ -85,8 +85,8 @@ fn put_element<Sink: TreeSink>(
 {
     let already_started = element.already_started;
     let made = element.create(sink)?;
-    tell_started(sink, &made, already_started);
-    tell_owner(sink, &made, owner, point);
+    report_started(sink, &made, already_started);
+    report_owner(sink, &made, owner, point);
     insert_at(sink, point, NodeOrText::AppendNode(made))?;
     Ok(made)
 }

@@ -77,7 +77,7 @@ impl NewElement {
     pub(crate) fn open_name(&self, alloc: Global) -> Result<ElementName, ParseFault>
         requires { IsNew self.now }
         ensures ok { IfOk result (λ name. name ≡ record { namespace = namespace_of self.now.namespace; name = self.now.name }) }
-        ensures err { IfErr result (λ fault. fault ≡ Memory) }
+        ensures fault { IfErr result (λ fault. fault ≡ Memory) }
     {
         ElementName::with_class(alloc, self.class, &self.namespace, &self.name)
     }

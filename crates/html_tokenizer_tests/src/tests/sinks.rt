@@ -37,7 +37,7 @@ impl Naming {
 
     // Keeps a code.
     fn keep_code(&mut self, code: &str) -> Result<(), ParseFault>
-        ensures memory { IfErr result (λ fault. fault ≡ Memory) }
+        ensures fault { IfErr result (λ fault. fault ≡ Memory) }
         ensures kept { self.new ≡ record self.old { codes = self.new.codes } }
     {
         self.codes.push(' ')?;
@@ -47,7 +47,7 @@ impl Naming {
     // Keeps the text or the code of a token.
     fn keep(&mut self, token: &Token) -> Result<(), ParseFault>
         ensures counts { Counts true token.now result self.old.errors self.new.errors }
-        ensures memory { IfErr result (λ fault. fault ≡ Memory) }
+        ensures fault { IfErr result (λ fault. fault ≡ Memory) }
         ensures kept { self.new.has_failed ≡ self.old.has_failed }
         ensures asks { self.new.asks_cdata ≡ self.old.asks_cdata }
     {
@@ -64,7 +64,7 @@ impl Naming {
     // What a token is answered by.
     fn reply(&self, token: &Token) -> Result<TokenSinkResult<u64>, ParseFault>
         ensures reply { IfOk result (λ reply. reply_to token.now ≡ numbered (λ n. n) reply) }
-        ensures memory { IfErr result (λ fault. fault ≡ Memory) }
+        ensures fault { IfErr result (λ fault. fault ≡ Memory) }
     {
         match token {
             Token::TagToken(tag) => {
@@ -79,7 +79,7 @@ impl Naming {
     fn take(&mut self, token: &Token) -> Result<TokenSinkResult<u64>, ParseFault>
         ensures taken { IfOk result (λ reply. reply_to token.now ≡ numbered (λ n. n) reply) }
         ensures counts { Counts true token.now result self.old.errors self.new.errors }
-        ensures memory { IfErr result (λ fault. fault ≡ Memory) }
+        ensures fault { IfErr result (λ fault. fault ≡ Memory) }
         ensures kept { self.new.has_failed ≡ self.old.has_failed }
         ensures asks { self.new.asks_cdata ≡ self.old.asks_cdata }
     {

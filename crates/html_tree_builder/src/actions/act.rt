@@ -21,7 +21,7 @@ impl<Sink: TreeSink> Construction<Sink> {
     /// The sink is told that a token was not expected.
     #[tactic(auto, unfolding(html_rules::specs::Stack::parse_error))]
     #[inline(never)]
-    fn tell_unexpected(&self, sink: &mut Sink, told: &Told<'_>)
+    fn report_unexpected(&self, sink: &mut Sink, told: &Told<'_>)
         ensures { (a : Answers) → state_of a self.now (Sink.forest sink.new) ≡ parse_error (state_of a self.now (Sink.forest sink.old)) }
     {
         let message = errors::of_token(self.alloc, told, self.mode, self.opts.exact_errors);
@@ -45,7 +45,7 @@ impl<Sink: TreeSink> Construction<Sink> {
         match action {
             Action::Nothing | Action::Then(..) | Action::When(..) => Ok(()),
             Action::ParseError => {
-                self.tell_unexpected(sink, told);
+                self.report_unexpected(sink, told);
                 Ok(())
             }
             Action::InsertElement => self.insert_element_or_script(sink, told),
@@ -155,12 +155,12 @@ impl<Sink: TreeSink> Construction<Sink> {
                 self.set_mode(*mode);
                 Ok(())
             }
-            Action::KeepMode => {
-                self.keep_mode();
+            Action::SaveMode => {
+                self.save_mode();
                 Ok(())
             }
-            Action::BackToOriginal => {
-                self.back_to_original();
+            Action::RestoreMode => {
+                self.restore_mode();
                 Ok(())
             }
             Action::ResetMode => {
@@ -198,7 +198,7 @@ impl<Sink: TreeSink> Construction<Sink> {
                 Ok(())
             }
             Action::KeepText => self.keep_text(told.text()),
-            Action::TellPendingText => self.tell_pending_text(sink),
+            Action::InsertPendingText => self.insert_pending_text(sink),
             Action::EnterForeign(namespace) => self.enter_foreign(sink, *namespace, told),
             Action::InsertForeign => self.insert_foreign(sink, told),
             Action::PopForeign => {
@@ -264,7 +264,7 @@ impl<Sink: TreeSink> Construction<Sink> {
     }
 
     /// The same, with what stands behind it.
-    pub(crate) fn take_action(
+    pub(crate) fn perform(
         &mut self,
         sink: &mut Sink,
         action: &Action,

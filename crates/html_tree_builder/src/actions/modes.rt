@@ -2,7 +2,7 @@
 ghost use Rattle.std.specs.Prelude.{◌≡◌, OnOk, IfErr, false};
 ghost use Rattle.std.specs.Str.{chars};
 ghost use Rattle.markup.specs.declared.fault.ParseFault.TheVariants.{Memory};
-ghost use Rattle.html_rules.specs.Actions.{back_to_original, forget_form_elem, frameset_not_ok, frameset_not_ok_unless_white, keep_mode, pop_template_mode, push_template_mode, set_foster_parenting, set_ignore_lf, set_mode, set_quirks_mode, set_template_mode};
+ghost use Rattle.html_rules.specs.Actions.{restore_mode, forget_form_elem, frameset_not_ok, frameset_not_ok_unless_white, save_mode, pop_template_mode, push_template_mode, set_foster_parenting, set_ignore_lf, set_mode, set_quirks_mode, set_template_mode};
 ghost use Rattle.html_stack.specs.Modes.{IsContext};
 ghost use Rattle.html_rules.specs.Reset.{reset_insertion_mode};
 ghost use Rattle.html_rules.specs.State.{Answers};
@@ -25,17 +25,17 @@ impl<Sink: TreeSink> Construction<Sink> {
     }
 
     /// The mode becomes the original one.
-    #[tactic(auto, unfolding(html_rules::specs::Actions::keep_mode))]
-    pub(crate) fn keep_mode(&mut self)
-        ensures { (a : Answers) (f : Forest) → state_of a self.new f ≡ keep_mode (state_of a self.old f) }
+    #[tactic(auto, unfolding(html_rules::specs::Actions::save_mode))]
+    pub(crate) fn save_mode(&mut self)
+        ensures { (a : Answers) (f : Forest) → state_of a self.new f ≡ save_mode (state_of a self.old f) }
     {
         self.orig_mode = Some(self.mode);
     }
 
     /// The original mode becomes the mode.
-    #[tactic(auto, unfolding(html_rules::specs::Actions::back_to_original))]
-    pub(crate) fn back_to_original(&mut self)
-        ensures { (a : Answers) (f : Forest) → state_of a self.new f ≡ back_to_original (state_of a self.old f) }
+    #[tactic(auto, unfolding(html_rules::specs::Actions::restore_mode))]
+    pub(crate) fn restore_mode(&mut self)
+        ensures { (a : Answers) (f : Forest) → state_of a self.new f ≡ restore_mode (state_of a self.old f) }
     {
         if let Some(mode) = self.orig_mode {
             self.mode = mode;

@@ -2,7 +2,7 @@
 ghost use Rattle.std.specs.Prelude.{◌≡◌, IfErr, OnOk};
 ghost use Rattle.std.specs.Str.{chars};
 ghost use Rattle.markup.specs.declared.fault.ParseFault.TheVariants.{Memory};
-ghost use Rattle.html_rules.specs.Actions.{append_in_body, tell_pending_text, tell_text};
+ghost use Rattle.html_rules.specs.Actions.{append_in_body, insert_pending_text, insert_table_text};
 ghost use Rattle.html_tree_builder.specs.Acting.{foster_text};
 ghost use Rattle.html_rules.specs.State.{Answers};
 ghost use Rattle.html_tree_builder.specs.States.{Stands, state_of};
@@ -38,9 +38,9 @@ impl<Sink: TreeSink> Construction<Sink> {
     }
 
     /// Text of a table goes where it belongs: white space is appended, any other text is fostered.
-    fn tell_text(&mut self, sink: &mut Sink, text: &str) -> Result<(), ParseFault>
+    fn insert_table_text(&mut self, sink: &mut Sink, text: &str) -> Result<(), ParseFault>
         requires stands { Stands (Sink.forest sink.old) self.old }
-        ensures ok { OnOk result ((a : Answers) → state_of a self.new (Sink.forest sink.new) ≡ tell_text (chars text.now) (state_of a self.old (Sink.forest sink.old))) }
+        ensures ok { OnOk result ((a : Answers) → state_of a self.new (Sink.forest sink.new) ≡ insert_table_text (chars text.now) (state_of a self.old (Sink.forest sink.old))) }
         ensures fault { IfErr result (λ fault. fault ≡ Memory) }
     {
         if is_white(text) {
@@ -51,13 +51,13 @@ impl<Sink: TreeSink> Construction<Sink> {
 
     /// The pending table character tokens go where the table's text goes.
     #[inline(never)]
-    pub(crate) fn tell_pending_text(&mut self, sink: &mut Sink) -> Result<(), ParseFault>
+    pub(crate) fn insert_pending_text(&mut self, sink: &mut Sink) -> Result<(), ParseFault>
         requires stands { Stands (Sink.forest sink.old) self.old }
-        ensures ok { OnOk result ((a : Answers) → state_of a self.new (Sink.forest sink.new) ≡ tell_pending_text (state_of a self.old (Sink.forest sink.old))) }
+        ensures ok { OnOk result ((a : Answers) → state_of a self.new (Sink.forest sink.new) ≡ insert_pending_text (state_of a self.old (Sink.forest sink.old))) }
         ensures fault { IfErr result (λ fault. fault ≡ Memory) }
     {
         let text = self.pending_table_text.copy(self.alloc)?;
-        self.tell_text(sink, text.as_str())?;
+        self.insert_table_text(sink, text.as_str())?;
         self.pending_table_text.clear();
         Ok(())
     }

@@ -56,12 +56,12 @@ impl<Sink: TreeSink> Construction<Sink> {
     }
 
     /// Tells the sink of a script that the end of the input cuts off.
-    fn tell_cut_off_script(&self, sink: &mut Sink, told: &Told<'_>)
+    fn report_cut_off_script(&self, sink: &mut Sink, told: &Told<'_>)
         requires stands { Stands (Sink.forest sink.old) self.now }
         ensures { Sink.forest sink.new ≡ Sink.forest sink.old }
     {
         if self.cuts_off_text(told) {
-            self.stack.tell_cut_off_script(sink);
+            self.stack.report_cut_off_script(sink);
         }
     }
 
@@ -72,7 +72,7 @@ impl<Sink: TreeSink> Construction<Sink> {
         requires stands { Stands (Sink.forest sink.old) self.old }
         ensures { (a : Answers) → state_of a self.new (Sink.forest sink.new) ≡ pop_but_root (state_of a self.old (Sink.forest sink.old)) }
     {
-        self.tell_cut_off_script(sink, told);
+        self.report_cut_off_script(sink, told);
         self.pop_but_root(sink);
     }
 }

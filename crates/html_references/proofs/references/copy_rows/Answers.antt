@@ -9,4 +9,4 @@ loop-row-preserved c =
     ∙ sym (take_more c.args.rows.now c.loop-row.row-index c.row-item.result c.loop-row-test.true)
 
 pub returns : goal.returns
-returns c = record { ok = c.loop-row.invariant ∙ take_all c.loop-row.row-index c.args.rows.now c.loop-row-test.false; err = tt }
+returns c = record { ok = c.loop-row.invariant ∙ take_all c.loop-row.row-index c.args.rows.now c.loop-row-test.false; fault = tt }

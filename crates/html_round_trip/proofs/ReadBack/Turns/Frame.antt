@@ -8,7 +8,7 @@ use Rattle.markup.specs.declared.quirks.QuirksMode.{QuirksMode}
 use Rattle.markup.specs.declared.quirks.QuirksMode.TheVariants.{NoQuirks}
 use Rattle.html_plain.specs.Elements.{spelled}
 use Rattle.html_plain.specs.declared.elements.PlainElement.TheVariants.{Html, Head, Title, Body}
-use Rattle.html_rules.specs.Actions.{back_to_original, frameset_not_ok, keep_mode, set_head_elem, set_ignore_lf, set_mode, set_quirks_mode}
+use Rattle.html_rules.specs.Actions.{restore_mode, frameset_not_ok, save_mode, set_head_elem, set_ignore_lf, set_mode, set_quirks_mode}
 use Rattle.html_rules.specs.Doctypes.{doctype_error, quirks_of}
 use Rattle.html_rules.specs.Encodings.{is_space}
 use Rattle.html_rules.specs.ForeignContent.{is_foreign}
@@ -59,15 +59,15 @@ module _ (o : Around) where
 
     pub start-title : (attrs : List Attribute) → turn (start_token (spelled Title) attrs) (at o head mode.InHead f (opened m Head ∷ opened n Html ∷ []) [] true)
         ≡ turn_of (in_title o head (put_new f (Last m) (element_node Title attrs)) (opened (node_count f) Title ∷ opened m Head ∷ opened n Html ∷ [])) (Replied (RawData Rcdata))
-    unfolding turn is_foreign using_rules_for rows names_of keep_mode set_mode
-    start-title attrs = ap (λ s. turn_of (set_mode mode.Text (keep_mode s)) (Replied (RawData Rcdata))) (inserted o head mode.InHead Title attrs m Head f (opened n Html ∷ []) [] true)
+    unfolding turn is_foreign using_rules_for rows names_of save_mode set_mode
+    start-title attrs = ap (λ s. turn_of (set_mode mode.Text (save_mode s)) (Replied (RawData Rcdata))) (inserted o head mode.InHead Title attrs m Head f (opened n Html ∷ []) [] true)
 
     pub character-in_title : (t : ℕ) (c : ℕ) → turn (CharacterTokens (c ∷ [])) (in_title o head f (opened t Title ∷ opened m Head ∷ opened n Html ∷ [])) ≡ turn_of (in_title o head (put_text f (Last t) (c ∷ [])) (opened t Title ∷ opened m Head ∷ opened n Html ∷ [])) (Finished false)
     unfolding turn is_foreign using_rules_for rows append_text names_of
     character-in_title t c = refl
 
     pub end-title : (t : ℕ) → turn (end_token (spelled Title)) (in_title o head f (opened t Title ∷ opened m Head ∷ opened n Html ∷ [])) ≡ turn_of (at o head mode.InHead f (opened m Head ∷ opened n Html ∷ []) [] true) (Finished false)
-    unfolding turn is_foreign using_rules_for rows names_of pop_but_root back_to_original
+    unfolding turn is_foreign using_rules_for rows names_of pop_but_root restore_mode
     end-title t = refl
 
     pub end-head : turn (end_token (spelled Head)) (at o head mode.InHead f (opened m Head ∷ opened n Html ∷ []) [] true) ≡ turn_of (at o head mode.AfterHead f (opened n Html ∷ []) [] true) (Finished false)

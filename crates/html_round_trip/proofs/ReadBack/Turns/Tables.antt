@@ -6,7 +6,7 @@ use Rattle.html_plain.specs.Elements.{spelled}
 use Rattle.html_plain.specs.declared.elements.CellKind.{CellKind}
 use Rattle.html_plain.specs.declared.elements.CellKind.TheVariants.{Data, Header}
 use Rattle.html_plain.specs.declared.elements.PlainElement.TheVariants.{Table, TableBody, Row, Cell}
-use Rattle.html_rules.specs.Actions.{back_to_original, keep_mode, keep_text, set_mode, tell_pending_text}
+use Rattle.html_rules.specs.Actions.{restore_mode, save_mode, keep_text, set_mode, insert_pending_text}
 use Rattle.html_rules.specs.ForeignContent.{is_foreign}
 use Rattle.html_rules.specs.Formatting.{clear_active_formatting_to_marker, push_marker}
 use Rattle.html_rules.specs.Names as names
@@ -62,7 +62,7 @@ module _ (o : Around) (head : Option ℕ) (n : ℕ) (f : Forest) (os : List Open
 
   -- the first character of a text
   pub first-character : (c : ℕ) (part : Part) → turn (CharacterTokens (c ∷ [])) (inside part) ≡ turn_of (inside_waiting part []) Again
-  unfolding turn is_foreign using_rules_for rows names_of keep_mode set_mode
+  unfolding turn is_foreign using_rules_for rows names_of save_mode set_mode
   first-character c OfTable = refl
   first-character c OfBodies = refl
   first-character c OfRow = refl
@@ -75,7 +75,7 @@ module _ (o : Around) (head : Option ℕ) (n : ℕ) (f : Forest) (os : List Open
   next-character c OfRow text = refl
 
   -- what waits is told before a tag is taken
-  pub tag-behind_text : (tag : Tag) (part : Part) (text : List ℕ) → turn (TagToken tag) (inside_waiting part text) ≡ turn_of (back_to_original (tell_pending_text (inside_waiting part text))) Again
+  pub tag-behind_text : (tag : Tag) (part : Part) (text : List ℕ) → turn (TagToken tag) (inside_waiting part text) ≡ turn_of (restore_mode (insert_pending_text (inside_waiting part text))) Again
   unfolding turn is_foreign using_rules_for rows
   tag-behind_text tag OfTable text = refl
   tag-behind_text tag OfBodies text = refl

@@ -26,7 +26,7 @@ returns-in_default-clause-ok g c name s on =
     let fe : Listed = record { number = n; tag = c.requires.listed.0 } in
     let is = c.requires.opened in
     let d = any-of xs c.args.from is.within in
-    let told_is : g.Sink.TreeSink.forest c.tell_unless_current.new.sink ≡ told n (opens_of node xs) f = rw c.as_slice.ensures.value at c.tell_unless_current.ensures in
+    let told_is : g.Sink.TreeSink.forest c.report_unless_current.new.sink ≡ told n (opens_of node xs) f = rw c.as_slice.ensures.value at c.report_unless_current.ensures in
     let later = slice_range c.as_slice-2.result.now (c.args.from + 1) (length c.as_slice-2.result.now) in
     let none : furthest_block (opened_after n (opens_of node xs)) ≡ None =
     ap furthest_block (after-is node n xs later c.args.from d is (rest-is xs c.as_slice-2.result.now (c.args.from + 1) c.as_slice-2.ensures.value)) ∙ c.in_default.ensures in
@@ -41,7 +41,7 @@ returns-in_err-tag-clause-kept g c =
     let f = g.Sink.TreeSink.forest c.args.sink.now in
     let xs = c.args.elements.now.items in
     let es = entries_of node c.args.entries.now.items in
-    let told_is : g.Sink.TreeSink.forest c.tell_unless_current.new.sink ≡ told n (opens_of node xs) f = rw c.as_slice.ensures.value at c.tell_unless_current.ensures in
+    let told_is : g.Sink.TreeSink.forest c.report_unless_current.new.sink ≡ told n (opens_of node xs) f = rw c.as_slice.ensures.value at c.report_unless_current.ensures in
     on-err c.from_residual.result (rw told_is (told-stands n f (opens_of node xs) es c.requires.standing))
 
 pub adopt-requires-clause-standing : goal.adopt-requires-clause-standing
@@ -51,7 +51,7 @@ adopt-requires-clause-standing g c =
     let f = g.Sink.TreeSink.forest c.args.sink.now in
     let xs = c.args.elements.now.items in
     let es = entries_of node c.args.entries.now.items in
-    let told_is : g.Sink.TreeSink.forest c.tell_unless_current.new.sink ≡ told n (opens_of node xs) f = rw c.as_slice.ensures.value at c.tell_unless_current.ensures in
+    let told_is : g.Sink.TreeSink.forest c.report_unless_current.new.sink ≡ told n (opens_of node xs) f = rw c.as_slice.ensures.value at c.report_unless_current.ensures in
     rw told_is (told-stands n f (opens_of node xs) es c.requires.standing)
 
 pub adopt-requires-clause-turn : goal.adopt-requires-clause-turn
@@ -80,10 +80,10 @@ pop-requires g c =
     let node = g.Sink.TreeSink.node in
     let n = node c.args.formatting.node in
     let f = g.Sink.TreeSink.forest c.args.sink.now in
-    let h = g.Sink.TreeSink.forest c.tell_unless_current.new.sink in
+    let h = g.Sink.TreeSink.forest c.report_unless_current.new.sink in
     let xs = c.args.elements.now.items in
     let es = entries_of node c.args.entries.now.items in
-    let told_is : h ≡ told n (opens_of node xs) f = rw c.as_slice.ensures.value at c.tell_unless_current.ensures in
+    let told_is : h ≡ told n (opens_of node xs) f = rw c.as_slice.ensures.value at c.report_unless_current.ensures in
     let standing : IsStanding h (opens_of node xs) es = rw told_is (told-stands n f (opens_of node xs) es c.requires.standing) in
     let before : IsNode h n = open-node h n (opens_of node xs) standing.opened (newest-open node n xs c.args.from c.requires.opened) in
     omega (arith, before, c.in_ok-adopt.ensures.grows)
@@ -99,7 +99,7 @@ returns-clause-ok g c =
     let fe : Listed = record { number = n; tag = c.requires.listed.0 } in
     let is = c.requires.opened in
     let d = any-of xs c.args.from is.within in
-    let told_is : g.Sink.TreeSink.forest c.tell_unless_current.new.sink ≡ told n (opens_of node xs) f = rw c.as_slice.ensures.value at c.tell_unless_current.ensures in
+    let told_is : g.Sink.TreeSink.forest c.report_unless_current.new.sink ≡ told n (opens_of node xs) f = rw c.as_slice.ensures.value at c.report_unless_current.ensures in
     let number = number-place node n xs c.args.from d is in
     let later = slice_range c.as_slice-2.result.now (c.args.from + 1) (length c.as_slice-2.result.now) in
     let some = block-place node n xs later c.args.from c.in-Some.block d is (rest-is xs c.as_slice-2.result.now (c.args.from + 1) c.as_slice-2.ensures.value) c.in-Some.ensures in
@@ -126,8 +126,8 @@ returns-in_default-clause-grows g c =
     let n = node c.args.formatting.node in
     let f = g.Sink.TreeSink.forest c.args.sink.now in
     let xs = opens_of node c.args.elements.now.items in
-    let told_is : g.Sink.TreeSink.forest c.tell_unless_current.new.sink ≡ told n xs f = rw c.as_slice.ensures.value at c.tell_unless_current.ensures in
-    told-grows n xs f (g.Sink.TreeSink.forest c.tell_unless_current.new.sink) told_is
+    let told_is : g.Sink.TreeSink.forest c.report_unless_current.new.sink ≡ told n xs f = rw c.as_slice.ensures.value at c.report_unless_current.ensures in
+    told-grows n xs f (g.Sink.TreeSink.forest c.report_unless_current.new.sink) told_is
 
 pub returns-in_err-tag-clause-grows : goal.returns-in_err-tag-clause-grows
 returns-in_err-tag-clause-grows g c =
@@ -135,8 +135,8 @@ returns-in_err-tag-clause-grows g c =
     let n = node c.args.formatting.node in
     let f = g.Sink.TreeSink.forest c.args.sink.now in
     let xs = opens_of node c.args.elements.now.items in
-    let told_is : g.Sink.TreeSink.forest c.tell_unless_current.new.sink ≡ told n xs f = rw c.as_slice.ensures.value at c.tell_unless_current.ensures in
-    told-grows n xs f (g.Sink.TreeSink.forest c.tell_unless_current.new.sink) told_is
+    let told_is : g.Sink.TreeSink.forest c.report_unless_current.new.sink ≡ told n xs f = rw c.as_slice.ensures.value at c.report_unless_current.ensures in
+    told-grows n xs f (g.Sink.TreeSink.forest c.report_unless_current.new.sink) told_is
 
 pub returns-in_default-2-clause-grows : goal.returns-in_default-2-clause-grows
 returns-in_default-2-clause-grows g c =
@@ -144,8 +144,8 @@ returns-in_default-2-clause-grows g c =
     let n = node c.args.formatting.node in
     let f = g.Sink.TreeSink.forest c.args.sink.now in
     let xs = opens_of node c.args.elements.now.items in
-    let told_is : g.Sink.TreeSink.forest c.tell_unless_current.new.sink ≡ told n xs f = rw c.as_slice.ensures.value at c.tell_unless_current.ensures in
-    told-grows n xs f (g.Sink.TreeSink.forest c.tell_unless_current.new.sink) told_is
+    let told_is : g.Sink.TreeSink.forest c.report_unless_current.new.sink ≡ told n xs f = rw c.as_slice.ensures.value at c.report_unless_current.ensures in
+    told-grows n xs f (g.Sink.TreeSink.forest c.report_unless_current.new.sink) told_is
 
 pub returns-in_err-adopt-clause-grows : goal.returns-in_err-adopt-clause-grows
 returns-in_err-adopt-clause-grows g c =
@@ -153,8 +153,8 @@ returns-in_err-adopt-clause-grows g c =
     let n = node c.args.formatting.node in
     let f = g.Sink.TreeSink.forest c.args.sink.now in
     let xs = opens_of node c.args.elements.now.items in
-    let told_is : g.Sink.TreeSink.forest c.tell_unless_current.new.sink ≡ told n xs f = rw c.as_slice.ensures.value at c.tell_unless_current.ensures in
-    told-grows-on n xs f (g.Sink.TreeSink.forest c.tell_unless_current.new.sink) (g.Sink.TreeSink.forest c.adopt.new.sink) told_is c.in_err-adopt.ensures.grows
+    let told_is : g.Sink.TreeSink.forest c.report_unless_current.new.sink ≡ told n xs f = rw c.as_slice.ensures.value at c.report_unless_current.ensures in
+    told-grows-on n xs f (g.Sink.TreeSink.forest c.report_unless_current.new.sink) (g.Sink.TreeSink.forest c.adopt.new.sink) told_is c.in_err-adopt.ensures.grows
 
 pub returns-clause-grows : goal.returns-clause-grows
 returns-clause-grows g c =
@@ -162,8 +162,8 @@ returns-clause-grows g c =
     let n = node c.args.formatting.node in
     let f = g.Sink.TreeSink.forest c.args.sink.now in
     let xs = opens_of node c.args.elements.now.items in
-    let told_is : g.Sink.TreeSink.forest c.tell_unless_current.new.sink ≡ told n xs f = rw c.as_slice.ensures.value at c.tell_unless_current.ensures in
-    rw c.pop.ensures (told-grows-on n xs f (g.Sink.TreeSink.forest c.tell_unless_current.new.sink) (g.Sink.TreeSink.forest c.adopt.new.sink) told_is c.in_ok-adopt.ensures.grows)
+    let told_is : g.Sink.TreeSink.forest c.report_unless_current.new.sink ≡ told n xs f = rw c.as_slice.ensures.value at c.report_unless_current.ensures in
+    rw c.pop.ensures (told-grows-on n xs f (g.Sink.TreeSink.forest c.report_unless_current.new.sink) (g.Sink.TreeSink.forest c.adopt.new.sink) told_is c.in_ok-adopt.ensures.grows)
 
 pub returns-in_default-clause-below : goal.returns-in_default-clause-below
 returns-in_default-clause-below g c = front-cut c.args.elements.now.items c.truncate.new.self.items c.args.from c.truncate.ensures.items

@@ -14,9 +14,9 @@ returns-then-c-eq38 g c =
 pub returns-then-c-eq0 : goal.returns-then-c-eq0
 returns-then-c-eq0 g c =
     let m = g.Sink.TokenSink in
-    data-null_kept m g.met.Sink.TokenSink.laws _ _ _ _ c.requires.at c.requires.sound c.if-c-eq0.true c.take_null.ensures
+    data-null_kept m g.met.Sink.TokenSink.laws _ _ _ _ c.requires.at c.requires.sound c.if-c-eq0.true c.consume_null.ensures
 
 pub returns : goal.returns
 returns g c =
     let m = g.Sink.TokenSink in
-    data-kept m g.met.Sink.TokenSink.laws _ _ _ _ c.requires.at c.requires.sound c.if-c-eq60.false c.if-c-eq38.false c.if-c-eq0.false c.take_char.ensures
+    data-kept m g.met.Sink.TokenSink.laws _ _ _ _ c.requires.at c.requires.sound c.if-c-eq60.false c.if-c-eq38.false c.if-c-eq0.false c.consume_char.ensures

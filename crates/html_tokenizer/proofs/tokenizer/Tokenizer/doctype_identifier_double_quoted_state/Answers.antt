@@ -4,12 +4,12 @@ use Rattle.html_tokenizer.proofs.Errors.BeforeCharacters.{keeps_refused}
 use Rattle.html_tokenizer.proofs.Steps.Keeping.{keeps_erred}
 use Rattle.html_tokenizer.proofs.tokenizer.Tokenizer.doctype_identifier_double_quoted_state.Goals as goal
 
-pub returns-in_err-tell_null : goal.returns-in_err-tell_null
-returns-in_err-tell_null g c =
+pub returns-in_err-report_null : goal.returns-in_err-report_null
+returns-in_err-report_null g c =
     let m = g.Sink.TokenSink in
-    keeps_refused m c.args.self.now _ c.args.self.now.char_ref c.args.c _ _ c.in_err-tell_null.ensures c.from_residual.ensures.1
+    keeps_refused m c.args.self.now _ c.args.self.now.char_ref c.args.c _ _ c.in_err-report_null.ensures c.from_residual.ensures.1
 
 pub returns : goal.returns
 returns g c =
     let m = g.Sink.TokenSink in
-    keeps_erred m (nat_eq c.args.c 0) c.args.self.now c.tell_null.new.self _ c.args.c _ c.in_ok-tell_null.ensures (λ e. double-absorbs m g.met.Sink.TokenSink.laws c.args.self.now c.args.c c.args.kind c.requires.at) c.take_in_double_quoted.ensures
+    keeps_erred m (nat_eq c.args.c 0) c.args.self.now c.report_null.new.self _ c.args.c _ c.in_ok-report_null.ensures (λ e. double-absorbs m g.met.Sink.TokenSink.laws c.args.self.now c.args.c c.args.kind c.requires.at) c.consume_in_double_quoted.ensures

@@ -5,7 +5,7 @@ use Rattle.html_tokenizer.proofs.tokenizer.Tokenizer.double_escape_start.Goals a
 pub returns-then-is_ascii_alphabetic : goal.returns-then-is_ascii_alphabetic
 returns-then-is_ascii_alphabetic g c =
     let m = g.Sink.TokenSink in
-    word-letter_told m g.met.Sink.TokenSink.laws _ _ _ _ _ c.requires.at c.requires.sound (sym c.if-is_ascii_alphabetic.ensures.value) c.in_ok-push.ensures.ok c.take_char.ensures
+    word-letter_told m g.met.Sink.TokenSink.laws _ _ _ _ _ c.requires.at c.requires.sound (sym c.if-is_ascii_alphabetic.ensures.value) c.in_ok-push.ensures.ok c.consume_char.ensures
 
 pub returns : goal.returns
 returns g c =

@@ -4,4 +4,4 @@ use Rattle.html_tokenizer.proofs.tokenizer.Tokenizer.end_cdata_section.Goals as 
 pub returns : goal.returns
 returns g c =
     let m = g.Sink.TokenSink in
-    cdata-closes m _ _ _ c.requires.at c.requires.sound c.tell_error.ensures
+    cdata-closes m _ _ _ c.requires.at c.requires.sound c.report_error.ensures

@@ -4,4 +4,4 @@ use Rattle.html_tokenizer.proofs.tokenizer.Tokenizer.end_value_reference.Goals a
 pub returns : goal.returns
 returns g c =
     let m = g.Sink.TokenSink in
-    value-closes m _ _ _ _ _ c.requires.at c.requires.sound c.requires.held c.tell_error.ensures
+    value-closes m _ _ _ _ _ c.requires.at c.requires.sound c.requires.held c.report_error.ensures

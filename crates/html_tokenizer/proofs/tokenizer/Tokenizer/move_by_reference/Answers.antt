@@ -15,18 +15,18 @@ pub returns : goal.returns
 returns g c =
     let m = g.Sink.TokenSink in
     let whole = rw c.in-Some-whole.is at c.in_ok-whole.ensures.ok in
-    moved-front m state.Data c.args.self.now c.tell_whole_name.new.self c.args.input.now c.skip.new.self c.as_str-text.result.now _ c.in-Some.rest.now _ c.requires.tags c.as_str-text.ensures refl
+    moved-front m state.Data c.args.self.now c.emit_whole_name.new.self c.args.input.now c.skip.new.self c.as_str-text.result.now _ c.in-Some.rest.now _ c.requires.tags c.as_str-text.ensures refl
     (reference-shorter m c.in-Some.name.now c.in-Some.rest.now c.as_str-text.result.now c.in-Some.ensures)
-    (reference-taken m (heeding m c.args.self.now) c.tell_whole_name.new.self c.in-Some.name.now c.in-Some.rest.now c.as_str-text.result.now _
-    (reference-spells m c.in-Some.name.now c.in-Some.rest.now c.as_str-text.result.now _ c.in-Some.ensures whole.0) whole.1.held c.in_ok-tell_whole_name.ensures)
+    (reference-taken m (heeding m c.args.self.now) c.emit_whole_name.new.self c.in-Some.name.now c.in-Some.rest.now c.as_str-text.result.now _
+    (reference-spells m c.in-Some.name.now c.in-Some.rest.now c.as_str-text.result.now _ c.in-Some.ensures whole.0) whole.1.held c.in_ok-emit_whole_name.ensures)
     c.skip.ensures
 
-pub returns-in_err-tell_whole_name : goal.returns-in_err-tell_whole_name
-returns-in_err-tell_whole_name g c =
+pub returns-in_err-emit_whole_name : goal.returns-in_err-emit_whole_name
+returns-in_err-emit_whole_name g c =
     let m = g.Sink.TokenSink in
     let whole = rw c.in-Some-whole.is at c.in_ok-whole.ensures.ok in
-    reference-stuck m state.Data c.args.self.now c.tell_whole_name.new.self c.args.input.now c.skip.new.self c.in-Some.name.now c.in-Some.rest.now c.as_str-text.result.now _ _ _ _ c.from_residual-in_err-tell_whole_name.result c.requires.tags c.as_str-text.ensures refl
-    (reference-spells m c.in-Some.name.now c.in-Some.rest.now c.as_str-text.result.now _ c.in-Some.ensures whole.0) whole.1.held c.skip.ensures c.in_err-tell_whole_name.ensures c.from_residual-in_err-tell_whole_name.ensures.1
+    reference-stuck m state.Data c.args.self.now c.emit_whole_name.new.self c.args.input.now c.skip.new.self c.in-Some.name.now c.in-Some.rest.now c.as_str-text.result.now _ _ _ _ c.from_residual-in_err-emit_whole_name.result c.requires.tags c.as_str-text.ensures refl
+    (reference-spells m c.in-Some.name.now c.in-Some.rest.now c.as_str-text.result.now _ c.in-Some.ensures whole.0) whole.1.held c.skip.ensures c.in_err-emit_whole_name.ensures c.from_residual-in_err-emit_whole_name.ensures.1
 
 pub returns-in_err-whole : goal.returns-in_err-whole
 returns-in_err-whole g c =

@@ -15,18 +15,18 @@ pub returns : goal.returns
 returns g c =
     let m = g.Sink.TokenSink in
     let whole = rw c.in-Some-named.is at c.in_ok-named.ensures.ok in
-    moved-front m (state.AttributeValue c.args.kind) c.args.self.now c.take_whole_name.new.self c.args.input.now c.skip.new.self c.as_str-text.result.now _ c.in-Some.rest.now _ c.requires.value c.as_str-text.ensures refl
+    moved-front m (state.AttributeValue c.args.kind) c.args.self.now c.consume_whole_name.new.self c.args.input.now c.skip.new.self c.as_str-text.result.now _ c.in-Some.rest.now _ c.requires.value c.as_str-text.ensures refl
     (reference-shorter m c.in-Some.name.now c.in-Some.rest.now c.as_str-text.result.now c.in-Some.ensures)
-    (reference-taken m (heeding m c.args.self.now) c.take_whole_name.new.self c.in-Some.name.now c.in-Some.rest.now c.as_str-text.result.now _
-    (reference-spells m c.in-Some.name.now c.in-Some.rest.now c.as_str-text.result.now _ c.in-Some.ensures whole.0) whole.1.held c.in_ok-take_whole_name.ensures)
+    (reference-taken m (heeding m c.args.self.now) c.consume_whole_name.new.self c.in-Some.name.now c.in-Some.rest.now c.as_str-text.result.now _
+    (reference-spells m c.in-Some.name.now c.in-Some.rest.now c.as_str-text.result.now _ c.in-Some.ensures whole.0) whole.1.held c.in_ok-consume_whole_name.ensures)
     c.skip.ensures
 
-pub returns-in_err-take_whole_name : goal.returns-in_err-take_whole_name
-returns-in_err-take_whole_name g c =
+pub returns-in_err-consume_whole_name : goal.returns-in_err-consume_whole_name
+returns-in_err-consume_whole_name g c =
     let m = g.Sink.TokenSink in
     let whole = rw c.in-Some-named.is at c.in_ok-named.ensures.ok in
-    reference-stuck m (state.AttributeValue c.args.kind) c.args.self.now c.take_whole_name.new.self c.args.input.now c.skip.new.self c.in-Some.name.now c.in-Some.rest.now c.as_str-text.result.now _ _ _ _ c.from_residual-in_err-take_whole_name.result c.requires.value c.as_str-text.ensures refl
-    (reference-spells m c.in-Some.name.now c.in-Some.rest.now c.as_str-text.result.now _ c.in-Some.ensures whole.0) whole.1.held c.skip.ensures c.in_err-take_whole_name.ensures c.from_residual-in_err-take_whole_name.ensures.1
+    reference-stuck m (state.AttributeValue c.args.kind) c.args.self.now c.consume_whole_name.new.self c.args.input.now c.skip.new.self c.in-Some.name.now c.in-Some.rest.now c.as_str-text.result.now _ _ _ _ c.from_residual-in_err-consume_whole_name.result c.requires.value c.as_str-text.ensures refl
+    (reference-spells m c.in-Some.name.now c.in-Some.rest.now c.as_str-text.result.now _ c.in-Some.ensures whole.0) whole.1.held c.skip.ensures c.in_err-consume_whole_name.ensures c.from_residual-in_err-consume_whole_name.ensures.1
 
 pub returns-in_err-named : goal.returns-in_err-named
 returns-in_err-named g c =

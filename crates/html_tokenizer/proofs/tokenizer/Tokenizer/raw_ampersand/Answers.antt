@@ -10,4 +10,4 @@ returns-then-has_references g c =
 pub returns-else-has_references : goal.returns-else-has_references
 returns-else-has_references g c =
     let m = g.Sink.TokenSink in
-    raw-amp_told m g.met.Sink.TokenSink.laws _ _ _ _ c.requires.at c.requires.sound (sym c.if-has_references.ensures) c.take_char.ensures
+    raw-amp_told m g.met.Sink.TokenSink.laws _ _ _ _ c.requires.at c.requires.sound (sym c.if-has_references.ensures) c.consume_char.ensures

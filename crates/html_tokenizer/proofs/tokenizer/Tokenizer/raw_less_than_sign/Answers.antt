@@ -10,4 +10,4 @@ returns-then-ends_at_tag g c =
 pub returns-else-ends_at_tag : goal.returns-else-ends_at_tag
 returns-else-ends_at_tag g c =
     let m = g.Sink.TokenSink in
-    raw-open_told m g.met.Sink.TokenSink.laws _ _ _ _ c.requires.at c.requires.sound (sym c.if-ends_at_tag.ensures) c.take_char.ensures
+    raw-open_told m g.met.Sink.TokenSink.laws _ _ _ _ c.requires.at c.requires.sound (sym c.if-ends_at_tag.ensures) c.consume_char.ensures

@@ -4,12 +4,12 @@ use Rattle.html_tokenizer.proofs.tokenizer.Tokenizer.script_data_escaped_dash_da
 pub returns-then-c-eq45 : goal.returns-then-c-eq45
 returns-then-c-eq45 g c =
     let m = g.Sink.TokenSink in
-    dashes-dash_told m g.met.Sink.TokenSink.laws _ _ _ _ _ c.requires.at c.requires.sound c.if-c-eq45.true c.take_char.ensures
+    dashes-dash_told m g.met.Sink.TokenSink.laws _ _ _ _ _ c.requires.at c.requires.sound c.if-c-eq45.true c.consume_char.ensures
 
 pub returns-then-c-eq62 : goal.returns-then-c-eq62
 returns-then-c-eq62 g c =
     let m = g.Sink.TokenSink in
-    dashes-closed m g.met.Sink.TokenSink.laws _ _ _ _ _ c.requires.at c.requires.sound c.if-c-eq62.true c.take_char-then-c-eq62.ensures
+    dashes-closed m g.met.Sink.TokenSink.laws _ _ _ _ _ c.requires.at c.requires.sound c.if-c-eq62.true c.consume_char-then-c-eq62.ensures
 
 pub returns : goal.returns
 returns g c =

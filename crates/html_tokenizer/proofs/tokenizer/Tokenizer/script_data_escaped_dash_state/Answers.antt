@@ -4,7 +4,7 @@ use Rattle.html_tokenizer.proofs.tokenizer.Tokenizer.script_data_escaped_dash_st
 pub returns-then-c-eq45 : goal.returns-then-c-eq45
 returns-then-c-eq45 g c =
     let m = g.Sink.TokenSink in
-    escaped-dash_told m g.met.Sink.TokenSink.laws _ _ _ _ _ c.requires.at c.requires.sound c.if-c-eq45.true c.take_char.ensures
+    escaped-dash_told m g.met.Sink.TokenSink.laws _ _ _ _ _ c.requires.at c.requires.sound c.if-c-eq45.true c.consume_char.ensures
 
 pub returns : goal.returns
 returns g c =

@@ -47,8 +47,8 @@ returns-in-AdoptNobr-clause-ok g c = ok-on c.adopt_nobr.result (λ acted. acted-
 pub returns-in-CloseMisnestedA-clause-ok : goal.returns-in-CloseMisnestedA-clause-ok
 returns-in-CloseMisnestedA-clause-ok g c = ok-on c.close_misnested_a.result (λ acted. acted-as _ _ _ _ _ c.in-CloseMisnestedA.is (acted (its_answers g.Sink.TreeSink))) c.close_misnested_a.ensures.ok
 
-pub returns-in-TellPendingText-clause-ok : goal.returns-in-TellPendingText-clause-ok
-returns-in-TellPendingText-clause-ok g c = ok-on c.tell_pending_text.result (λ acted. acted-as _ _ _ _ _ c.in-TellPendingText.is (acted (its_answers g.Sink.TreeSink))) c.tell_pending_text.ensures.ok
+pub returns-in-InsertPendingText-clause-ok : goal.returns-in-InsertPendingText-clause-ok
+returns-in-InsertPendingText-clause-ok g c = ok-on c.insert_pending_text.result (λ acted. acted-as _ _ _ _ _ c.in-InsertPendingText.is (acted (its_answers g.Sink.TreeSink))) c.insert_pending_text.ensures.ok
 
 pub returns-in-EnterForeign-clause-ok : goal.returns-in-EnterForeign-clause-ok
 returns-in-EnterForeign-clause-ok g c = ok-on c.enter_foreign.result (λ acted. acted-as _ _ _ _ _ c.in-EnterForeign.is (acted (its_answers g.Sink.TreeSink))) c.enter_foreign.ensures.ok
@@ -72,7 +72,7 @@ pub returns-in-InsertTemplate-clause-ok : goal.returns-in-InsertTemplate-clause-
 returns-in-InsertTemplate-clause-ok g c = ok-on c.insert_template.result (λ acted. acted-as _ _ _ _ _ c.in-InsertTemplate.is acted) c.insert_template.ensures.ok
 
 pub returns-in-ParseError-clause-ok : goal.returns-in-ParseError-clause-ok
-returns-in-ParseError-clause-ok g c = acted-as _ _ _ _ _ c.in-ParseError.is (c.tell_unexpected.ensures (its_answers g.Sink.TreeSink))
+returns-in-ParseError-clause-ok g c = acted-as _ _ _ _ _ c.in-ParseError.is (c.report_unexpected.ensures (its_answers g.Sink.TreeSink))
 
 pub returns-in-RemoveBody-clause-ok : goal.returns-in-RemoveBody-clause-ok
 returns-in-RemoveBody-clause-ok g c = acted-as _ _ _ _ _ c.in-RemoveBody.is (c.remove_body.ensures (its_answers g.Sink.TreeSink))
@@ -134,11 +134,11 @@ returns-in-ClearToMarker-clause-ok g c = acted-as _ _ _ _ _ c.in-ClearToMarker.i
 pub returns-in-SwitchTo-clause-ok : goal.returns-in-SwitchTo-clause-ok
 returns-in-SwitchTo-clause-ok g c = acted-as _ _ _ _ _ c.in-SwitchTo.is (c.set_mode.ensures (its_answers g.Sink.TreeSink) (g.Sink.TreeSink.forest c.args.sink.now))
 
-pub returns-in-KeepMode-clause-ok : goal.returns-in-KeepMode-clause-ok
-returns-in-KeepMode-clause-ok g c = acted-as _ _ _ _ _ c.in-KeepMode.is (c.keep_mode.ensures (its_answers g.Sink.TreeSink) (g.Sink.TreeSink.forest c.args.sink.now))
+pub returns-in-SaveMode-clause-ok : goal.returns-in-SaveMode-clause-ok
+returns-in-SaveMode-clause-ok g c = acted-as _ _ _ _ _ c.in-SaveMode.is (c.save_mode.ensures (its_answers g.Sink.TreeSink) (g.Sink.TreeSink.forest c.args.sink.now))
 
-pub returns-in-BackToOriginal-clause-ok : goal.returns-in-BackToOriginal-clause-ok
-returns-in-BackToOriginal-clause-ok g c = acted-as _ _ _ _ _ c.in-BackToOriginal.is (c.back_to_original.ensures (its_answers g.Sink.TreeSink) (g.Sink.TreeSink.forest c.args.sink.now))
+pub returns-in-RestoreMode-clause-ok : goal.returns-in-RestoreMode-clause-ok
+returns-in-RestoreMode-clause-ok g c = acted-as _ _ _ _ _ c.in-RestoreMode.is (c.restore_mode.ensures (its_answers g.Sink.TreeSink) (g.Sink.TreeSink.forest c.args.sink.now))
 
 pub returns-in-ResetMode-clause-ok : goal.returns-in-ResetMode-clause-ok
 returns-in-ResetMode-clause-ok g c = acted-as _ _ _ _ _ c.in-ResetMode.is (c.reset_mode.ensures (its_answers g.Sink.TreeSink) (g.Sink.TreeSink.forest c.args.sink.now))

@@ -1,7 +1,7 @@
 use Rattle.std.proofs.Common.{rules, sym, subst, ◌∙◌, ap}
 use Rattle.html_tokens.specs.declared.token.Token.TheVariants.{EOFToken}
 use Rattle.html_rules.specs.Rules.{Again, concluded, turn_of, using_rules_for}
-use Rattle.html_rules.specs.Table.{BackToOriginal, SwitchTo}
+use Rattle.html_rules.specs.Table.{RestoreMode, SwitchTo}
 use Rattle.html_modes.specs.Tables.{conclusion_of}
 use Rattle.html_tree_builder.specs.Rows.{next_turn}
 use Rattle.html_tree_builder.specs.States.{state_of}
@@ -16,7 +16,7 @@ returns-in-Reprocess-clause-stands g c f stands =
 
 pub returns-in-ReprocessInOriginal-clause-stands : goal.returns-in-ReprocessInOriginal-clause-stands
 returns-in-ReprocessInOriginal-clause-stands g c f stands =
-    acted-stands no_answers c.args.self.now c.back_to_original.new.self f f BackToOriginal EOFToken tt stands (c.back_to_original.ensures no_answers f)
+    acted-stands no_answers c.args.self.now c.restore_mode.new.self f f RestoreMode EOFToken tt stands (c.restore_mode.ensures no_answers f)
 
 pub returns-in-Acknowledged-clause-ok : goal.returns-in-Acknowledged-clause-ok
 returns-in-Acknowledged-clause-ok g c = search rules
@@ -43,7 +43,7 @@ returns-in-Reprocess-clause-ok g c = λ a f using.
 
 pub returns-in-ReprocessInOriginal-clause-ok : goal.returns-in-ReprocessInOriginal-clause-ok
 returns-in-ReprocessInOriginal-clause-ok g c = λ a f using.
-    ap (λ ends. concluded using (conclusion_of ends) (token_of c.args.told.now.content) (g.Sink.TreeSink.node c.args.script) (state_of a c.args.self.now f)) c.in-ReprocessInOriginal.is ∙ ap (λ s. turn_of s Again) (sym (c.back_to_original.ensures a f))
+    ap (λ ends. concluded using (conclusion_of ends) (token_of c.args.told.now.content) (g.Sink.TreeSink.node c.args.script) (state_of a c.args.self.now f)) c.in-ReprocessInOriginal.is ∙ ap (λ s. turn_of s Again) (sym (c.restore_mode.ensures a f))
 
 pub returns-in-RawText-clause-ok : goal.returns-in-RawText-clause-ok
 returns-in-RawText-clause-ok g c = λ a f using.

@@ -6,8 +6,8 @@ use Rattle.html_tree_builder.proofs.Acted.{its_answers}
 use Rattle.html_tree_builder.proofs.TextsTaken.{characters-continue, unlined-ended, unlined-state, usable-stands}
 use Rattle.html_tree_builder.proofs.construction.Construction.take.Goals as goal
 
-pub take_doctype-requires : goal.take_doctype-requires
-take_doctype-requires g c =
+pub process_doctype-requires : goal.process_doctype-requires
+process_doctype-requires g c =
     let a = its_answers g.Sink.TreeSink in
     let f = g.Sink.TreeSink.forest c.args.sink.now in
     let s = built g.Sink.TreeSink c.args.self.now f in
@@ -15,9 +15,9 @@ take_doctype-requires g c =
     let same = c.set_ignore_lf.ensures a f in
     record { stands = usable-stands a c.set_ignore_lf.new.self f (unlined-state s u same c.requires.usable) (unlined-ended s u same c.requires.going) }
 
-pub returns-in_ok-take_characters-in-CharacterTokens-clause-reply :
-    goal.returns-in_ok-take_characters-in-CharacterTokens-clause-reply
-returns-in_ok-take_characters-in-CharacterTokens-clause-reply g c =
+pub returns-in_ok-process_characters-in-CharacterTokens-clause-reply :
+    goal.returns-in_ok-process_characters-in-CharacterTokens-clause-reply
+returns-in_ok-process_characters-in-CharacterTokens-clause-reply g c =
     rw c.in-CharacterTokens.is (characters-continue c.in-CharacterTokens.text (built g.Sink.TreeSink c.args.self.now (g.Sink.TreeSink.forest c.args.sink.now)))
 
 pub returns-in-ParseError-clause-state : goal.returns-in-ParseError-clause-state

@@ -13,9 +13,9 @@ returns-then-is_foreign-clause-ok g c =
     let sink = g.Sink.TreeSink in
     let f = sink.forest c.args.sink.now in
     let is = c.first_foreign_row-row.ensures (its_answers sink) f in
-    comes-to (λ ending. turn_of (built sink c.take_by_row.new.self (sink.forest c.take_by_row.new.sink)) (ending_of sink.node ending)) c.take_by_row.result _ _
+    comes-to (λ ending. turn_of (built sink c.apply_row.new.self (sink.forest c.apply_row.new.sink)) (ending_of sink.node ending)) c.apply_row.result _ _
     (turned-foreign (token_of c.args.told.now.content) (built sink c.args.self.now f) (row_of c.first_foreign_row-row.result.now) c.if-is_foreign.ensures is)
-    c.take_by_row.ensures.ok
+    c.apply_row.ensures.ok
 
 pub returns-clause-ok : goal.returns-clause-ok
 returns-clause-ok g c =

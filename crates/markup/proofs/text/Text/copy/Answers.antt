@@ -4,11 +4,11 @@ use Rattle.markup.proofs.text.Text.copy.Goals as goal
 pub returns-in_err-copy-clause-ok : goal.returns-in_err-copy-clause-ok
 returns-in_err-copy-clause-ok c = search rules
 
-pub returns-in_err-copy-clause-err : goal.returns-in_err-copy-clause-err
-returns-in_err-copy-clause-err c = search rules
+pub returns-in_err-copy-clause-fault : goal.returns-in_err-copy-clause-fault
+returns-in_err-copy-clause-fault c = search rules
 
 pub returns-clause-ok : goal.returns-clause-ok
 returns-clause-ok c = search rules
 
-pub returns-clause-err : goal.returns-clause-err
-returns-clause-err c = search rules
+pub returns-clause-fault : goal.returns-clause-fault
+returns-clause-fault c = search rules

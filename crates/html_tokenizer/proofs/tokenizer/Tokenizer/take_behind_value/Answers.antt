@@ -1,7 +1,0 @@
-use Rattle.html_tokenizer.proofs.Attributes.Values.{value_behind}
-use Rattle.html_tokenizer.proofs.tokenizer.Tokenizer.take_behind_value.Goals as goal
-
-pub returns : goal.returns
-returns g c =
-    let m = g.Sink.TokenSink in
-    value_behind m c.args.self.now _ _ _ c.requires.at c.before_attribute_name_state.ensures
