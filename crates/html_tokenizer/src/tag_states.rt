@@ -14,10 +14,9 @@ use html_tokenizer_parts::error_code::ErrorCode;
 use html_tokenizer_parts::repeats::Repeats;
 use html_tokens::sink::TokenSink;
 use html_tokens::states::State;
-use html_tokens::{ProcessResult, Tag, TagKind, Token, TokenSinkResult};
+use html_tokens::{ProcessResult, Tag, TagKind, TokenSinkResult};
 use markup::{Attributes, LocalName, ParseFault, Text};
 use std::alloc::Global;
-use std::mem;
 
 /// A start tag without a name, which takes no memory.
 pub(crate) fn nameless(alloc: Global) -> Tag
@@ -140,9 +139,8 @@ impl<Sink: TokenSink> Tokenizer<Sink> {
     {
         let own_name = self.own_name()?;
         self.emit_faulty_tag()?;
-        let tag = mem::replace(&mut self.tag, nameless(self.stream.alloc));
         let line = self.line();
-        let reply = self.sink.process_token(Token::TagToken(tag), line)?;
+        let reply = self.sink.process_tag(&mut self.tag, line)?;
         self.keep_last_start_tag(own_name);
         Ok(self.follow(reply))
     }

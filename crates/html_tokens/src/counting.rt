@@ -4,6 +4,7 @@ ghost use Rattle.html_tokens.specs.Counting.{counted, counted_laws};
 
 use crate::replies::TokenSinkResult;
 use crate::sink::TokenSink;
+use crate::tags::Tag;
 use crate::token::Token;
 use markup::ParseFault;
 
@@ -64,6 +65,16 @@ impl<S: TokenSink> TokenSink for Counting<S> {
         if is_tag {
             self.tags = self.tags.saturating_add(1);
         }
+        Ok(reply)
+    }
+
+    fn process_tag(
+        &mut self,
+        tag: &mut Tag,
+        line_number: u64,
+    ) -> Result<TokenSinkResult<S::Handle>, ParseFault> {
+        let reply = self.inner.process_tag(tag, line_number)?;
+        self.tags = self.tags.saturating_add(1);
         Ok(reply)
     }
 

@@ -1,9 +1,11 @@
 //! What takes tokens.
 ghost use Rattle.std.specs.Prelude.{◌≡◌, ◌≤◌, ℕ, Bool, false, List, [], ◌∷◌};
 ghost use Rattle.html_tokens.specs.declared.token.Token.{Token};
+ghost use Rattle.html_tokens.specs.declared.token.Token.TheVariants.{TagToken};
 ghost use Rattle.html_tokens.specs.Sink.{Step, Gives, tells_failed, fails, OnRefused, Counts, SinkLaws};
 
 use crate::replies::TokenSinkResult;
+use crate::tags::Tag;
 use crate::token::Token;
 use markup::ParseFault;
 
@@ -72,6 +74,27 @@ pub trait TokenSink {
         ensures sound { has_failed self.new ≡ false → is_sound (view self.new) }
         ensures same_references { references self.new ≡ references self.old };
 
+    /// Takes a tag that is lent, as `process_token` takes the token of it. A sink may use the tag up: who lends it knows
+    /// nothing of what is left.
+    fn process_tag(
+        &mut self,
+        tag: &mut Tag,
+        line_number: u64,
+    ) -> Result<TokenSinkResult<Self::Handle>, ParseFault>
+        requires { has_failed self.old ≡ false → is_sound (view self.old) }
+        ensures gives { Gives number (step (view self.old) (TagToken tag.old) line_number) result (view self.new) }
+        ensures failed_before { tells_failed result ≡ has_failed self.old }
+        ensures failed_after { has_failed self.new ≡ fails result }
+        ensures unchanged { OnRefused result (view self.new ≡ view self.old) }
+        ensures same_errors { OnRefused result (errors self.new ≡ errors self.old) }
+        ensures counts { Counts (is_quiet (view self.old) (TagToken tag.old)) (TagToken tag.old) result (errors self.old) (errors self.new) }
+        ensures sound { has_failed self.new ≡ false → is_sound (view self.new) }
+        ensures same_references { references self.new ≡ references self.old }
+    {
+        let own = tag.take();
+        self.process_token(Token::TagToken(own), line_number)
+    }
+
     /// Called once all tokens were told.
     fn end(&mut self)
         requires { has_failed self.old ≡ false → is_sound (view self.old) }
@@ -126,6 +149,14 @@ impl<S: TokenSink> TokenSink for &mut S {
         line_number: u64,
     ) -> Result<TokenSinkResult<S::Handle>, ParseFault> {
         (**self).process_token(token, line_number)
+    }
+
+    fn process_tag(
+        &mut self,
+        tag: &mut Tag,
+        line_number: u64,
+    ) -> Result<TokenSinkResult<S::Handle>, ParseFault> {
+        (**self).process_tag(tag, line_number)
     }
 
     fn end(&mut self) {

@@ -1,5 +1,5 @@
 //! Tags (HTML Standard, section 13.2.5).
-ghost use Rattle.std.specs.Prelude.{◌≡◌, ◌↔◌, IfOk, IfErr, IsTrue};
+ghost use Rattle.std.specs.Prelude.{◌≡◌, [], ◌↔◌, IfOk, IfErr, IsTrue};
 ghost use Rattle.html_tokens.specs.TagEquality.{IsEquivModuloAttrOrder, value_of};
 ghost use Rattle.markup.specs.declared.fault.ParseFault.TheVariants.{Memory};
 
@@ -31,6 +31,23 @@ pub struct Tag {
 }
 
 impl Tag {
+    /// Moves the name and the attributes out, with the rest. What is left has neither.
+    pub fn take(&mut self) -> Tag
+        ensures taken { result ≡ self.old }
+        ensures left { self.new ≡ record self.old { name = []; attrs = [] } }
+    {
+        let kind = self.kind;
+        let self_closing = self.self_closing;
+        let had_duplicate_attributes = self.had_duplicate_attributes;
+        Tag {
+            kind,
+            name: self.name.take(),
+            self_closing,
+            attrs: self.attrs.take(),
+            had_duplicate_attributes,
+        }
+    }
+
     /// A tag of its own with the same parts.
     pub fn copy(&self, alloc: Global) -> Result<Tag, ParseFault>
         ensures ok { IfOk result (λ copied. copied ≡ self.now) }

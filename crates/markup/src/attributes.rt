@@ -15,6 +15,7 @@ use crate::text::Text;
 use std::alloc::Global;
 use std::fmt::{self, Debug};
 use std::marker::Model;
+use std::mem;
 
 /// A name with its value.
 #[derive(Debug, Drop, PartialEq, Eq, PartialOrd, Ord, Hash)]
@@ -108,6 +109,15 @@ impl Attributes {
         ensures { result ≡ (length self.now == 0) }
     {
         self.list.is_empty()
+    }
+
+    /// Moves the attributes out with their memory, and leaves none.
+    pub fn take(&mut self) -> Attributes
+        ensures taken { result ≡ self.old }
+        ensures left { self.new ≡ [] }
+    {
+        let alloc = *self.list.allocator();
+        mem::replace(self, Attributes::new(alloc))
     }
 
     /// Adds an attribute at the end.

@@ -113,6 +113,16 @@ impl LocalName {
         Ok(())
     }
 
+    /// Moves the name out with its memory, and leaves the empty one.
+    pub fn take(&mut self) -> LocalName
+        ensures taken { result ≡ self.old }
+        ensures left { self.new ≡ [] }
+    {
+        LocalName {
+            name: self.name.take(),
+        }
+    }
+
     /// A name of its own with the same characters.
     pub fn copy(&self, alloc: Global) -> Result<LocalName, ParseFault>
         ensures ok { IfOk result (λ copied. copied ≡ self.now) }

@@ -103,6 +103,16 @@ impl Text {
         })
     }
 
+    /// Moves the characters out with their memory, and leaves none.
+    pub fn take(&mut self) -> Text
+        ensures taken { result ≡ self.old }
+        ensures left { self.new ≡ [] }
+    {
+        Text {
+            form: self.form.take(),
+        }
+    }
+
     /// Drops all characters, and keeps the memory.
     pub fn clear(&mut self)
         ensures { self.new ≡ [] }

@@ -5,6 +5,7 @@ ghost use Rattle.std.specs.String.{string_bytes};
 
 use crate::short_text::ShortText;
 use std::alloc::{AllocError, Global};
+use std::mem;
 
 /// A short text lies within the value, a longer one in memory of its own. A short text has what it would grow in.
 #[derive(Drop)]
@@ -51,6 +52,15 @@ impl TextForm {
             TextForm::Short(_, alloc) => *alloc,
             TextForm::Long(text) => *text.allocator(),
         }
+    }
+
+    /// Moves the bytes out, and leaves none.
+    pub(crate) fn take(&mut self) -> TextForm
+        ensures taken { result ≡ self.old }
+        ensures left { form_bytes self.new ≡ [] }
+    {
+        let empty = TextForm::empty(self.allocator());
+        mem::replace(self, empty)
     }
 
     pub(crate) fn as_str(&self) -> &str

@@ -80,32 +80,31 @@ module _ {K H : Type 0} (Sink : Ghosts K H) where
         paused = paused-behind reply new (Sink.view old.sink) old.tag (line_number old.stream.breaks) to sound gives;
       }
 
-  -- The tag was told behind its error, if it has one.
-  pub tag-ended : (old mid new : Tokenizer K) (after : K) (last : FittingEnd) (left tag : Tag) (line : ℕ) (reply : TokenSinkResult H) (result : ProcessResult H) → old.char_ref ≡ None → Sink.is_sound (Sink.view old.sink) → Erred Sink (owed_for (grave_if (is_faulty_tag old.tag))) old mid
-      → last.name ≡ last_name old.tag.kind old.tag.name old.raw_end.name → tag ≡ mid.tag → line ≡ line_number mid.stream.breaks
-      → Sink.step (Sink.view mid.sink) (TagToken tag) line ≡ Ok (Sink.view after, numbered Sink.number reply) → Sink.is_sound (Sink.view after) → Stays Sink mid.sink after → Rises Sink.errors (and_heard (Sink.is_quiet (Sink.view mid.sink) (TagToken tag)) nothing_owed) mid.sink after
+  -- The tag was told behind its error, if it has one. What is left of it is anything.
+  pub tag-ended : (old mid new : Tokenizer K) (after : K) (last : FittingEnd) (left : Tag) (line : ℕ) (reply : TokenSinkResult H) (result : ProcessResult H) → old.char_ref ≡ None → Sink.is_sound (Sink.view old.sink) → Erred Sink (owed_for (grave_if (is_faulty_tag old.tag))) old mid
+      → last.name ≡ last_name old.tag.kind old.tag.name old.raw_end.name → line ≡ line_number mid.stream.breaks
+      → Sink.step (Sink.view mid.sink) (TagToken mid.tag) line ≡ Ok (Sink.view after, numbered Sink.number reply) → Sink.is_sound (Sink.view after) → Stays Sink mid.sink after → Rises Sink.errors (and_heard (Sink.is_quiet (Sink.view mid.sink) (TagToken mid.tag)) nothing_owed) mid.sink after
       → new ≡ record mid { sink = after; state = state_behind reply; raw_end = last; tag = left } → result ≡ answer_to reply
       → EndedTag Sink old new result
-  tag-ended old mid new after last left tag line reply result fresh sound erred is_last is_tag is_line gives ok stays rises is answer =
+  tag-ended old mid new after last left line reply result fresh sound erred is_last is_line gives ok stays rises is answer =
       let gives' : Sink.step (Sink.view old.sink) (TagToken old.tag) (line_number old.stream.breaks) ≡ Ok (Sink.view after, numbered Sink.number reply) =
       ap (λ s. Sink.step s (TagToken old.tag) (line_number old.stream.breaks)) (sym erred.sink)
       ∙ ap (λ (k : Tokenizer K). Sink.step (Sink.view mid.sink) (TagToken k.tag) (line_number k.stream.breaks)) (sym erred.changed)
-      ∙ ap (λ x. Sink.step (Sink.view mid.sink) (TagToken x) (line_number mid.stream.breaks)) (sym is_tag)
-      ∙ ap (λ n. Sink.step (Sink.view mid.sink) (TagToken tag) n) (sym is_line)
+      ∙ ap (λ n. Sink.step (Sink.view mid.sink) (TagToken mid.tag) n) (sym is_line)
       ∙ gives in
-      let same_quiet : Sink.is_quiet (Sink.view mid.sink) (TagToken tag) ≡ Sink.is_quiet (Sink.view old.sink) (TagToken old.tag) =
-      ap (λ x. Sink.is_quiet (Sink.view mid.sink) (TagToken x)) is_tag ∙ (ap (λ (k : Tokenizer K). Sink.is_quiet (Sink.view mid.sink) (TagToken k.tag)) erred.changed ∙ ap (λ s. Sink.is_quiet s (TagToken old.tag)) erred.sink) in
+      let same_quiet : Sink.is_quiet (Sink.view mid.sink) (TagToken mid.tag) ≡ Sink.is_quiet (Sink.view old.sink) (TagToken old.tag) =
+      ap (λ (k : Tokenizer K). Sink.is_quiet (Sink.view mid.sink) (TagToken k.tag)) erred.changed ∙ ap (λ s. Sink.is_quiet s (TagToken old.tag)) erred.sink in
       rw (is, answer) (ended old (record mid { sink = after; state = state_behind reply; raw_end = last; tag = left }) reply sound
       (record { state = refl; fresh = ap (λ (k : Tokenizer K). k.char_ref) erred.changed ∙ fresh })
-      (ap (λ (k : Tokenizer K). k.stream) erred.changed) is_last gives' ok (stays-then Sink old.sink mid.sink after erred.stays stays) (subst (λ q. Rises Sink.errors (and_heard q (owed_for (grave_if (is_faulty_tag old.tag)))) old.sink after) same_quiet (rises-heard Sink.errors (Sink.is_quiet (Sink.view mid.sink) (TagToken tag)) old.sink mid.sink after erred.rises rises)))
+      (ap (λ (k : Tokenizer K). k.stream) erred.changed) is_last gives' ok (stays-then Sink old.sink mid.sink after erred.stays stays) (subst (λ q. Rises Sink.errors (and_heard q (owed_for (grave_if (is_faulty_tag old.tag)))) old.sink after) same_quiet (rises-heard Sink.errors (Sink.is_quiet (Sink.view mid.sink) (TagToken mid.tag)) old.sink mid.sink after erred.rises rises)))
 
   -- The tag was refused, behind its error if it has one.
-  pub tag-refused : (old mid new : Tokenizer K) (tag : Tag) (line : ℕ) (result : Result (ProcessResult H) ParseFault) (fault : ParseFault) → Erred Sink (owed_for (grave_if (is_faulty_tag old.tag))) old mid → tag ≡ mid.tag → line ≡ line_number mid.stream.breaks → IsErrAnd result (λ y. y ≡ fault)
-      → Fell Sink mid.sink new.sink → FailsAmong Sink IsOfText mid.sink new.sink (Sink.step (Sink.view mid.sink) (TagToken tag) line) fault → EndsTag Sink old new result
-  tag-refused old mid new tag line result fault erred is_tag is_line is fell fails =
+  pub tag-refused : (old mid new : Tokenizer K) (line : ℕ) (result : Result (ProcessResult H) ParseFault) (fault : ParseFault) → Erred Sink (owed_for (grave_if (is_faulty_tag old.tag))) old mid → line ≡ line_number mid.stream.breaks → IsErrAnd result (λ y. y ≡ fault)
+      → Fell Sink mid.sink new.sink → FailsAmong Sink IsOfText mid.sink new.sink (Sink.step (Sink.view mid.sink) (TagToken mid.tag) line) fault → EndsTag Sink old new result
+  tag-refused old mid new line result fault erred is_line is fell fails =
       let p = err_from_is_err_and result is in
-      let same : Sink.step (Sink.view mid.sink) (TagToken tag) line ≡ Sink.step (Sink.view old.sink) (TagToken old.tag) (line_number old.stream.breaks) =
-      ap (λ x. Sink.step (Sink.view mid.sink) (TagToken x) line) (is_tag ∙ ap (λ (k : Tokenizer K). k.tag) erred.changed)
+      let same : Sink.step (Sink.view mid.sink) (TagToken mid.tag) line ≡ Sink.step (Sink.view old.sink) (TagToken old.tag) (line_number old.stream.breaks) =
+      ap (λ (k : Tokenizer K). Sink.step (Sink.view mid.sink) (TagToken k.tag) line) erred.changed
       ∙ ap (λ n. Sink.step (Sink.view mid.sink) (TagToken old.tag) n) (is_line ∙ ap (λ (k : Tokenizer K). line_number k.stream.breaks) erred.changed)
       ∙ ap (λ s. Sink.step s (TagToken old.tag) (line_number old.stream.breaks)) erred.sink in
       rw (p.1, p.2) (fell-behind Sink old.sink mid.sink new.sink erred.stays fell, fails-before Sink old.sink mid.sink new.sink _ fault erred.stays (rw same at fails))
