@@ -10,7 +10,7 @@ use Rattle.std.proofs.Math.Seq.{drop-cons}
 use Rattle.markup.specs.Escape.{Mode, escape_in, escaped_in}
 use Rattle.markup.specs.Escape.Mode.{InText, InValue}
 use lib.Utf8.{encode, next}
-use Rattle.html_serialize.specs.Bytes.{IsNext, escape_bytes, in_value, is_lead, is_other, is_replaced, place_behind, reference_of, written_through}
+use Rattle.html_serialize.specs.Bytes.{IsNext, escape_bytes, in_value, is_replaced, place_behind, reference_of, written_through}
 
 drop_drop : (xs : List ℕ) (n m : ℕ) → drop m (drop n xs) ≡ drop (n + m) xs
 drop_drop xs n m = search (rules, common_steps)
@@ -197,16 +197,7 @@ escape_bytes-encodes mode (c ∷ cs) =
     ∙ ap (λ (bytes : List ℕ). encode_utf8_all (escaped_in mode c) ++ bytes) (escape_bytes-encodes mode cs)
     ∙ sym (encodes-append (escaped_in mode c) (escape_in mode cs))
 
--- what is no byte that may begin another escaped character begins none
-pub other-leads : (mode : Mode) (b next : ℕ) → is_lead mode b ≡ false → is_other mode b next ≡ false
-other-leads mode b next h = parts (in_value mode && nat_eq b 0x22) (nat_eq b 0xC2) (nat_eq next 0xA0) h
-  where
-    parts : (p q r : Bool) → (p || q) ≡ false → (p || (q && r)) ≡ false
-    parts true q r e = absurd cc
-    parts false true r e = absurd cc
-    parts false false r e = refl
-
--- what is found at the end of both searches lies within the bytes, with its second byte if it has one
+-- what is found at the end of a search lies within the bytes, with its second byte if it has one
 pub place_behind-within : (mode : Mode) (bs : List ℕ) (start at : ℕ) → IsNext (is_replaced mode) bs start at → place_behind bs at ≤ length bs
 place_behind-within mode bs start at is =
     elim (cases_lt at (length bs)) [
@@ -230,7 +221,7 @@ place_behind-within mode bs start at is =
         rw (eq-eqb (slice_index bs at) 0xC2 lead) (omega arith)
     by_lead passes below (inr other) = rw (ne_eqb (slice_index bs at) 0xC2 other) (omega arith)
 
--- it lies behind where the searches began, if that is not the end
+-- it lies behind where the search began, if that is not the end
 pub place_behind-later : (bs : List ℕ) (start at : ℕ) → start ≤ at → start ≤ place_behind bs at
 place_behind-later bs start at low =
     elim (cases_lt at (length bs)) [

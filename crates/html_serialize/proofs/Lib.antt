@@ -1,6 +1,7 @@
 pub mod Putting
-pub mod Searching
+pub mod Marks
 pub mod EscapedBytes
+pub mod KnownTags
 pub mod TagBytes
 pub mod Steps
 pub mod Runs

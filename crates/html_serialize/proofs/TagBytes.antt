@@ -8,8 +8,10 @@ use lib.Utf8.{encode}
 use Rattle.markup.specs.Escape.{attribute_prefix, end_tag, escape_value, prefix_by, start_tag, written_attribute, written_attributes, written_comment, written_doctype, written_instruction}
 use Rattle.markup.specs.Namespaces.{known_namespace}
 use Rattle.markup.specs.declared.attributes.Attribute.{Attribute}
+use Rattle.markup.specs.declared.names.QualName.{QualName}
 use Rattle.markup.specs.declared.namespaces.KnownNamespace.{KnownNamespace}
 use Rattle.markup.specs.declared.namespaces.KnownNamespace.TheVariants.{NoNamespace, Html, MathMl, Svg, XLink, Xml, Xmlns}
+use Rattle.html_serialize.specs.KnownTags.{attribute_front, before_value}
 
 -- bytes of a text that is known by its characters
 pub bytes-chars : (bytes text : List ℕ) → IsUtf8 bytes → chars bytes ≡ text → encode_utf8_all text ≡ bytes
@@ -27,19 +29,32 @@ prefix_by-bytes (Some Xml) xmlns = refl
 prefix_by-bytes (Some Xmlns) true = refl
 prefix_by-bytes (Some Xmlns) false = refl
 
--- an attribute: space, prefix and name; "="; its value; the quote at its end
-pub attribute-bytes : (attribute : Attribute) (prefix local : List ℕ) → prefix ≡ attribute_prefix attribute.name → encode_utf8_all attribute.name.local ≡ local
-    → encode_utf8_all (written_attribute attribute) ≡ (codes " " ++ (prefix ++ local)) ++ (codes "=\"" ++ (encode_utf8_all (escape_value attribute.value) ++ codes "\""))
+-- what stands before the value of an attribute: space, prefix and name; "=" and a quote
+pub before_value-bytes : (name : QualName) (prefix local : List ℕ) → prefix ≡ attribute_prefix name → encode_utf8_all name.local ≡ local → attribute_front name ≡ (codes " " ++ (prefix ++ local)) ++ codes "=\""
 unfolding encode
-attribute-bytes attribute prefix local is_prefix is_local =
-    let value = escape_value attribute.value in
-    let shown = attribute_prefix attribute.name in
+before_value-bytes name prefix local is_prefix is_local =
+    let shown = attribute_prefix name in
     ap (λ (xs : List ℕ). 32 ∷ xs)
-    (encodes-append shown (attribute.name.local ++ (codes "=\"" ++ (value ++ codes "\"")))
-    ∙ ap₂ (λ (xs ys : List ℕ). xs ++ ys) (prefix_by-bytes (known_namespace attribute.name.ns) (bytes_eq attribute.name.local (codes "xmlns")) ∙ sym is_prefix)
-    (encodes-append attribute.name.local (codes "=\"" ++ (value ++ codes "\""))
-    ∙ ap₂ (λ (xs ys : List ℕ). xs ++ ys) is_local (ap (λ (xs : List ℕ). 61 ∷ 34 ∷ xs) (encodes-append value (codes "\""))))
-    ∙ sym (append_assoc prefix local (codes "=\"" ++ (encode_utf8_all value ++ codes "\""))))
+    (encodes-append shown (name.local ++ codes "=\"")
+    ∙ ap₂ (λ (xs ys : List ℕ). xs ++ ys) (prefix_by-bytes (known_namespace name.ns) (bytes_eq name.local (codes "xmlns")) ∙ sym is_prefix)
+    (encodes-append name.local (codes "=\"") ∙ ap (λ (xs : List ℕ). xs ++ codes "=\"") is_local)
+    ∙ sym (append_assoc prefix local (codes "=\"")))
+
+quote-bytes : encode_utf8_all (codes "\"") ≡ codes "\""
+unfolding encode
+quote-bytes = refl
+
+-- an attribute: what stands before its value; that; the quote at its end
+pub attribute-bytes : (attribute : Attribute) → encode_utf8_all (written_attribute attribute) ≡ attribute_front attribute.name ++ (encode_utf8_all (escape_value attribute.value) ++ codes "\"")
+attribute-bytes attribute =
+    let value = escape_value attribute.value in
+    let front = before_value (attribute_prefix attribute.name) attribute.name.local in
+    ap encode_utf8_all (regroup (attribute_prefix attribute.name) attribute.name.local (value ++ codes "\""))
+    ∙ encodes-append front (value ++ codes "\"")
+    ∙ ap (λ (xs : List ℕ). encode_utf8_all front ++ xs) (encodes-append value (codes "\"") ∙ ap (λ (xs : List ℕ). encode_utf8_all value ++ xs) quote-bytes)
+  where
+    regroup : (prefix local rest : List ℕ) → codes " " ++ (prefix ++ (local ++ (codes "=\"" ++ rest))) ≡ before_value prefix local ++ rest
+    regroup prefix local rest = sym (simp append_assoc)
 
 -- a text between two literals
 pub between-bytes : (front text back bytes : List ℕ) → encode_utf8_all front ≡ front → encode_utf8_all back ≡ back → encode_utf8_all text ≡ bytes → encode_utf8_all (front ++ (text ++ back)) ≡ front ++ (bytes ++ back)

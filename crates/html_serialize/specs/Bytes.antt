@@ -21,9 +21,14 @@ is_markup b = nat_eq b 0x3C || nat_eq b 0x3E || nat_eq b 0x26
 abbrev pub is_other : Mode → ℕ → ℕ → Bool
 is_other mode b next = (in_value mode && nat_eq b 0x22) || (nat_eq b 0xC2 && nat_eq next 0xA0)
 
--- a byte that `is_other` may be true of
-abbrev pub is_lead : Mode → ℕ → Bool
-is_lead mode b = (in_value mode && nat_eq b 0x22) || nat_eq b 0xC2
+-- 0, or a byte that may begin an escaped character, where this quote may
+abbrev pub is_marked : ℕ → ℕ → Bool
+is_marked quote b = nat_eq b 0 || nat_eq b 0xC2 || nat_eq b quote || nat_eq b 0x26 || nat_eq b 0x3E || nat_eq b 0x3C
+
+-- the quote that is escaped; "&", which is anyway, where none is
+abbrev pub quote_of : Mode → ℕ
+quote_of InText = 0x26
+quote_of InValue = 0x22
 
 -- whether a byte begins a character that is escaped, by the byte behind it
 abbrev pub is_replaced : Mode → ℕ → ℕ → Bool
@@ -46,6 +51,12 @@ pub record IsNext (test : ℕ → ℕ → Bool) (bytes : List ℕ) (from next : 
   pub within : next ≤ length bytes
   pub passes : next < length bytes → test (slice_index bytes next) (slice_index bytes (suc next)) ≡ true
   pub clear : (i : ℕ) → from ≤ i → i < next → test (slice_index bytes i) (slice_index bytes (suc i)) ≡ false
+
+-- from a place on, no escaped character begins before another place
+pub record IsClear (mode : Mode) (bytes : List ℕ) (from at : ℕ) : Type 0 where
+  pub low : from ≤ at
+  pub within : at ≤ length bytes
+  pub clear : (i : ℕ) → from ≤ i → i < at → is_replaced mode (slice_index bytes i) (slice_index bytes (suc i)) ≡ false
 
 -- the bytes from one place up to another, and what the character there is written as, if it is not the end
 abbrev pub written_through : List ℕ → ℕ → ℕ → List ℕ

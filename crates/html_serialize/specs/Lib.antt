@@ -1,4 +1,5 @@
 pub mod Puts
 pub mod Bytes
+pub mod KnownTags
 pub mod Serializing
 pub mod Laws

@@ -3,16 +3,17 @@ ghost use Rattle.std.specs.Prelude.{◌≡◌, ◌≢◌, ◌∷◌, Ok, IfErr, 
 ghost use Rattle.markup.specs.declared.serializer.SerializeFault.TheVariants.{Memory};
 ghost use Rattle.std.specs.Str.{chars};
 ghost use Rattle.markup.specs.Trees.{end_of, entry_under, start_under, text_under};
+ghost use Rattle.html_serialize.specs.KnownTags.{IsKnownAs};
 ghost use Rattle.html_serialize.specs.Puts.{told_by};
 ghost use Rattle.html_serialize.specs.Serializing.{Does, Takes, map_ok, top_of, with_parent, without_last};
 
 use crate::entries::{ElemInfo, Entries};
 use crate::escape::{Escaping, put_escaped};
-use crate::names::entry_under;
+use crate::names::{end_tag, entry_under};
 use crate::put::{put, put_three};
 use crate::tags::put_start_tag;
 use markup::devices::Target;
-use markup::{Attribute, QualName, SerializeFault};
+use markup::{Attribute, KnownName, QualName, SerializeFault};
 
 /// The entry around what comes next, made where there is none and one may be made.
 fn parent(stack: &mut Entries, creates: bool) -> Result<ElemInfo, SerializeFault>
@@ -36,11 +37,13 @@ fn open(
     creates: bool,
     scripting: bool,
     name: &QualName,
+    known: Option<KnownName>,
 ) -> Result<ElemInfo, SerializeFault>
+    requires { IsKnownAs name.now.local known }
     ensures { Takes (map_ok (λ stack. entry_under scripting (top_of stack) name.now ∷ stack) (with_parent creates stack.old)) stack.old result stack.new }
 {
     let under = parent(stack, creates)?;
-    stack.push(entry_under(scripting, under, name))?;
+    stack.push(entry_under(scripting, under, name, known))?;
     Ok(under)
 }
 
@@ -73,11 +76,12 @@ pub(crate) fn start_elem<Wr: Target>(
     ensures does { Does (map_ok (λ stack. entry_under scripting (top_of stack) name.now ∷ stack) (with_parent creates stack.old)) (encode_utf8_all (start_under (top_of stack.old) name.now attrs.now)) stack.old (told_by Wr.written Wr.failures writer.old) result stack.new (told_by Wr.written Wr.failures writer.new) }
     ensures same_references { Wr.references writer.new ≡ Wr.references writer.old }
 {
-    let under = open(stack, creates, scripting, name)?;
+    let known = name.local.known();
+    let under = open(stack, creates, scripting, name, known)?;
     if under.ignore_children {
         return Ok(());
     }
-    put_start_tag(writer, name, attrs)
+    put_start_tag(writer, name, known, attrs)
 }
 
 /// An element ends.
@@ -95,7 +99,10 @@ pub(crate) fn end_elem<Wr: Target>(
     if own.ignore_children {
         return Ok(());
     }
-    put_three(writer, "</", name.local.as_str(), ">")
+    match name.local.known() {
+        Some(known) => put(writer, end_tag(known).as_bytes()),
+        None => put_three(writer, "</", name.local.as_str(), ">"),
+    }
 }
 
 /// A text.

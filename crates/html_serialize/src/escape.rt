@@ -1,15 +1,15 @@
 //! Escaping a string (HTML Standard, section 13.3).
-ghost use Rattle.std.specs.Prelude.{◌≡◌, ◌≤◌, ◌<◌, suc, true, false, encode_utf8_all, length, slice_index, IfOk};
+ghost use Rattle.std.specs.Prelude.{◌≡◌, ◌≤◌, ◌<◌, ◌+◌, ℕ, suc, true, false, encode_utf8_all, map, take, drop, length, slice_index, IfOk};
 ghost use Rattle.std.specs.Str.{chars};
-ghost use Rattle.memchr.specs.Find.{IsFirstByte};
+ghost use Rattle.std.specs.Simd.Lanes.{mask_l};
 ghost use Rattle.markup.specs.Escape.{escape_in};
-ghost use Rattle.html_serialize.specs.Bytes.{IsNext, escape_bytes, is_lead, is_markup, is_other, mode_of, place_behind, reference_of, written_through};
+ghost use Rattle.html_serialize.specs.Bytes.{IsClear, IsNext, escape_bytes, is_marked, is_replaced, mode_of, place_behind, quote_of, reference_of, written_through};
 ghost use Rattle.html_serialize.specs.Puts.{Puts, told_by};
 
 use crate::put::put;
 use markup::SerializeFault;
 use markup::devices::Target;
-use memchr::{memchr, memchr2, memchr3};
+use std::simd::prelude::*;
 
 /// Where a string is escaped.
 #[derive(Clone, Copy)]
@@ -18,80 +18,94 @@ pub(crate) enum Escaping {
     Value,
 }
 
-/// The next `<`, `>` or `&` from a place on, or the end.
-fn next_markup(bytes: &[u8], from: usize) -> usize
-    requires { from ≤ length bytes.now }
-    ensures low { from ≤ result }
-    ensures next { IsNext (λ b _. is_markup b) bytes.now from result }
+/// Of sixteen bytes from a place on, those that are 0 or may begin an escaped character, with this quote or without.
+#[inline(always)]
+fn marks(bytes: &[u8], at: usize, quote: u8) -> u64
+    requires { at + 16 ≤ length bytes.now }
+    ensures { result ≡ mask_l (map (is_marked quote) (take 16 (drop at bytes.now))) }
 {
-    match memchr3(b'<', b'>', b'&', &bytes[from..]) {
-        Some(ahead) => from + ahead,
-        None => bytes.len(),
+    let zero = u8x16::splat(0);
+    let seen = u8x16::from_slice(&bytes[at..]);
+    let less = seen.simd_eq(u8x16::splat(b'<')).select(zero, seen);
+    let less = less.simd_eq(u8x16::splat(b'>')).select(zero, less);
+    let less = less.simd_eq(u8x16::splat(b'&')).select(zero, less);
+    let less = less.simd_eq(u8x16::splat(quote)).select(zero, less);
+    let least = less.simd_eq(u8x16::splat(0xC2)).select(zero, less);
+    least.simd_eq(zero).to_bitmask()
+}
+
+/// How many of sixteen bytes from a place on stand before the first that is 0 or may begin an escaped character.
+#[inline(always)]
+fn unmarked(bytes: &[u8], at: usize, quote: u8) -> usize
+    requires { at + 16 ≤ length bytes.now }
+    ensures within { result ≤ 16 }
+    ensures before { (k : ℕ) → at ≤ k → k < at + result → is_marked quote (slice_index bytes.now k) ≡ false }
+{
+    let marked = marks(bytes, at, quote);
+    if marked == 0 {
+        return 16;
+    }
+    marked.trailing_zeros() as usize
+}
+
+/// Whether an escaped character begins at a place.
+#[inline(always)]
+fn is_escaped_at(bytes: &[u8], at: usize, escaping: Escaping) -> bool
+    requires { at < length bytes.now }
+    ensures { result ≡ is_replaced (mode_of escaping) (slice_index bytes.now at) (slice_index bytes.now (suc at)) }
+{
+    match bytes[at] {
+        b'<' | b'>' | b'&' => true,
+        b'"' => matches!(escaping, Escaping::Value),
+        0xC2 => at + 1 < bytes.len() && bytes[at + 1] == 0xA0,
+        _ => false,
     }
 }
 
-/// The first quote, in a value, or byte that may begin U+00A0.
-fn first_lead(bytes: &[u8], escaping: Escaping) -> Option<usize>
-    ensures { IsFirstByte (is_lead (mode_of escaping)) bytes.now result }
+/// The quote that is looked for; `&`, which is looked for anyway, where no quote is escaped.
+#[inline(always)]
+fn quote_in(escaping: Escaping) -> u8
+    ensures { result ≡ quote_of (mode_of escaping) }
 {
     match escaping {
-        Escaping::Text => memchr(0xC2, bytes),
-        Escaping::Value => memchr2(b'"', 0xC2, bytes),
+        Escaping::Text => b'&',
+        Escaping::Value => b'"',
     }
 }
 
-/// Whether the byte that may begin an escaped character does so.
-fn is_other_at(bytes: &[u8], at: usize, escaping: Escaping) -> bool
-    requires within { at < length bytes.now }
-    requires lead { is_lead (mode_of escaping) (slice_index bytes.now at) ≡ true }
-    ensures { result ≡ is_other (mode_of escaping) (slice_index bytes.now at) (slice_index bytes.now (suc at)) }
+/// A place from which on an escaped character may come and before which there is none, looked for in sixteen bytes at a time.
+#[inline(always)]
+fn place_ahead(bytes: &[u8], from: usize, escaping: Escaping) -> usize
+    requires { from ≤ length bytes.now }
+    ensures { IsClear (mode_of escaping) bytes.now from result }
 {
-    bytes[at] != 0xC2 || (at + 1 < bytes.len() && bytes[at + 1] == 0xA0)
+    let quote = quote_in(escaping);
+    let mut at = from;
+    while bytes.len() - at >= 16 {
+        let passed = unmarked(bytes, at, quote);
+        at += passed;
+        if passed < 16 {
+            if is_escaped_at(bytes, at, escaping) {
+                return at;
+            }
+            at += 1;
+        }
+    }
+    at
 }
 
-/// The next quote, in a value, or U+00A0 from a place on, or the end.
-fn next_other(bytes: &[u8], from: usize, escaping: Escaping) -> usize
+/// The next character from a place on that is escaped, or the end.
+fn next_escaped(bytes: &[u8], from: usize, escaping: Escaping) -> usize
     requires { from ≤ length bytes.now }
     ensures low { from ≤ result }
-    ensures next { IsNext (is_other (mode_of escaping)) bytes.now from result }
+    ensures next { IsNext (is_replaced (mode_of escaping)) bytes.now from result }
 {
-    let mut at = from;
-    while let Some(ahead) = first_lead(&bytes[at..], escaping) {
-        at += ahead;
-        if is_other_at(bytes, at, escaping) {
+    for at in place_ahead(bytes, from, escaping)..bytes.len() {
+        if is_escaped_at(bytes, at, escaping) {
             return at;
         }
-        at += 1;
     }
     bytes.len()
-}
-
-/// The next `<`, `>` or `&` from a place on, where an earlier search found one that may lie behind that place.
-fn markup_from(bytes: &[u8], start: usize, known: usize) -> usize
-    requires within { start ≤ length bytes.now }
-    requires known { start ≤ known → IsNext (λ b _. is_markup b) bytes.now start known }
-    ensures low { start ≤ result }
-    ensures next { IsNext (λ b _. is_markup b) bytes.now start result }
-{
-    if start <= known {
-        known
-    } else {
-        next_markup(bytes, start)
-    }
-}
-
-/// The next quote, in a value, or U+00A0 from a place on, where an earlier search found one that may lie behind that place.
-fn other_from(bytes: &[u8], start: usize, known: usize, escaping: Escaping) -> usize
-    requires within { start ≤ length bytes.now }
-    requires known { start ≤ known → IsNext (is_other (mode_of escaping)) bytes.now start known }
-    ensures low { start ≤ result }
-    ensures next { IsNext (is_other (mode_of escaping)) bytes.now start result }
-{
-    if start <= known {
-        known
-    } else {
-        next_other(bytes, start, escaping)
-    }
 }
 
 /// What an escaped character is written as, by its first byte.
@@ -129,8 +143,7 @@ fn put_through<Wr: Target>(
     Ok(if lead == 0xC2 { at + 2 } else { at + 1 })
 }
 
-/// Writes bytes with their escaped characters as references. Runs without any go out in one write each, and each of the two
-/// searches goes over the bytes once.
+/// Writes bytes with their escaped characters as references. Runs without any go out in one write each.
 fn put_escaped_bytes<Wr: Target>(
     writer: &mut Wr,
     bytes: &[u8],
@@ -140,12 +153,9 @@ fn put_escaped_bytes<Wr: Target>(
     ensures same_references { Wr.references writer.new ≡ Wr.references writer.old }
 {
     let mut start = 0;
-    let mut markup = next_markup(bytes, 0);
-    let mut other = next_other(bytes, 0, escaping);
     'runs: while start < bytes.len() {
-        markup = markup_from(bytes, start, markup);
-        other = other_from(bytes, start, other, escaping);
-        start = put_through(writer, bytes, start, markup.min(other))?;
+        let at = next_escaped(bytes, start, escaping);
+        start = put_through(writer, bytes, start, at)?;
     }
     Ok(())
 }

@@ -4,6 +4,7 @@
 mod calls;
 mod entries;
 mod escape;
+mod known_tags;
 pub mod laws;
 mod names;
 mod opts;

@@ -1,24 +1,25 @@
-use Rattle.std.proofs.Common.{◌∙◌, [], ◌++◌, sym, append_assoc, encode_utf8_all}
+use Rattle.std.proofs.Common.{◌≡◌, ◌∙◌, List, ℕ, [], ◌++◌, ap, sym, encode_utf8_all}
 use Rattle.std.specs.Prelude.{codes}
-use Rattle.markup.specs.Escape.{written_attributes}
-use Rattle.html_serialize.proofs.Putting.{Puts-behind, Puts-failed, with_bytes-none, with_bytes-then}
-use Rattle.html_serialize.proofs.TagBytes.{bytes-chars, start_tag-bytes}
+use Rattle.std.proofs.lemmas.List.{append-nil}
+use Rattle.markup.specs.Escape.{start_tag, written_attributes}
+use Rattle.html_serialize.specs.KnownTags.{bare_tag, front_of}
+use Rattle.html_serialize.proofs.KnownTags.{bare-ends, bare-front}
+use Rattle.html_serialize.proofs.TagBytes.{start_tag-bytes}
 use Rattle.html_serialize.proofs.tags.put_start_tag.Goals as goal
 
-pub returns-in_err-put_three-clause-puts : goal.returns-in_err-put_three-clause-puts
-returns-in_err-put_three-clause-puts g c =
-    let whole = start_tag-bytes c.args.name.now.local c.args.attrs.now c.as_str.result.now (bytes-chars c.as_str.result.now _ c.as_str.utf8 c.as_str.ensures) in
-    Puts-failed _ _ _ [] _ (encode_utf8_all (written_attributes c.args.attrs.now) ++ codes ">") _ _ _ c.from_residual.ensures.1 (with_bytes-none _) c.in_err-put_three.ensures.puts whole
+pub put_known_start_tag-requires : goal.put_known_start_tag-requires
+put_known_start_tag-requires g c =
+    let name = c.args.name.now.local in
+    bare-ends c.as_bytes.result.now name (c.as_bytes.ensures.value ∙ (c.start_tag.ensures name (rw c.in-Some.is at c.requires)).0)
 
-pub returns-in_err-put_attributes-clause-puts : goal.returns-in_err-put_attributes-clause-puts
-returns-in_err-put_attributes-clause-puts g c =
-    let whole = start_tag-bytes c.args.name.now.local c.args.attrs.now c.as_str.result.now (bytes-chars c.as_str.result.now _ c.as_str.utf8 c.as_str.ensures) in
-    Puts-failed _ _ _ (codes "<" ++ (c.as_str.result.now ++ [])) (encode_utf8_all (written_attributes c.args.attrs.now)) (codes ">") _ _ _ c.from_residual-in_err-put_attributes.ensures.1 c.in_ok-put_three.ensures.puts c.in_err-put_attributes.ensures.puts whole
-
-pub returns-clause-puts : goal.returns-clause-puts
-returns-clause-puts g c =
-    let front = codes "<" ++ (c.as_str.result.now ++ []) in
+pub returns-in-Some-clause-puts : goal.returns-in-Some-clause-puts
+returns-in-Some-clause-puts g c =
+    let name = c.args.name.now.local in
     let attributes = encode_utf8_all (written_attributes c.args.attrs.now) in
-    let whole = start_tag-bytes c.args.name.now.local c.args.attrs.now c.as_str.result.now (bytes-chars c.as_str.result.now _ c.as_str.utf8 c.as_str.ensures) in
-    rw (whole ∙ sym (append_assoc front attributes (codes ">")))
-    (Puts-behind _ _ _ (front ++ attributes) (codes ">") c.put.result (with_bytes-then _ _ _ front attributes c.in_ok-put_three.ensures.puts c.in_ok-put_attributes.ensures.puts) c.put.ensures.puts)
+    let known = c.start_tag.ensures name (rw c.in-Some.is at c.requires) in
+    let front = bare-front c.as_bytes.result.now name (c.as_bytes.ensures.value ∙ known.0) in
+    let whole : encode_utf8_all (start_tag name c.args.attrs.now) ≡ front_of c.as_bytes.result.now ++ (attributes ++ codes ">") =
+    start_tag-bytes name c.args.attrs.now name known.1
+    ∙ ap (λ (xs : List ℕ). (codes "<" ++ xs) ++ (attributes ++ codes ">")) (append-nil name)
+    ∙ ap (λ (xs : List ℕ). xs ++ (attributes ++ codes ">")) (sym front) in
+    rw whole c.put_known_start_tag.ensures.puts
