@@ -1,5 +1,5 @@
 -- The stack's part of the state of the rules.
-use Rattle.std.specs.Prelude.{ℕ, Bool, true, false, List, map, reverse}
+use Rattle.std.specs.Prelude.{◌≡◌, ℕ, Bool, true, false, List, map, reverse}
 use Rattle.markup.specs.Forest.{Forest}
 use Rattle.html_rules.specs.State.{Open, Entry, State, Element as Listed, Marker as Mark}
 use Rattle.html_rules.specs.declared.insertion_mode.InsertionMode.{InsertionMode}
@@ -35,3 +35,11 @@ is_mark Mark = true
 -- a state of the rules with this stack and this tree in place of its own
 abbrev pub joined : State → Stacked → Forest → State
 joined s stack f = record s { forest = f; open_elems = stack.open_elems; active_formatting = stack.active_formatting; template_modes = stack.template_modes }
+
+-- what a step of the rules does to a state is done to a stack and its tree
+abbrev pub Performs : (State → State) → Stacked → Stacked → Forest → Forest → Type 0
+Performs step old new f g = (s : State) → joined s new g ≡ step (joined s old f)
+
+-- the same in states whose foster parenting is this
+abbrev pub PerformsWith : Bool → (State → State) → Stacked → Stacked → Forest → Forest → Type 0
+PerformsWith foster step old new f g = (s : State) → s.foster_parenting ≡ foster → joined s new g ≡ step (joined s old f)

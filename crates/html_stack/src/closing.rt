@@ -5,7 +5,7 @@ ghost use Rattle.html_rules.specs.Names.{Html};
 ghost use Rattle.html_rules.specs.Stack.{check_body_end, close_item, close_p_element, close_p_element_in_button_scope, expect_to_close, pop_but_root, process_end_tag_in_body};
 ghost use Rattle.html_rules.specs.State.{State, is_in, is_named};
 ghost use Rattle.html_rules_laws.specs.Soundness.{AreOpened};
-ghost use Rattle.html_stack.specs.Stacks.{joined};
+ghost use Rattle.html_stack.specs.Stacks.{joined, Performs};
 ghost use Rattle.html_stack.specs.Wanted.{IsOfHtml, IsWanted, passes};
 
 use crate::entries::OpenElement;
@@ -23,7 +23,7 @@ impl<Sink: TreeSink> Stack<Sink> {
     #[tactic(auto, unfolding(html_rules::specs::Stack::expect_to_close, html_rules::specs::Stack::pop_until, html_rules::specs::Stack::parse_error))]
     pub(crate) fn close_wanted(&mut self, sink: &mut Sink, wanted: Wanted<'_>)
         requires { IsWanted wanted }
-        ensures { (s : State) → joined s self.new (Sink.forest sink.new) ≡ expect_to_close (passes wanted.entry) (joined s self.old (Sink.forest sink.old)) }
+        ensures { Performs (expect_to_close (passes wanted.entry)) self.old self.new (Sink.forest sink.old) (Sink.forest sink.new) }
     {
         if !self.current_is(wanted) {
             sink.parse_error(CowStr::Borrowed("elements are open within the one that ends"));
@@ -35,14 +35,14 @@ impl<Sink: TreeSink> Stack<Sink> {
     /// told of the error alone.
     pub fn expect_to_close(&mut self, sink: &mut Sink, class: ElementClass, name: &LocalName)
         requires { IsClassOf Html name.now class }
-        ensures { (s : State) → joined s self.new (Sink.forest sink.new) ≡ expect_to_close (is_named name.now) (joined s self.old (Sink.forest sink.old)) }
+        ensures { Performs (expect_to_close (is_named name.now)) self.old self.new (Sink.forest sink.old) (Sink.forest sink.new) }
     {
         self.close_wanted(sink, Wanted::Named(class, name));
     }
 
     /// The same, up to an element of a set.
     pub fn expect_to_close_in(&mut self, sink: &mut Sink, set: TagSet)
-        ensures { (s : State) → joined s self.new (Sink.forest sink.new) ≡ expect_to_close (is_in set) (joined s self.old (Sink.forest sink.old)) }
+        ensures { Performs (expect_to_close (is_in set)) self.old self.new (Sink.forest sink.old) (Sink.forest sink.new) }
     {
         self.close_wanted(sink, Wanted::In(set));
     }
@@ -51,7 +51,7 @@ impl<Sink: TreeSink> Stack<Sink> {
     #[tactic(auto, unfolding(html_rules::specs::Stack::pop_but_root))]
     pub fn pop_but_root(&mut self, sink: &mut Sink) -> Option<OpenElement<Sink::Handle>>
         requires { AreOpened (Sink.forest sink.old) self.old.open_elems }
-        ensures { (s : State) → joined s self.new (Sink.forest sink.new) ≡ pop_but_root (joined s self.old (Sink.forest sink.old)) }
+        ensures { Performs pop_but_root self.old self.new (Sink.forest sink.old) (Sink.forest sink.new) }
     {
         if self.current_is(Wanted::In(TagSet::Html)) {
             None
@@ -66,7 +66,7 @@ impl<Sink: TreeSink> Stack<Sink> {
     pub fn close_item(&mut self, sink: &mut Sink, items: TagSet)
         requires items { IsOfHtml items }
         requires opened { AreOpened (Sink.forest sink.old) self.old.open_elems }
-        ensures { (s : State) → joined s self.new (Sink.forest sink.new) ≡ close_item items (joined s self.old (Sink.forest sink.old)) }
+        ensures { Performs (close_item items) self.old self.new (Sink.forest sink.old) (Sink.forest sink.new) }
     {
         if let Some(item) = walks::item(self.reached(Sign::In(items), Sign::BarsItems), items) {
             self.close_implied(sink, TagSet::CursoryImpliedEnd, Wanted::Known(item));
@@ -78,7 +78,7 @@ impl<Sink: TreeSink> Stack<Sink> {
     #[tactic(auto, unfolding(html_rules::specs::Stack::close_p_element, html_rules::specs::Stack::generate_implied_end_except))]
     pub fn close_p_element(&mut self, sink: &mut Sink)
         requires { AreOpened (Sink.forest sink.old) self.old.open_elems }
-        ensures { (s : State) → joined s self.new (Sink.forest sink.new) ≡ close_p_element (joined s self.old (Sink.forest sink.old)) }
+        ensures { Performs close_p_element self.old self.new (Sink.forest sink.old) (Sink.forest sink.new) }
     {
         self.close_implied(sink, TagSet::CursoryImpliedEnd, Wanted::In(TagSet::P));
         self.close_wanted(sink, Wanted::In(TagSet::P));
@@ -88,7 +88,7 @@ impl<Sink: TreeSink> Stack<Sink> {
     #[tactic(auto, unfolding(html_rules::specs::Stack::close_p_element_in_button_scope))]
     pub fn close_p_element_in_button_scope(&mut self, sink: &mut Sink)
         requires { AreOpened (Sink.forest sink.old) self.old.open_elems }
-        ensures { (s : State) → joined s self.new (Sink.forest sink.new) ≡ close_p_element_in_button_scope (joined s self.old (Sink.forest sink.old)) }
+        ensures { Performs close_p_element_in_button_scope self.old self.new (Sink.forest sink.old) (Sink.forest sink.new) }
     {
         if self.in_scope(TagSet::ButtonScope, TagSet::P) {
             self.close_p_element(sink);
@@ -106,7 +106,7 @@ impl<Sink: TreeSink> Stack<Sink> {
     )
         requires name { IsClassOf Html name.now class }
         requires opened { AreOpened (Sink.forest sink.old) self.old.open_elems }
-        ensures { (s : State) → joined s self.new (Sink.forest sink.new) ≡ process_end_tag_in_body name.now (joined s self.old (Sink.forest sink.old)) }
+        ensures { Performs (process_end_tag_in_body name.now) self.old self.new (Sink.forest sink.old) (Sink.forest sink.new) }
     {
         if self.finds_generic(class, name) {
             self.close_implied(sink, TagSet::CursoryImpliedEnd, Wanted::Named(class, name));

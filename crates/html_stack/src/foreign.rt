@@ -8,7 +8,7 @@ ghost use Rattle.html_rules.specs.Renames.{adjust_attributes};
 ghost use Rattle.html_rules.specs.State.{State, adjusted_by};
 ghost use Rattle.html_rules_laws.specs.Soundness.{IsStanding};
 ghost use Rattle.html_stack.specs.Inserting.{IsFor, IsNew, context_of};
-ghost use Rattle.html_stack.specs.Stacks.{joined, open_of, opens_of};
+ghost use Rattle.html_stack.specs.Stacks.{joined, open_of, opens_of, PerformsWith};
 
 use crate::entries::{OpenElement, PushFlag};
 use crate::inserting::new_element::NewElement;
@@ -68,7 +68,7 @@ impl<Sink: TreeSink> Stack<Sink> {
     ) -> Result<(), ParseFault>
         requires standing { IsStanding (Sink.forest sink.old) self.old.open_elems self.old.active_formatting }
         requires form { IfSome form (λ owner. IsNode (Sink.forest sink.old) (Sink.node owner)) }
-        ensures ok { OnOk result ((s : State) → s.foster_parenting ≡ foster → joined s self.new (Sink.forest sink.new) ≡ enter_foreign (namespace_of namespace) tag (joined s self.old (Sink.forest sink.old))) }
+        ensures ok { OnOk result (PerformsWith foster (enter_foreign (namespace_of namespace) tag) self.old self.new (Sink.forest sink.old) (Sink.forest sink.new)) }
         ensures kept { IsStanding (Sink.forest sink.new) self.new.open_elems self.new.active_formatting }
         ensures grows { node_count (Sink.forest sink.old) ≤ node_count (Sink.forest sink.new) }
         ensures fault { IfErr result (λ fault. fault ≡ Memory) }

@@ -4,9 +4,8 @@ ghost use Rattle.markup.specs.Forest.{Forest, IsNode};
 ghost use Rattle.html_names.specs.Classes.{IsClassOf};
 ghost use Rattle.html_rules.specs.Names.{Html};
 ghost use Rattle.html_rules.specs.Stack.{process_end_tag_in_body};
-ghost use Rattle.html_rules.specs.State.{State};
 ghost use Rattle.html_rules_laws.specs.Soundness.{AreOpened};
-ghost use Rattle.html_stack.specs.Stacks.{joined, opens_of};
+ghost use Rattle.html_stack.specs.Stacks.{opens_of, Performs};
 
 use crate::entries::OpenElement;
 use crate::stack::Stack;
@@ -95,7 +94,7 @@ impl<Sink: TreeSink> Stack<Sink> {
     pub fn any_other_end_tag(&mut self, sink: &mut Sink, class: ElementClass, name: &LocalName)
         requires name { IsClassOf Html name.now class }
         requires opened { AreOpened (Sink.forest sink.old) self.old.open_elems }
-        ensures { (s : State) → joined s self.new (Sink.forest sink.new) ≡ process_end_tag_in_body name.now (joined s self.old (Sink.forest sink.old)) }
+        ensures { Performs (process_end_tag_in_body name.now) self.old self.new (Sink.forest sink.old) (Sink.forest sink.new) }
     {
         let option = self.first_option(class);
         self.process_end_tag_in_body(sink, class, name);

@@ -1,5 +1,5 @@
 -- The state of tree construction, as the code has it.
-use Rattle.std.specs.Prelude.{ℕ, Bool, List, [], Option, Some, None, IfSome}
+use Rattle.std.specs.Prelude.{◌≡◌, ℕ, Bool, List, [], Option, Some, None, IfSome}
 use Rattle.markup.specs.Forest.{Forest, IsNode, data_of, element_name}
 use Rattle.markup.specs.declared.attributes.Attribute.{Attribute}
 use Rattle.markup.specs.declared.names.QualName.{QualName}
@@ -96,3 +96,7 @@ pub record Stands (f : Forest) (b : Building) : Type 0 where
 -- the same, with what a sink answers
 abbrev pub built : {K H O : Type 0} → Ghosts K H O → Building → Forest → State
 built sink b f = state_of (answers_of sink.integration_point sink.allows_shadow_roots sink.attaches_shadow) b f
+
+-- what a step of the rules does to a state is done to a builder and its tree
+abbrev pub Performs : (State → State) → Building → Building → Forest → Forest → Type 0
+Performs step old new f g = (a : Answers) → state_of a new g ≡ step (state_of a old f)

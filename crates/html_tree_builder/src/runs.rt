@@ -8,7 +8,7 @@ ghost use Rattle.html_rules.specs.State.{Answers, adjusted_by};
 ghost use Rattle.html_stack.specs.Stacks.{open_of};
 ghost use Rattle.html_tokens.specs.declared.token.Token.TheVariants.{CharacterTokens};
 ghost use Rattle.html_tree_builder.specs.Running.{run_action, run_at, run_in, run_of, takes_text};
-ghost use Rattle.html_tree_builder.specs.States.{Stands, state_of};
+ghost use Rattle.html_tree_builder.specs.States.{Stands, state_of, Performs};
 
 use crate::construction::{Construction, lent};
 use html_rules::{InsertionMode, TagSet};
@@ -93,7 +93,7 @@ impl<Sink: TreeSink> Construction<Sink> {
         text: &str,
     ) -> Result<(), ParseFault>
         requires stands { Stands (Sink.forest sink.old) self.old }
-        ensures ok { OnOk result ((a : Answers) → state_of a self.new (Sink.forest sink.new) ≡ act (run_action run) (CharacterTokens (chars text.now)) (state_of a self.old (Sink.forest sink.old))) }
+        ensures ok { OnOk result (Performs (act (run_action run) (CharacterTokens (chars text.now))) self.old self.new (Sink.forest sink.old) (Sink.forest sink.new)) }
         ensures fault { IfErr result (λ fault. fault ≡ Memory) }
     {
         match run {

@@ -3,9 +3,8 @@ ghost use Rattle.std.specs.Prelude.{◌≡◌, ◌≤◌, ◌+◌, true, IfErr, 
 ghost use Rattle.markup.specs.declared.fault.ParseFault.TheVariants.{Memory};
 ghost use Rattle.html_tokens.specs.Sink.{numbered};
 ghost use Rattle.html_rules.specs.Rules.{check_acknowledged, is_self_closing, settle};
-ghost use Rattle.html_rules.specs.State.{Answers};
 ghost use Rattle.html_rules_laws.specs.Upright.{MayCome};
-ghost use Rattle.html_tree_builder.specs.States.{Stands, built, state_of};
+ghost use Rattle.html_tree_builder.specs.States.{Stands, built, Performs};
 ghost use Rattle.html_tree_builder.specs.Told.{IsTold, token_of};
 
 use crate::conclusions::Ending;
@@ -32,7 +31,7 @@ impl<Sink: TreeSink> Construction<Sink> {
     /// A self-closing flag that was not acknowledged is an error.
     #[tactic(auto, unfolding(html_rules::specs::Stack::parse_error))]
     fn check_acknowledged(&self, sink: &mut Sink, acknowledged: bool, told: &Told<'_>)
-        ensures state { (a : Answers) → state_of a self.now (Sink.forest sink.new) ≡ check_acknowledged acknowledged (token_of told.now.content) (state_of a self.now (Sink.forest sink.old)) }
+        ensures state { Performs (check_acknowledged acknowledged (token_of told.now.content)) self.now self.now (Sink.forest sink.old) (Sink.forest sink.new) }
         ensures stands { Stands (Sink.forest sink.old) self.now → Stands (Sink.forest sink.new) self.now }
     {
         if !acknowledged && told.is_self_closing() {

@@ -13,7 +13,7 @@ ghost use Rattle.html_rules.specs.State.{Answers};
 ghost use Rattle.html_rules.specs.Stack.{parse_error};
 ghost use Rattle.html_rules.specs.Step.{doctype_taken, first_doctype_taken, if_kept, text_taken, untouched};
 ghost use Rattle.html_rules.specs.Tokens.{name_of};
-ghost use Rattle.html_tree_builder.specs.States.{Stands, built, state_of};
+ghost use Rattle.html_tree_builder.specs.States.{Stands, built, state_of, Performs};
 ghost use Rattle.html_tree_builder.specs.Told.{IsTold, token_of};
 ghost use Rattle.html_tree_builder.specs.Turns.{most_turns, turns_of};
 
@@ -139,7 +139,7 @@ impl<Sink: TreeSink> Construction<Sink> {
     /// A doctype is put into the document, unless none is to be there.
     fn append_doctype(&mut self, sink: &mut Sink, doctype: Doctype) -> Result<(), ParseFault>
         requires stands { Stands (Sink.forest sink.old) self.old }
-        ensures ok { OnOk result ((a : Answers) → state_of a self.new (Sink.forest sink.new) ≡ if_kept self.old.opts.drop_doctype doctype (state_of a self.old (Sink.forest sink.old))) }
+        ensures ok { OnOk result (Performs (if_kept self.old.opts.drop_doctype doctype) self.old self.new (Sink.forest sink.old) (Sink.forest sink.new)) }
         ensures fault { IfErr result (λ fault. fault ≡ Memory) }
     {
         if self.opts.drop_doctype {
@@ -152,7 +152,7 @@ impl<Sink: TreeSink> Construction<Sink> {
     /// Takes a doctype where one belongs.
     fn process_first_doctype(&mut self, sink: &mut Sink, doctype: Doctype) -> Result<(), ParseFault>
         requires stands { Stands (Sink.forest sink.old) self.old }
-        ensures ok { OnOk result ((a : Answers) → state_of a self.new (Sink.forest sink.new) ≡ first_doctype_taken doctype (state_of a self.old (Sink.forest sink.old))) }
+        ensures ok { OnOk result (Performs (first_doctype_taken doctype) self.old self.new (Sink.forest sink.old) (Sink.forest sink.new)) }
         ensures fault { IfErr result (λ fault. fault ≡ Memory) }
     {
         let (is_error, quirks) = doctype_error_and_quirks(&doctype, self.opts.iframe_srcdoc);
@@ -167,7 +167,7 @@ impl<Sink: TreeSink> Construction<Sink> {
     #[inline(never)]
     fn process_doctype(&mut self, sink: &mut Sink, doctype: &mut Doctype) -> Result<(), ParseFault>
         requires stands { Stands (Sink.forest sink.old) self.old }
-        ensures ok { OnOk result ((a : Answers) → state_of a self.new (Sink.forest sink.new) ≡ doctype_taken self.old.mode doctype.old (state_of a self.old (Sink.forest sink.old))) }
+        ensures ok { OnOk result (Performs (doctype_taken self.old.mode doctype.old) self.old self.new (Sink.forest sink.old) (Sink.forest sink.new)) }
         ensures fault { IfErr result (λ fault. fault ≡ Memory) }
     {
         match self.mode {

@@ -9,7 +9,7 @@ ghost use Rattle.html_rules.specs.Names.{Html};
 ghost use Rattle.html_rules.specs.State.{State, current_is, current_number, is_named};
 ghost use Rattle.html_rules_laws.specs.Soundness.{IsStanding};
 ghost use Rattle.html_stack.specs.Adopting.{came_to};
-ghost use Rattle.html_stack.specs.Stacks.{joined};
+ghost use Rattle.html_stack.specs.Stacks.{joined, PerformsWith};
 
 use crate::formatting::positions::in_list;
 use crate::formatting::turns::{formatting_element, turn_listed};
@@ -74,7 +74,7 @@ impl<Sink: TreeSink> Stack<Sink> {
     ) -> Result<(), ParseFault>
         requires class { IsClassOf Html name.now class }
         requires standing { IsStanding (Sink.forest sink.old) self.old.open_elems self.old.active_formatting }
-        ensures ok { OnOk result ((s : State) → s.foster_parenting ≡ foster → joined s self.new (Sink.forest sink.new) ≡ adoption_turns 8 name.now (joined s self.old (Sink.forest sink.old))) }
+        ensures ok { OnOk result (PerformsWith foster (adoption_turns 8 name.now) self.old self.new (Sink.forest sink.old) (Sink.forest sink.new)) }
         ensures kept { IsStanding (Sink.forest sink.new) self.new.open_elems self.new.active_formatting }
         ensures grows { node_count (Sink.forest sink.old) ≤ node_count (Sink.forest sink.new) }
         ensures fault { IfErr result (λ fault. fault ≡ Memory) }
@@ -105,7 +105,7 @@ impl<Sink: TreeSink> Stack<Sink> {
     ) -> Result<(), ParseFault>
         requires class { IsClassOf Html name.now class }
         requires standing { IsStanding (Sink.forest sink.old) self.old.open_elems self.old.active_formatting }
-        ensures ok { OnOk result ((s : State) → s.foster_parenting ≡ foster → joined s self.new (Sink.forest sink.new) ≡ adoption_agency name.now (joined s self.old (Sink.forest sink.old))) }
+        ensures ok { OnOk result (PerformsWith foster (adoption_agency name.now) self.old self.new (Sink.forest sink.old) (Sink.forest sink.new)) }
         ensures kept { IsStanding (Sink.forest sink.new) self.new.open_elems self.new.active_formatting }
         ensures grows { node_count (Sink.forest sink.old) ≤ node_count (Sink.forest sink.new) }
         ensures fault { IfErr result (λ fault. fault ≡ Memory) }
@@ -127,7 +127,7 @@ impl<Sink: TreeSink> Stack<Sink> {
         foster: bool,
     ) -> Result<(), ParseFault>
         requires standing { IsStanding (Sink.forest sink.old) self.old.open_elems self.old.active_formatting }
-        ensures ok { OnOk result ((s : State) → s.foster_parenting ≡ foster → joined s self.new (Sink.forest sink.new) ≡ handle_misnested_a_tags (joined s self.old (Sink.forest sink.old))) }
+        ensures ok { OnOk result (PerformsWith foster handle_misnested_a_tags self.old self.new (Sink.forest sink.old) (Sink.forest sink.new)) }
         ensures kept { IsStanding (Sink.forest sink.new) self.new.open_elems self.new.active_formatting }
         ensures grows { node_count (Sink.forest sink.old) ≤ node_count (Sink.forest sink.new) }
         ensures fault { IfErr result (λ fault. fault ≡ Memory) }
@@ -145,7 +145,7 @@ impl<Sink: TreeSink> Stack<Sink> {
     ) -> Result<(), ParseFault>
         requires name { name.now ≡ codes "a" }
         requires standing { IsStanding (Sink.forest sink.old) self.old.open_elems self.old.active_formatting }
-        ensures ok { OnOk result ((s : State) → s.foster_parenting ≡ foster → joined s self.new (Sink.forest sink.new) ≡ handle_misnested_a_tags (joined s self.old (Sink.forest sink.old))) }
+        ensures ok { OnOk result (PerformsWith foster handle_misnested_a_tags self.old self.new (Sink.forest sink.old) (Sink.forest sink.new)) }
         ensures kept { IsStanding (Sink.forest sink.new) self.new.open_elems self.new.active_formatting }
         ensures grows { node_count (Sink.forest sink.old) ≤ node_count (Sink.forest sink.new) }
         ensures fault { IfErr result (λ fault. fault ≡ Memory) }

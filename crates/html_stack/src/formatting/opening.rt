@@ -7,11 +7,11 @@ ghost use Rattle.html_names.specs.Classes.{IsClassOf};
 ghost use Rattle.html_tokens.specs.declared.tags.Tag.{Tag};
 ghost use Rattle.html_rules.specs.Formatting.{create_formatting_element_for, reconstruct_active_formatting_elements};
 ghost use Rattle.html_rules.specs.Names.{Html};
-ghost use Rattle.html_rules.specs.State.{Element as Listed, Entry, State};
+ghost use Rattle.html_rules.specs.State.{Element as Listed, Entry};
 ghost use Rattle.html_rules_laws.specs.Soundness.{IsStanding};
 ghost use Rattle.html_stack.specs.Found.{IsTagAt};
 ghost use Rattle.html_stack.specs.Reopening.{IsAgain, IsDivided, IsSaidAt, IsSettled, waits};
-ghost use Rattle.html_stack.specs.Stacks.{entries_of, entry_of, joined, opens_of};
+ghost use Rattle.html_stack.specs.Stacks.{entries_of, entry_of, opens_of, PerformsWith};
 
 use crate::entries::{FormatEntry, OpenElement};
 use crate::formatting::{listing, positions};
@@ -87,7 +87,7 @@ impl<Sink: TreeSink> Stack<Sink> {
         requires class { IsClassOf Html tag.name class }
         requires standing { IsStanding (Sink.forest sink.old) self.old.open_elems self.old.active_formatting }
         ensures named { IfOk result (λ made. Sink.node made ≡ node_count (Sink.forest sink.old)) }
-        ensures ok { OnOk result ((s : State) → s.foster_parenting ≡ foster → joined s self.new (Sink.forest sink.new) ≡ create_formatting_element_for tag (joined s self.old (Sink.forest sink.old))) }
+        ensures ok { OnOk result (PerformsWith foster (create_formatting_element_for tag) self.old self.new (Sink.forest sink.old) (Sink.forest sink.new)) }
         ensures kept { IsStanding (Sink.forest sink.new) self.new.open_elems self.new.active_formatting }
         ensures fault { IfErr result (λ fault. fault ≡ Memory) }
     {
@@ -172,7 +172,7 @@ impl<Sink: TreeSink> Stack<Sink> {
         foster: bool,
     ) -> Result<(), ParseFault>
         requires { IsStanding (Sink.forest sink.old) self.old.open_elems self.old.active_formatting }
-        ensures ok { OnOk result ((s : State) → s.foster_parenting ≡ foster → joined s self.new (Sink.forest sink.new) ≡ reconstruct_active_formatting_elements (joined s self.old (Sink.forest sink.old))) }
+        ensures ok { OnOk result (PerformsWith foster reconstruct_active_formatting_elements self.old self.new (Sink.forest sink.old) (Sink.forest sink.new)) }
         ensures kept { IsStanding (Sink.forest sink.new) self.new.open_elems self.new.active_formatting }
         ensures fault { IfErr result (λ fault. fault ≡ Memory) }
     {

@@ -9,10 +9,9 @@ ghost use Rattle.markup.specs.declared.fault.ParseFault.TheVariants.{Memory};
 ghost use Rattle.html_names.specs.Classes.{IsClassOf};
 ghost use Rattle.html_rules.specs.Names.{Html};
 ghost use Rattle.html_rules.specs.Places.{insert_and_pop_element_for, insert_element_for, insert_phantom};
-ghost use Rattle.html_rules.specs.State.{State};
 ghost use Rattle.html_rules_laws.specs.Soundness.{IsStanding};
 ghost use Rattle.html_stack.specs.Inserting.{IsNew, IsPoint, LeavesStanding, inserted, opened_as, with_put};
-ghost use Rattle.html_stack.specs.Stacks.{joined};
+ghost use Rattle.html_stack.specs.Stacks.{PerformsWith};
 
 use crate::entries::{InsertionPoint, OpenElement, PushFlag};
 use crate::inserting::new_element::NewElement;
@@ -148,7 +147,7 @@ impl<Sink: TreeSink> Stack<Sink> {
         requires standing { IsStanding (Sink.forest sink.old) self.old.open_elems self.old.active_formatting }
         requires form { IfSome form (λ owner. IsNode (Sink.forest sink.old) (Sink.node owner)) }
         ensures named { IfOk result (λ made. Sink.node made ≡ node_count (Sink.forest sink.old)) }
-        ensures ok { OnOk result ((s : State) → s.foster_parenting ≡ foster → joined s self.new (Sink.forest sink.new) ≡ inserted push element (joined s self.old (Sink.forest sink.old))) }
+        ensures ok { OnOk result (PerformsWith foster (inserted push element) self.old self.new (Sink.forest sink.old) (Sink.forest sink.new)) }
         ensures kept { IsStanding (Sink.forest sink.new) self.new.open_elems self.new.active_formatting }
         ensures grows { node_count (Sink.forest sink.old) ≤ node_count (Sink.forest sink.new) }
         ensures fault { IfErr result (λ fault. fault ≡ Memory) }
@@ -175,7 +174,7 @@ impl<Sink: TreeSink> Stack<Sink> {
         requires standing { IsStanding (Sink.forest sink.old) self.old.open_elems self.old.active_formatting }
         requires form { IfSome form (λ owner. IsNode (Sink.forest sink.old) (Sink.node owner)) }
         ensures named { IfOk result (λ made. Sink.node made ≡ node_count (Sink.forest sink.old)) }
-        ensures ok { OnOk result ((s : State) → s.foster_parenting ≡ foster → joined s self.new (Sink.forest sink.new) ≡ insert_element_for tag (joined s self.old (Sink.forest sink.old))) }
+        ensures ok { OnOk result (PerformsWith foster (insert_element_for tag) self.old self.new (Sink.forest sink.old) (Sink.forest sink.new)) }
         ensures kept { IsStanding (Sink.forest sink.new) self.new.open_elems self.new.active_formatting }
         ensures grows { node_count (Sink.forest sink.old) ≤ node_count (Sink.forest sink.new) }
         ensures fault { IfErr result (λ fault. fault ≡ Memory) }
@@ -196,7 +195,7 @@ impl<Sink: TreeSink> Stack<Sink> {
         requires class { IsClassOf Html tag.name class }
         requires standing { IsStanding (Sink.forest sink.old) self.old.open_elems self.old.active_formatting }
         ensures named { IfOk result (λ made. Sink.node made ≡ node_count (Sink.forest sink.old)) }
-        ensures ok { OnOk result ((s : State) → s.foster_parenting ≡ foster → joined s self.new (Sink.forest sink.new) ≡ insert_element_for tag (joined s self.old (Sink.forest sink.old))) }
+        ensures ok { OnOk result (PerformsWith foster (insert_element_for tag) self.old self.new (Sink.forest sink.old) (Sink.forest sink.new)) }
         ensures kept { IsStanding (Sink.forest sink.new) self.new.open_elems self.new.active_formatting }
         ensures grows { node_count (Sink.forest sink.old) ≤ node_count (Sink.forest sink.new) }
         ensures fault { IfErr result (λ fault. fault ≡ Memory) }
@@ -218,7 +217,7 @@ impl<Sink: TreeSink> Stack<Sink> {
         requires standing { IsStanding (Sink.forest sink.old) self.old.open_elems self.old.active_formatting }
         requires form { IfSome form (λ owner. IsNode (Sink.forest sink.old) (Sink.node owner)) }
         ensures named { IfOk result (λ made. Sink.node made ≡ node_count (Sink.forest sink.old)) }
-        ensures ok { OnOk result ((s : State) → s.foster_parenting ≡ foster → joined s self.new (Sink.forest sink.new) ≡ insert_and_pop_element_for tag (joined s self.old (Sink.forest sink.old))) }
+        ensures ok { OnOk result (PerformsWith foster (insert_and_pop_element_for tag) self.old self.new (Sink.forest sink.old) (Sink.forest sink.new)) }
         ensures kept { IsStanding (Sink.forest sink.new) self.new.open_elems self.new.active_formatting }
         ensures grows { node_count (Sink.forest sink.old) ≤ node_count (Sink.forest sink.new) }
         ensures fault { IfErr result (λ fault. fault ≡ Memory) }
@@ -238,7 +237,7 @@ impl<Sink: TreeSink> Stack<Sink> {
         requires standing { IsStanding (Sink.forest sink.old) self.old.open_elems self.old.active_formatting }
         requires form { IfSome form (λ owner. IsNode (Sink.forest sink.old) (Sink.node owner)) }
         ensures named { IfOk result (λ made. Sink.node made ≡ node_count (Sink.forest sink.old)) }
-        ensures ok { OnOk result ((s : State) → s.foster_parenting ≡ foster → joined s self.new (Sink.forest sink.new) ≡ insert_phantom name (joined s self.old (Sink.forest sink.old))) }
+        ensures ok { OnOk result (PerformsWith foster (insert_phantom name) self.old self.new (Sink.forest sink.old) (Sink.forest sink.new)) }
         ensures kept { IsStanding (Sink.forest sink.new) self.new.open_elems self.new.active_formatting }
         ensures grows { node_count (Sink.forest sink.old) ≤ node_count (Sink.forest sink.new) }
         ensures fault { IfErr result (λ fault. fault ≡ Memory) }

@@ -8,7 +8,7 @@ ghost use Rattle.html_rules.specs.Stack.{add_attributes_to_body, add_attributes_
 ghost use Rattle.html_rules.specs.State.{State};
 ghost use Rattle.html_rules_laws.specs.Soundness.{AreOpened, IsStanding};
 ghost use Rattle.html_stack.specs.Inserting.{IsNew};
-ghost use Rattle.html_stack.specs.Stacks.{joined, opens_of};
+ghost use Rattle.html_stack.specs.Stacks.{joined, opens_of, Performs};
 
 use crate::entries::{InsertionPoint, OpenElement};
 use crate::inserting::new_element::NewElement;
@@ -50,7 +50,7 @@ impl<Sink: TreeSink> Stack<Sink> {
     ) -> Result<Sink::Handle, ParseFault>
         requires { IsStanding (Sink.forest sink.old) self.old.open_elems self.old.active_formatting }
         ensures named { IfOk result (λ made. Sink.node made ≡ node_count (Sink.forest sink.old)) }
-        ensures ok { OnOk result ((s : State) → joined s self.new (Sink.forest sink.new) ≡ create_root attrs (joined s self.old (Sink.forest sink.old))) }
+        ensures ok { OnOk result (Performs (create_root attrs) self.old self.new (Sink.forest sink.old) (Sink.forest sink.new)) }
         ensures kept { IsStanding (Sink.forest sink.new) self.new.open_elems self.new.active_formatting }
         ensures grows { node_count (Sink.forest sink.old) ≤ node_count (Sink.forest sink.new) }
         ensures fault { IfErr result (λ fault. fault ≡ Memory) }
@@ -71,7 +71,7 @@ impl<Sink: TreeSink> Stack<Sink> {
         requires class { IsNew element }
         requires standing { IsStanding (Sink.forest sink.old) self.old.open_elems self.old.active_formatting }
         ensures named { IfOk result (λ made. Sink.node made ≡ node_count (Sink.forest sink.old)) }
-        ensures ok { OnOk result ((s : State) → joined s self.new (Sink.forest sink.new) ≡ open_element (namespace_of element.namespace) element.name element.attrs element.had_duplicate_attributes (joined s self.old (Sink.forest sink.old))) }
+        ensures ok { OnOk result (Performs (open_element (namespace_of element.namespace) element.name element.attrs element.had_duplicate_attributes) self.old self.new (Sink.forest sink.old) (Sink.forest sink.new)) }
         ensures kept { IsStanding (Sink.forest sink.new) self.new.open_elems self.new.active_formatting }
         ensures grows { node_count (Sink.forest sink.old) ≤ node_count (Sink.forest sink.new) }
         ensures fault { IfErr result (λ fault. fault ≡ Memory) }
@@ -136,7 +136,7 @@ impl<Sink: TreeSink> Stack<Sink> {
     /// (HTML Standard, section 13.2.6.4.7, a start tag `frameset`). The sink is not told of these.
     pub fn remove_body(&mut self, sink: &mut Sink)
         requires { IsStanding (Sink.forest sink.old) self.old.open_elems self.old.active_formatting }
-        ensures step { (s : State) → joined s self.new (Sink.forest sink.new) ≡ remove_body (joined s self.old (Sink.forest sink.old)) }
+        ensures step { Performs remove_body self.old self.new (Sink.forest sink.old) (Sink.forest sink.new) }
         ensures kept { IsStanding (Sink.forest sink.new) self.new.open_elems self.new.active_formatting }
         ensures count { node_count (Sink.forest sink.new) ≡ node_count (Sink.forest sink.old) }
     {

@@ -4,10 +4,9 @@ ghost use Rattle.markup.specs.declared.fault.ParseFault.TheVariants.{Memory};
 ghost use Rattle.html_modes.specs.Tables.{action_of};
 ghost use Rattle.html_rules.specs.Actions.{act};
 ghost use Rattle.html_rules.specs.Stack.{parse_error};
-ghost use Rattle.html_rules.specs.State.{Answers};
 ghost use Rattle.html_rules.specs.Table.{Then};
 ghost use Rattle.html_tree_builder.specs.Acting.{MayAct, is_alone};
-ghost use Rattle.html_tree_builder.specs.States.{Stands, built, state_of};
+ghost use Rattle.html_tree_builder.specs.States.{Stands, built, Performs};
 ghost use Rattle.html_tree_builder.specs.Told.{IsTold, token_of};
 
 use crate::construction::Construction;
@@ -22,7 +21,7 @@ impl<Sink: TreeSink> Construction<Sink> {
     #[tactic(auto, unfolding(html_rules::specs::Stack::parse_error))]
     #[inline(never)]
     fn report_unexpected(&self, sink: &mut Sink, told: &Told<'_>)
-        ensures { (a : Answers) → state_of a self.now (Sink.forest sink.new) ≡ parse_error (state_of a self.now (Sink.forest sink.old)) }
+        ensures { Performs parse_error self.now self.now (Sink.forest sink.old) (Sink.forest sink.new) }
     {
         let message = errors::of_token(self.alloc, told, self.mode, self.opts.exact_errors);
         sink.parse_error(message);

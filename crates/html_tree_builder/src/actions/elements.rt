@@ -3,14 +3,14 @@ ghost use Rattle.std.specs.Prelude.{◌≡◌, [], OnOk, IfErr};
 ghost use Rattle.std.specs.Str.{chars};
 ghost use Rattle.markup.specs.declared.fault.ParseFault.TheVariants.{Memory};
 ghost use Rattle.html_rules.specs.Formatting.{create_formatting_element_for, reconstruct_active_formatting_elements};
-ghost use Rattle.html_rules.specs.State.{Answers, is_in, is_named};
+ghost use Rattle.html_rules.specs.State.{is_in, is_named};
 ghost use Rattle.html_rules.specs.Stack.{add_attributes_to_body, add_attributes_to_root, check_body_end, close_item, close_p_element_in_button_scope, expect_to_close, pop_but_root, process_end_tag_in_body, remove_body};
 ghost use Rattle.html_rules.specs.Places.{append_comment, append_comment_to_doc, append_comment_to_html, append_text, create_root, insert_and_pop_element_for, insert_element_for, insert_phantom};
 ghost use Rattle.html_modes.specs.Tables.{spelled};
 ghost use Rattle.html_stack.specs.Wanted.{IsOfHtml};
 ghost use Rattle.html_rules.specs.Actions.{for_tag};
 ghost use Rattle.html_rules.specs.Tokens.{attributes_of};
-ghost use Rattle.html_tree_builder.specs.States.{Stands, state_of};
+ghost use Rattle.html_tree_builder.specs.States.{Stands, Performs};
 ghost use Rattle.html_tree_builder.specs.Told.{IsTold, token_of};
 
 use crate::construction::Construction;
@@ -33,7 +33,7 @@ impl<Sink: TreeSink> Construction<Sink> {
     ) -> Result<(), ParseFault>
         requires told { IsTold told.now }
         requires stands { Stands (Sink.forest sink.old) self.old }
-        ensures ok { OnOk result ((a : Answers) → state_of a self.new (Sink.forest sink.new) ≡ for_tag insert_element_for (token_of told.now.content) (state_of a self.old (Sink.forest sink.old))) }
+        ensures ok { OnOk result (Performs (for_tag insert_element_for (token_of told.now.content)) self.old self.new (Sink.forest sink.old) (Sink.forest sink.new)) }
         ensures fault { IfErr result (λ fault. fault ≡ Memory) }
     {
         let Content::Tag(tag) = told.content else {
@@ -55,7 +55,7 @@ impl<Sink: TreeSink> Construction<Sink> {
     pub(crate) fn insert_void(&mut self, sink: &mut Sink, told: &Told<'_>) -> Result<(), ParseFault>
         requires told { IsTold told.now }
         requires stands { Stands (Sink.forest sink.old) self.old }
-        ensures ok { OnOk result ((a : Answers) → state_of a self.new (Sink.forest sink.new) ≡ for_tag insert_and_pop_element_for (token_of told.now.content) (state_of a self.old (Sink.forest sink.old))) }
+        ensures ok { OnOk result (Performs (for_tag insert_and_pop_element_for (token_of told.now.content)) self.old self.new (Sink.forest sink.old) (Sink.forest sink.new)) }
         ensures fault { IfErr result (λ fault. fault ≡ Memory) }
     {
         let Content::Tag(tag) = told.content else {
@@ -81,7 +81,7 @@ impl<Sink: TreeSink> Construction<Sink> {
     ) -> Result<(), ParseFault>
         requires told { IsTold told.now }
         requires stands { Stands (Sink.forest sink.old) self.old }
-        ensures ok { OnOk result ((a : Answers) → state_of a self.new (Sink.forest sink.new) ≡ for_tag create_formatting_element_for (token_of told.now.content) (state_of a self.old (Sink.forest sink.old))) }
+        ensures ok { OnOk result (Performs (for_tag create_formatting_element_for (token_of told.now.content)) self.old self.new (Sink.forest sink.old) (Sink.forest sink.new)) }
         ensures fault { IfErr result (λ fault. fault ≡ Memory) }
     {
         let Content::Tag(tag) = told.content else {
@@ -97,7 +97,7 @@ impl<Sink: TreeSink> Construction<Sink> {
     #[inline(never)]
     pub(crate) fn insert_new(&mut self, sink: &mut Sink, name: Implied) -> Result<(), ParseFault>
         requires stands { Stands (Sink.forest sink.old) self.old }
-        ensures ok { OnOk result ((a : Answers) → state_of a self.new (Sink.forest sink.new) ≡ insert_phantom (spelled name) (state_of a self.old (Sink.forest sink.old))) }
+        ensures ok { OnOk result (Performs (insert_phantom (spelled name)) self.old self.new (Sink.forest sink.old) (Sink.forest sink.new)) }
         ensures fault { IfErr result (λ fault. fault ≡ Memory) }
     {
         let name = name.local_name(self.alloc)?;
@@ -110,7 +110,7 @@ impl<Sink: TreeSink> Construction<Sink> {
     #[inline(never)]
     pub(crate) fn create_root(&mut self, sink: &mut Sink, told: &Told<'_>) -> Result<(), ParseFault>
         requires stands { Stands (Sink.forest sink.old) self.old }
-        ensures ok { OnOk result ((a : Answers) → state_of a self.new (Sink.forest sink.new) ≡ create_root (attributes_of (token_of told.now.content)) (state_of a self.old (Sink.forest sink.old))) }
+        ensures ok { OnOk result (Performs (create_root (attributes_of (token_of told.now.content))) self.old self.new (Sink.forest sink.old) (Sink.forest sink.new)) }
         ensures fault { IfErr result (λ fault. fault ≡ Memory) }
     {
         let attrs = told.attributes(self.alloc)?;
@@ -122,7 +122,7 @@ impl<Sink: TreeSink> Construction<Sink> {
     #[inline(never)]
     pub(crate) fn create_new_root(&mut self, sink: &mut Sink) -> Result<(), ParseFault>
         requires stands { Stands (Sink.forest sink.old) self.old }
-        ensures ok { OnOk result ((a : Answers) → state_of a self.new (Sink.forest sink.new) ≡ create_root [] (state_of a self.old (Sink.forest sink.old))) }
+        ensures ok { OnOk result (Performs (create_root []) self.old self.new (Sink.forest sink.old) (Sink.forest sink.new)) }
         ensures fault { IfErr result (λ fault. fault ≡ Memory) }
     {
         let attrs = Attributes::new(self.alloc);
@@ -134,7 +134,7 @@ impl<Sink: TreeSink> Construction<Sink> {
     #[inline(never)]
     pub(crate) fn append_text(&mut self, sink: &mut Sink, text: &str) -> Result<(), ParseFault>
         requires stands { Stands (Sink.forest sink.old) self.old }
-        ensures ok { OnOk result ((a : Answers) → state_of a self.new (Sink.forest sink.new) ≡ append_text (chars text.now) (state_of a self.old (Sink.forest sink.old))) }
+        ensures ok { OnOk result (Performs (append_text (chars text.now)) self.old self.new (Sink.forest sink.old) (Sink.forest sink.new)) }
         ensures fault { IfErr result (λ fault. fault ≡ Memory) }
     {
         let text = Text::from_str(self.alloc, text)?;
@@ -146,7 +146,7 @@ impl<Sink: TreeSink> Construction<Sink> {
     #[inline(never)]
     pub(crate) fn append_comment(&mut self, sink: &mut Sink, text: &str) -> Result<(), ParseFault>
         requires stands { Stands (Sink.forest sink.old) self.old }
-        ensures ok { OnOk result ((a : Answers) → state_of a self.new (Sink.forest sink.new) ≡ append_comment (chars text.now) (state_of a self.old (Sink.forest sink.old))) }
+        ensures ok { OnOk result (Performs (append_comment (chars text.now)) self.old self.new (Sink.forest sink.old) (Sink.forest sink.new)) }
         ensures fault { IfErr result (λ fault. fault ≡ Memory) }
     {
         let text = Text::from_str(self.alloc, text)?;
@@ -163,7 +163,7 @@ impl<Sink: TreeSink> Construction<Sink> {
         text: &str,
     ) -> Result<(), ParseFault>
         requires stands { Stands (Sink.forest sink.old) self.old }
-        ensures ok { OnOk result ((a : Answers) → state_of a self.new (Sink.forest sink.new) ≡ append_comment_to_doc (chars text.now) (state_of a self.old (Sink.forest sink.old))) }
+        ensures ok { OnOk result (Performs (append_comment_to_doc (chars text.now)) self.old self.new (Sink.forest sink.old) (Sink.forest sink.new)) }
         ensures fault { IfErr result (λ fault. fault ≡ Memory) }
     {
         let text = Text::from_str(self.alloc, text)?;
@@ -179,7 +179,7 @@ impl<Sink: TreeSink> Construction<Sink> {
         text: &str,
     ) -> Result<(), ParseFault>
         requires stands { Stands (Sink.forest sink.old) self.old }
-        ensures ok { OnOk result ((a : Answers) → state_of a self.new (Sink.forest sink.new) ≡ append_comment_to_html (chars text.now) (state_of a self.old (Sink.forest sink.old))) }
+        ensures ok { OnOk result (Performs (append_comment_to_html (chars text.now)) self.old self.new (Sink.forest sink.old) (Sink.forest sink.new)) }
         ensures fault { IfErr result (λ fault. fault ≡ Memory) }
     {
         let text = Text::from_str(self.alloc, text)?;
@@ -195,7 +195,7 @@ impl<Sink: TreeSink> Construction<Sink> {
         told: &Told<'_>,
     ) -> Result<(), ParseFault>
         requires stands { Stands (Sink.forest sink.old) self.old }
-        ensures ok { OnOk result ((a : Answers) → state_of a self.new (Sink.forest sink.new) ≡ add_attributes_to_root (attributes_of (token_of told.now.content)) (state_of a self.old (Sink.forest sink.old))) }
+        ensures ok { OnOk result (Performs (add_attributes_to_root (attributes_of (token_of told.now.content))) self.old self.new (Sink.forest sink.old) (Sink.forest sink.new)) }
         ensures fault { IfErr result (λ fault. fault ≡ Memory) }
     {
         let attrs = told.attributes(self.alloc)?;
@@ -211,7 +211,7 @@ impl<Sink: TreeSink> Construction<Sink> {
         told: &Told<'_>,
     ) -> Result<(), ParseFault>
         requires stands { Stands (Sink.forest sink.old) self.old }
-        ensures ok { OnOk result ((a : Answers) → state_of a self.new (Sink.forest sink.new) ≡ add_attributes_to_body (attributes_of (token_of told.now.content)) (state_of a self.old (Sink.forest sink.old))) }
+        ensures ok { OnOk result (Performs (add_attributes_to_body (attributes_of (token_of told.now.content))) self.old self.new (Sink.forest sink.old) (Sink.forest sink.new)) }
         ensures fault { IfErr result (λ fault. fault ≡ Memory) }
     {
         let attrs = told.attributes(self.alloc)?;
@@ -223,7 +223,7 @@ impl<Sink: TreeSink> Construction<Sink> {
     #[inline(never)]
     pub(crate) fn remove_body(&mut self, sink: &mut Sink)
         requires stands { Stands (Sink.forest sink.old) self.old }
-        ensures { (a : Answers) → state_of a self.new (Sink.forest sink.new) ≡ remove_body (state_of a self.old (Sink.forest sink.old)) }
+        ensures { Performs remove_body self.old self.new (Sink.forest sink.old) (Sink.forest sink.new) }
     {
         self.stack.remove_body(sink);
     }
@@ -231,7 +231,7 @@ impl<Sink: TreeSink> Construction<Sink> {
     /// The current node is popped, unless it is the root.
     pub(crate) fn pop_but_root(&mut self, sink: &mut Sink)
         requires stands { Stands (Sink.forest sink.old) self.old }
-        ensures { (a : Answers) → state_of a self.new (Sink.forest sink.new) ≡ pop_but_root (state_of a self.old (Sink.forest sink.old)) }
+        ensures { Performs pop_but_root self.old self.new (Sink.forest sink.old) (Sink.forest sink.new) }
     {
         drop(self.stack.pop_but_root(sink));
     }
@@ -239,7 +239,7 @@ impl<Sink: TreeSink> Construction<Sink> {
     /// "Reconstruct the active formatting elements".
     pub(crate) fn reconstruct(&mut self, sink: &mut Sink) -> Result<(), ParseFault>
         requires stands { Stands (Sink.forest sink.old) self.old }
-        ensures ok { OnOk result ((a : Answers) → state_of a self.new (Sink.forest sink.new) ≡ reconstruct_active_formatting_elements (state_of a self.old (Sink.forest sink.old))) }
+        ensures ok { OnOk result (Performs reconstruct_active_formatting_elements self.old self.new (Sink.forest sink.old) (Sink.forest sink.new)) }
         ensures fault { IfErr result (λ fault. fault ≡ Memory) }
     {
         self.stack
@@ -250,7 +250,7 @@ impl<Sink: TreeSink> Construction<Sink> {
     /// Elements of a set are popped up to, with an error if it is not the current node.
     pub(crate) fn close_in(&mut self, sink: &mut Sink, set: TagSet)
         requires stands { Stands (Sink.forest sink.old) self.old }
-        ensures { (a : Answers) → state_of a self.new (Sink.forest sink.new) ≡ expect_to_close (is_in set) (state_of a self.old (Sink.forest sink.old)) }
+        ensures { Performs (expect_to_close (is_in set)) self.old self.new (Sink.forest sink.old) (Sink.forest sink.new) }
     {
         self.stack.expect_to_close_in(sink, set);
     }
@@ -259,7 +259,7 @@ impl<Sink: TreeSink> Construction<Sink> {
     pub(crate) fn close_named(&mut self, sink: &mut Sink, class: ElementClass, name: &LocalName)
         requires class { IsClassOf Html name.now class }
         requires stands { Stands (Sink.forest sink.old) self.old }
-        ensures { (a : Answers) → state_of a self.new (Sink.forest sink.new) ≡ expect_to_close (is_named name.now) (state_of a self.old (Sink.forest sink.old)) }
+        ensures { Performs (expect_to_close (is_named name.now)) self.old self.new (Sink.forest sink.old) (Sink.forest sink.new) }
     {
         self.stack.expect_to_close(sink, class, name);
     }
@@ -267,7 +267,7 @@ impl<Sink: TreeSink> Construction<Sink> {
     /// "Close a p element", if one is in button scope.
     pub(crate) fn close_p(&mut self, sink: &mut Sink)
         requires stands { Stands (Sink.forest sink.old) self.old }
-        ensures { (a : Answers) → state_of a self.new (Sink.forest sink.new) ≡ close_p_element_in_button_scope (state_of a self.old (Sink.forest sink.old)) }
+        ensures { Performs close_p_element_in_button_scope self.old self.new (Sink.forest sink.old) (Sink.forest sink.new) }
     {
         self.stack.close_p_element_in_button_scope(sink);
     }
@@ -276,7 +276,7 @@ impl<Sink: TreeSink> Construction<Sink> {
     pub(crate) fn close_item(&mut self, sink: &mut Sink, items: TagSet)
         requires items { IsOfHtml items }
         requires stands { Stands (Sink.forest sink.old) self.old }
-        ensures { (a : Answers) → state_of a self.new (Sink.forest sink.new) ≡ close_item items (state_of a self.old (Sink.forest sink.old)) }
+        ensures { Performs (close_item items) self.old self.new (Sink.forest sink.old) (Sink.forest sink.new) }
     {
         self.stack.close_item(sink, items);
     }
@@ -291,7 +291,7 @@ impl<Sink: TreeSink> Construction<Sink> {
     )
         requires class { IsClassOf Html name.now class }
         requires stands { Stands (Sink.forest sink.old) self.old }
-        ensures { (a : Answers) → state_of a self.new (Sink.forest sink.new) ≡ process_end_tag_in_body name.now (state_of a self.old (Sink.forest sink.old)) }
+        ensures { Performs (process_end_tag_in_body name.now) self.old self.new (Sink.forest sink.old) (Sink.forest sink.new) }
     {
         self.stack.any_other_end_tag(sink, class, name);
     }
@@ -299,7 +299,7 @@ impl<Sink: TreeSink> Construction<Sink> {
     /// An error, if something is open that may not be where the body ends.
     pub(crate) fn check_body_end(&mut self, sink: &mut Sink)
         requires stands { Stands (Sink.forest sink.old) self.old }
-        ensures { (a : Answers) → state_of a self.new (Sink.forest sink.new) ≡ check_body_end (state_of a self.old (Sink.forest sink.old)) }
+        ensures { Performs check_body_end self.old self.new (Sink.forest sink.old) (Sink.forest sink.new) }
     {
         self.stack.check_body_end(sink);
     }

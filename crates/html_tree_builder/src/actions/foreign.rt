@@ -9,7 +9,7 @@ ghost use Rattle.html_rules.specs.Names as names;
 ghost use Rattle.html_rules.specs.State.{Answers};
 ghost use Rattle.html_rules.specs.Templates.{insert_template};
 ghost use Rattle.html_stack.specs.Dispatching.{HasShape, IsShaped};
-ghost use Rattle.html_tree_builder.specs.States.{Stands, built, state_of};
+ghost use Rattle.html_tree_builder.specs.States.{Stands, built, state_of, Performs};
 ghost use Rattle.html_tree_builder.specs.Told.{IsTold, token_of};
 
 use crate::construction::{Construction, lent};
@@ -104,7 +104,7 @@ impl<Sink: TreeSink> Construction<Sink> {
         told: &Told<'_>,
     ) -> Result<(), ParseFault>
         requires stands { Stands (Sink.forest sink.old) self.old }
-        ensures ok { OnOk result ((a : Answers) → state_of a self.new (Sink.forest sink.new) ≡ for_tag (enter_foreign (namespace_of namespace)) (token_of told.now.content) (state_of a self.old (Sink.forest sink.old))) }
+        ensures ok { OnOk result (Performs (for_tag (enter_foreign (namespace_of namespace)) (token_of told.now.content)) self.old self.new (Sink.forest sink.old) (Sink.forest sink.new)) }
         ensures fault { IfErr result (λ fault. fault ≡ Memory) }
     {
         let Content::Tag(tag) = told.content else {
@@ -129,7 +129,7 @@ impl<Sink: TreeSink> Construction<Sink> {
         told: &Told<'_>,
     ) -> Result<(), ParseFault>
         requires stands { Stands (Sink.forest sink.old) self.old }
-        ensures ok { OnOk result ((a : Answers) → state_of a self.new (Sink.forest sink.new) ≡ for_tag foreign_start (token_of told.now.content) (state_of a self.old (Sink.forest sink.old))) }
+        ensures ok { OnOk result (Performs (for_tag foreign_start (token_of told.now.content)) self.old self.new (Sink.forest sink.old) (Sink.forest sink.new)) }
         ensures fault { IfErr result (λ fault. fault ≡ Memory) }
     {
         let Content::Tag(tag) = told.content else {
@@ -150,7 +150,7 @@ impl<Sink: TreeSink> Construction<Sink> {
     #[tactic(auto, unfolding(html_rules::specs::ForeignContent::pop_foreign, html_rules::specs::Stack::pop_until_current))]
     pub(crate) fn pop_foreign(&mut self, sink: &mut Sink)
         requires stands { Stands (Sink.forest sink.old) self.old }
-        ensures { (a : Answers) → state_of a self.new (Sink.forest sink.new) ≡ pop_foreign (state_of a self.old (Sink.forest sink.old)) }
+        ensures { Performs pop_foreign self.old self.new (Sink.forest sink.old) (Sink.forest sink.new) }
     {
         self.stack.pop_foreign(sink);
     }

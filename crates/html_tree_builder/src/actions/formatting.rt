@@ -2,8 +2,7 @@
 ghost use Rattle.std.specs.Prelude.{◌≡◌, IfErr, OnOk, codes};
 ghost use Rattle.markup.specs.declared.fault.ParseFault.TheVariants.{Memory};
 ghost use Rattle.html_rules.specs.Adoption.{adoption_agency, handle_misnested_a_tags};
-ghost use Rattle.html_rules.specs.State.{Answers};
-ghost use Rattle.html_tree_builder.specs.States.{Stands, state_of};
+ghost use Rattle.html_tree_builder.specs.States.{Stands, Performs};
 
 use crate::construction::Construction;
 use html_names::ElementClass;
@@ -23,7 +22,7 @@ impl<Sink: TreeSink> Construction<Sink> {
     ) -> Result<(), ParseFault>
         requires class { IsClassOf Html name.now class }
         requires stands { Stands (Sink.forest sink.old) self.old }
-        ensures ok { OnOk result ((a : Answers) → state_of a self.new (Sink.forest sink.new) ≡ adoption_agency name.now (state_of a self.old (Sink.forest sink.old))) }
+        ensures ok { OnOk result (Performs (adoption_agency name.now) self.old self.new (Sink.forest sink.old) (Sink.forest sink.new)) }
         ensures fault { IfErr result (λ fault. fault ≡ Memory) }
     {
         self.stack
@@ -35,7 +34,7 @@ impl<Sink: TreeSink> Construction<Sink> {
     #[inline(never)]
     pub(crate) fn adopt_nobr(&mut self, sink: &mut Sink) -> Result<(), ParseFault>
         requires stands { Stands (Sink.forest sink.old) self.old }
-        ensures ok { OnOk result ((a : Answers) → state_of a self.new (Sink.forest sink.new) ≡ adoption_agency (codes "nobr") (state_of a self.old (Sink.forest sink.old))) }
+        ensures ok { OnOk result (Performs (adoption_agency (codes "nobr")) self.old self.new (Sink.forest sink.old) (Sink.forest sink.new)) }
         ensures fault { IfErr result (λ fault. fault ≡ Memory) }
     {
         let name = LocalName::from_str(self.alloc, "nobr")?;
@@ -48,7 +47,7 @@ impl<Sink: TreeSink> Construction<Sink> {
     #[inline(never)]
     pub(crate) fn close_misnested_a(&mut self, sink: &mut Sink) -> Result<(), ParseFault>
         requires stands { Stands (Sink.forest sink.old) self.old }
-        ensures ok { OnOk result ((a : Answers) → state_of a self.new (Sink.forest sink.new) ≡ handle_misnested_a_tags (state_of a self.old (Sink.forest sink.old))) }
+        ensures ok { OnOk result (Performs handle_misnested_a_tags self.old self.new (Sink.forest sink.old) (Sink.forest sink.new)) }
         ensures fault { IfErr result (λ fault. fault ≡ Memory) }
     {
         self.stack

@@ -5,9 +5,8 @@ ghost use Rattle.html_modes.specs.Tables.{spelled};
 ghost use Rattle.html_rules.specs.Actions.{for_tag};
 ghost use Rattle.html_rules.specs.Names.{Html};
 ghost use Rattle.html_rules.specs.Places.{append_text, insert_and_pop_element_for, put_element};
-ghost use Rattle.html_rules.specs.State.{Answers};
 ghost use Rattle.html_tokens.specs.declared.tags.Tag.{Tag};
-ghost use Rattle.html_tree_builder.specs.States.{Stands, state_of};
+ghost use Rattle.html_tree_builder.specs.States.{Stands, Performs};
 ghost use Rattle.html_tree_builder.specs.Told.{token_of};
 
 use crate::construction::Construction;
@@ -43,7 +42,7 @@ impl<Sink: TreeSink> Construction<Sink> {
         told: &Told<'_>,
     ) -> Result<(), ParseFault>
         requires stands { Stands (Sink.forest sink.old) self.old }
-        ensures ok { OnOk result ((a : Answers) → state_of a self.new (Sink.forest sink.new) ≡ for_tag (λ tag. insert_and_pop_element_for (record tag { name = spelled name })) (token_of told.now.content) (state_of a self.old (Sink.forest sink.old))) }
+        ensures ok { OnOk result (Performs (for_tag (λ tag. insert_and_pop_element_for (record tag { name = spelled name })) (token_of told.now.content)) self.old self.new (Sink.forest sink.old) (Sink.forest sink.new)) }
         ensures fault { IfErr result (λ fault. fault ≡ Memory) }
     {
         let Content::Tag(tag) = told.content else {
@@ -64,7 +63,7 @@ impl<Sink: TreeSink> Construction<Sink> {
         name: Implied,
     ) -> Result<(), ParseFault>
         requires stands { Stands (Sink.forest sink.old) self.old }
-        ensures ok { OnOk result ((a : Answers) → state_of a self.new (Sink.forest sink.new) ≡ put_element Html (spelled name) [] false (state_of a self.old (Sink.forest sink.old))) }
+        ensures ok { OnOk result (Performs (put_element Html (spelled name) [] false) self.old self.new (Sink.forest sink.old) (Sink.forest sink.new)) }
         ensures fault { IfErr result (λ fault. fault ≡ Memory) }
     {
         let name = name.local_name(self.alloc)?;
@@ -86,7 +85,7 @@ impl<Sink: TreeSink> Construction<Sink> {
     #[inline(never)]
     pub(crate) fn append_replacement(&mut self, sink: &mut Sink) -> Result<(), ParseFault>
         requires stands { Stands (Sink.forest sink.old) self.old }
-        ensures ok { OnOk result ((a : Answers) → state_of a self.new (Sink.forest sink.new) ≡ append_text (0xFFFD ∷ []) (state_of a self.old (Sink.forest sink.old))) }
+        ensures ok { OnOk result (Performs (append_text (0xFFFD ∷ [])) self.old self.new (Sink.forest sink.old) (Sink.forest sink.new)) }
         ensures fault { IfErr result (λ fault. fault ≡ Memory) }
     {
         let mut text = Text::empty(self.alloc);

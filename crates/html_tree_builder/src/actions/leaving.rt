@@ -7,7 +7,7 @@ ghost use Rattle.html_rules.specs.Actions.{keep_text};
 ghost use Rattle.html_rules.specs.Formatting.{clear_active_formatting_to_marker, push_marker};
 ghost use Rattle.html_rules.specs.State.{Answers, is_in, is_named};
 ghost use Rattle.html_rules.specs.Stack.{generate_implied_end_except, generate_implied_end_tags, pop_until, pop_until_current};
-ghost use Rattle.html_tree_builder.specs.States.{Stands, state_of};
+ghost use Rattle.html_tree_builder.specs.States.{Stands, state_of, Performs};
 
 use crate::construction::Construction;
 use html_names::ElementClass;
@@ -38,7 +38,7 @@ impl<Sink: TreeSink> Construction<Sink> {
     #[tactic(auto, unfolding(html_rules::specs::Stack::generate_implied_end_tags))]
     pub(crate) fn implied_end_tags(&mut self, sink: &mut Sink, implied: TagSet)
         requires stands { Stands (Sink.forest sink.old) self.old }
-        ensures { (a : Answers) → state_of a self.new (Sink.forest sink.new) ≡ generate_implied_end_tags implied (state_of a self.old (Sink.forest sink.old)) }
+        ensures { Performs (generate_implied_end_tags implied) self.old self.new (Sink.forest sink.old) (Sink.forest sink.new) }
     {
         self.stack.generate_implied_end_tags(sink, implied);
     }
@@ -47,7 +47,7 @@ impl<Sink: TreeSink> Construction<Sink> {
     #[tactic(auto, unfolding(html_rules::specs::Stack::generate_implied_end_except))]
     pub(crate) fn implied_end_tags_except(&mut self, sink: &mut Sink, set: TagSet)
         requires stands { Stands (Sink.forest sink.old) self.old }
-        ensures { (a : Answers) → state_of a self.new (Sink.forest sink.new) ≡ generate_implied_end_except (is_in set) (state_of a self.old (Sink.forest sink.old)) }
+        ensures { Performs (generate_implied_end_except (is_in set)) self.old self.new (Sink.forest sink.old) (Sink.forest sink.new) }
     {
         self.stack.generate_implied_end_except_in(sink, set);
     }
@@ -62,7 +62,7 @@ impl<Sink: TreeSink> Construction<Sink> {
     )
         requires class { IsClassOf Html name.now class }
         requires stands { Stands (Sink.forest sink.old) self.old }
-        ensures { (a : Answers) → state_of a self.new (Sink.forest sink.new) ≡ generate_implied_end_except (is_named name.now) (state_of a self.old (Sink.forest sink.old)) }
+        ensures { Performs (generate_implied_end_except (is_named name.now)) self.old self.new (Sink.forest sink.old) (Sink.forest sink.new) }
     {
         self.stack.generate_implied_end_except(sink, class, name);
     }

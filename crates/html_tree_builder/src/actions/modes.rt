@@ -6,7 +6,7 @@ ghost use Rattle.html_rules.specs.Actions.{restore_mode, forget_form_elem, frame
 ghost use Rattle.html_stack.specs.Modes.{IsContext};
 ghost use Rattle.html_rules.specs.Reset.{reset_insertion_mode};
 ghost use Rattle.html_rules.specs.State.{Answers};
-ghost use Rattle.html_tree_builder.specs.States.{state_of};
+ghost use Rattle.html_tree_builder.specs.States.{state_of, Performs};
 ghost use Rattle.markup.specs.Forest.{Forest};
 
 use crate::construction::Construction;
@@ -95,7 +95,7 @@ impl<Sink: TreeSink> Construction<Sink> {
     /// The document is in a quirks mode.
     #[tactic(auto, unfolding(html_rules::specs::Actions::set_quirks_mode))]
     pub(crate) fn set_quirks_mode(&mut self, sink: &mut Sink, mode: QuirksMode)
-        ensures { (a : Answers) → state_of a self.new (Sink.forest sink.new) ≡ set_quirks_mode mode (state_of a self.old (Sink.forest sink.old)) }
+        ensures { Performs (set_quirks_mode mode) self.old self.new (Sink.forest sink.old) (Sink.forest sink.new) }
     {
         self.quirks_mode = mode;
         sink.set_quirks_mode(mode);

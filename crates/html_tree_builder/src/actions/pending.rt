@@ -4,8 +4,7 @@ ghost use Rattle.std.specs.Str.{chars};
 ghost use Rattle.markup.specs.declared.fault.ParseFault.TheVariants.{Memory};
 ghost use Rattle.html_rules.specs.Actions.{append_in_body, insert_pending_text, insert_table_text};
 ghost use Rattle.html_tree_builder.specs.Acting.{foster_text};
-ghost use Rattle.html_rules.specs.State.{Answers};
-ghost use Rattle.html_tree_builder.specs.States.{Stands, state_of};
+ghost use Rattle.html_tree_builder.specs.States.{Stands, Performs};
 
 use crate::construction::Construction;
 use crate::errors;
@@ -16,7 +15,7 @@ impl<Sink: TreeSink> Construction<Sink> {
     /// Characters, by the rules for a body.
     pub(crate) fn append_in_body(&mut self, sink: &mut Sink, text: &str) -> Result<(), ParseFault>
         requires stands { Stands (Sink.forest sink.old) self.old }
-        ensures ok { OnOk result ((a : Answers) → state_of a self.new (Sink.forest sink.new) ≡ append_in_body (chars text.now) (state_of a self.old (Sink.forest sink.old))) }
+        ensures ok { OnOk result (Performs (append_in_body (chars text.now)) self.old self.new (Sink.forest sink.old) (Sink.forest sink.new)) }
         ensures fault { IfErr result (λ fault. fault ≡ Memory) }
     {
         self.reconstruct(sink)?;
@@ -27,7 +26,7 @@ impl<Sink: TreeSink> Construction<Sink> {
     /// Characters that belong nowhere in a table are fostered, with an error.
     fn foster_text(&mut self, sink: &mut Sink, text: &str) -> Result<(), ParseFault>
         requires stands { Stands (Sink.forest sink.old) self.old }
-        ensures ok { OnOk result ((a : Answers) → state_of a self.new (Sink.forest sink.new) ≡ foster_text (chars text.now) (state_of a self.old (Sink.forest sink.old))) }
+        ensures ok { OnOk result (Performs (foster_text (chars text.now)) self.old self.new (Sink.forest sink.old) (Sink.forest sink.new)) }
         ensures fault { IfErr result (λ fault. fault ≡ Memory) }
     {
         sink.parse_error(errors::text_in_table());
@@ -40,7 +39,7 @@ impl<Sink: TreeSink> Construction<Sink> {
     /// Text of a table goes where it belongs: white space is appended, any other text is fostered.
     fn insert_table_text(&mut self, sink: &mut Sink, text: &str) -> Result<(), ParseFault>
         requires stands { Stands (Sink.forest sink.old) self.old }
-        ensures ok { OnOk result ((a : Answers) → state_of a self.new (Sink.forest sink.new) ≡ insert_table_text (chars text.now) (state_of a self.old (Sink.forest sink.old))) }
+        ensures ok { OnOk result (Performs (insert_table_text (chars text.now)) self.old self.new (Sink.forest sink.old) (Sink.forest sink.new)) }
         ensures fault { IfErr result (λ fault. fault ≡ Memory) }
     {
         if is_white(text) {
@@ -53,7 +52,7 @@ impl<Sink: TreeSink> Construction<Sink> {
     #[inline(never)]
     pub(crate) fn insert_pending_text(&mut self, sink: &mut Sink) -> Result<(), ParseFault>
         requires stands { Stands (Sink.forest sink.old) self.old }
-        ensures ok { OnOk result ((a : Answers) → state_of a self.new (Sink.forest sink.new) ≡ insert_pending_text (state_of a self.old (Sink.forest sink.old))) }
+        ensures ok { OnOk result (Performs insert_pending_text self.old self.new (Sink.forest sink.old) (Sink.forest sink.new)) }
         ensures fault { IfErr result (λ fault. fault ≡ Memory) }
     {
         let text = self.pending_table_text.copy(self.alloc)?;

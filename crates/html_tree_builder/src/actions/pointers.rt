@@ -4,7 +4,7 @@ ghost use Rattle.markup.specs.Forest.{Forest};
 ghost use Rattle.markup.specs.declared.fault.ParseFault.TheVariants.{Memory};
 ghost use Rattle.html_rules.specs.Actions.{for_tag, insert_form_void, push_head_elem, remove_form_elem, remove_head_elem, set_form_elem, set_head_elem};
 ghost use Rattle.html_rules.specs.State.{Answers, current_number};
-ghost use Rattle.html_tree_builder.specs.States.{Stands, state_of};
+ghost use Rattle.html_tree_builder.specs.States.{Stands, state_of, Performs};
 ghost use Rattle.html_tree_builder.specs.Told.{IsTold, token_of};
 
 use crate::construction::Construction;
@@ -31,7 +31,7 @@ impl<Sink: TreeSink> Construction<Sink> {
     /// The head element pointer names the current node.
     #[tactic(auto, unfolding(html_rules::specs::Actions::set_head_elem))]
     pub(crate) fn set_head_elem(&mut self, sink: &mut Sink)
-        ensures { (a : Answers) → state_of a self.new (Sink.forest sink.new) ≡ set_head_elem (state_of a self.old (Sink.forest sink.old)) }
+        ensures { Performs set_head_elem self.old self.new (Sink.forest sink.old) (Sink.forest sink.new) }
     {
         let handle = self.current_handle(sink);
         self.head_elem = Some(handle);
@@ -40,7 +40,7 @@ impl<Sink: TreeSink> Construction<Sink> {
     /// The form element pointer names the current node.
     #[tactic(auto, unfolding(html_rules::specs::Actions::set_form_elem))]
     pub(crate) fn set_form_elem(&mut self, sink: &mut Sink)
-        ensures { (a : Answers) → state_of a self.new (Sink.forest sink.new) ≡ set_form_elem (state_of a self.old (Sink.forest sink.old)) }
+        ensures { Performs set_form_elem self.old self.new (Sink.forest sink.old) (Sink.forest sink.new) }
     {
         let handle = self.current_handle(sink);
         self.form_elem = Some(handle);
@@ -51,7 +51,7 @@ impl<Sink: TreeSink> Construction<Sink> {
     #[inline(never)]
     pub(crate) fn remove_head_elem(&mut self, sink: &mut Sink)
         requires stands { Stands (Sink.forest sink.old) self.old }
-        ensures { (a : Answers) → state_of a self.new (Sink.forest sink.new) ≡ remove_head_elem (state_of a self.old (Sink.forest sink.old)) }
+        ensures { Performs remove_head_elem self.old self.new (Sink.forest sink.old) (Sink.forest sink.new) }
     {
         if let Some(head) = self.head_elem {
             self.stack.remove_from_stack(sink, &head);
@@ -63,7 +63,7 @@ impl<Sink: TreeSink> Construction<Sink> {
     #[inline(never)]
     pub(crate) fn remove_form_elem(&mut self, sink: &mut Sink)
         requires stands { Stands (Sink.forest sink.old) self.old }
-        ensures { (a : Answers) → state_of a self.new (Sink.forest sink.new) ≡ remove_form_elem (state_of a self.old (Sink.forest sink.old)) }
+        ensures { Performs remove_form_elem self.old self.new (Sink.forest sink.old) (Sink.forest sink.new) }
     {
         if let Some(form) = self.form_elem {
             self.stack.remove_from_stack(sink, &form);
@@ -80,7 +80,7 @@ impl<Sink: TreeSink> Construction<Sink> {
     ) -> Result<(), ParseFault>
         requires told { IsTold told.now }
         requires stands { Stands (Sink.forest sink.old) self.old }
-        ensures ok { OnOk result ((a : Answers) → state_of a self.new (Sink.forest sink.new) ≡ for_tag insert_form_void (token_of told.now.content) (state_of a self.old (Sink.forest sink.old))) }
+        ensures ok { OnOk result (Performs (for_tag insert_form_void (token_of told.now.content)) self.old self.new (Sink.forest sink.old) (Sink.forest sink.new)) }
         ensures fault { IfErr result (λ fault. fault ≡ Memory) }
     {
         let Content::Tag(tag) = told.content else {

@@ -4,8 +4,7 @@ ghost use Rattle.markup.specs.declared.fault.ParseFault.TheVariants.{Memory};
 ghost use Rattle.html_rules.specs.Actions.{for_tag};
 ghost use Rattle.html_rules.specs.Places.{insert_element_for};
 ghost use Rattle.html_rules.specs.Stack.{pop_but_root};
-ghost use Rattle.html_rules.specs.State.{Answers};
-ghost use Rattle.html_tree_builder.specs.States.{Stands, state_of};
+ghost use Rattle.html_tree_builder.specs.States.{Stands, Performs};
 ghost use Rattle.html_tree_builder.specs.Told.{IsTold, cuts_off_text, token_of};
 
 use crate::construction::Construction;
@@ -19,7 +18,7 @@ impl<Sink: TreeSink> Construction<Sink> {
     fn insert_started_script(&mut self, sink: &mut Sink, told: &Told<'_>) -> Result<(), ParseFault>
         requires told { IsTold told.now }
         requires stands { Stands (Sink.forest sink.old) self.old }
-        ensures ok { OnOk result ((a : Answers) → state_of a self.new (Sink.forest sink.new) ≡ for_tag insert_element_for (token_of told.now.content) (state_of a self.old (Sink.forest sink.old))) }
+        ensures ok { OnOk result (Performs (for_tag insert_element_for (token_of told.now.content)) self.old self.new (Sink.forest sink.old) (Sink.forest sink.new)) }
         ensures fault { IfErr result (λ fault. fault ≡ Memory) }
     {
         let Content::Tag(tag) = told.content else {
@@ -39,7 +38,7 @@ impl<Sink: TreeSink> Construction<Sink> {
     ) -> Result<(), ParseFault>
         requires told { IsTold told.now }
         requires stands { Stands (Sink.forest sink.old) self.old }
-        ensures ok { OnOk result ((a : Answers) → state_of a self.new (Sink.forest sink.new) ≡ for_tag insert_element_for (token_of told.now.content) (state_of a self.old (Sink.forest sink.old))) }
+        ensures ok { OnOk result (Performs (for_tag insert_element_for (token_of told.now.content)) self.old self.new (Sink.forest sink.old) (Sink.forest sink.new)) }
         ensures fault { IfErr result (λ fault. fault ≡ Memory) }
     {
         if told.class.is_in(TagSet::Script) && self.is_fragment() {
@@ -70,7 +69,7 @@ impl<Sink: TreeSink> Construction<Sink> {
     #[inline(never)]
     pub(crate) fn pop_told(&mut self, sink: &mut Sink, told: &Told<'_>)
         requires stands { Stands (Sink.forest sink.old) self.old }
-        ensures { (a : Answers) → state_of a self.new (Sink.forest sink.new) ≡ pop_but_root (state_of a self.old (Sink.forest sink.old)) }
+        ensures { Performs pop_but_root self.old self.new (Sink.forest sink.old) (Sink.forest sink.new) }
     {
         self.report_cut_off_script(sink, told);
         self.pop_but_root(sink);
