@@ -1,4 +1,6 @@
 //! Devices: where bytes come from and where they go.
+//!
+//! Tests: `base_tests`, `streams`.
 #![tactic(auto)]
 
 mod loops;

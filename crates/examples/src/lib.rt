@@ -1,4 +1,6 @@
 //! Examples: those of the README as they stand there, and what else pages are read for.
+//!
+//! Tests: `examples_tests`.
 #![tactic(auto)]
 
 pub mod documents;

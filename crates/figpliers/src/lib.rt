@@ -1,4 +1,6 @@
 //! One door to Figpliers: what callers name of its crates.
+//!
+//! Tests: `pages_tests`, `examples_tests`.
 #![tactic(auto)]
 
 pub use devices::{

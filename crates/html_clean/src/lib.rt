@@ -1,4 +1,6 @@
 //! A sanitizer: what a policy keeps of a document, written so that every tokenizer reads just that.
+//!
+//! Tests: `html_clean_tests`.
 #![tactic(auto)]
 
 mod attributes;

@@ -1,4 +1,6 @@
 //! From the bytes of an HTML document to what a policy keeps of it.
+//!
+//! Tests: `html_clean_tests`.
 #![tactic(auto)]
 
 pub mod laws;

@@ -1,4 +1,6 @@
 //! A forest of nodes in memory, which a parser builds through the interface of trees.
+//!
+//! Tests: `src/tests`, which need private items.
 #![tactic(auto)]
 
 mod children;

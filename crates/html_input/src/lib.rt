@@ -1,4 +1,6 @@
 //! Texts and tables of references from the bytes of a source.
+//!
+//! Tests: `html_normal_tests`.
 #![tactic(auto)]
 
 mod fault;

@@ -1,5 +1,7 @@
 //! What names and texts are to the rules of tree construction (HTML Standard, section 13.2.6): which sets of names an element is in, what
 //! a doctype says, and the encoding that a `meta` element names.
+//!
+//! Tests: `html_stack_tests`.
 #![tactic(auto)]
 
 mod any_case;

@@ -1,4 +1,6 @@
 //! What is asked of the nodes of a page: which stand below one, and what they are named, have and say.
+//!
+//! Tests: `pages_tests`.
 #![tactic(auto)]
 
 mod alike;

@@ -1,4 +1,6 @@
 //! From the bytes of an HTML document to its normal text.
+//!
+//! Tests: `html_normal_tests`.
 #![tactic(auto)]
 
 mod document;

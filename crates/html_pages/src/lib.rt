@@ -1,4 +1,6 @@
 //! Pages to trees: whole or as fragments, and with their parse errors; and whether they are read back.
+//!
+//! Tests: `pages_tests`.
 #![tactic(auto)]
 
 mod noted;

@@ -1,4 +1,6 @@
 //! The parser: text in any pieces, and the document that it makes (HTML Standard, section 13.2).
+//!
+//! Tests: `html_parser_tests`.
 #![tactic(auto)]
 
 pub mod documents;

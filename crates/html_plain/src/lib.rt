@@ -1,4 +1,6 @@
 //! The plain grammar: documents that are read back as they are written.
+//!
+//! Worked rows: `specs/Rows.antt`, computed by the check; the judge is tested in `html_forest`.
 #![tactic(auto)]
 
 pub mod attributes;

@@ -8,8 +8,8 @@ ghost use Rattle.html_queue.specs.Begins.{begins, Computes, RefusesAbove};
 use crate::begins::begins_by;
 use crate::cursor::Cursor;
 use crate::set::{SetResult, SmallCharSet};
-use crate::taken::Taken;
 use markup::ParseFault;
+use markup::count::Count;
 use std::marker::Model;
 use std::mem;
 
@@ -24,7 +24,7 @@ use std::mem;
 #[derive(Drop)]
 pub struct BufferQueue {
     cursor: Cursor,
-    taken: Taken,
+    taken: Count,
 }
 
 const _: () = prove!(mem::size_of::<BufferQueue>() == mem::size_of::<Cursor>());
@@ -45,7 +45,7 @@ impl BufferQueue {
     {
         BufferQueue {
             cursor: Cursor::new(),
-            taken: Taken::new(),
+            taken: Count::new(),
         }
     }
 

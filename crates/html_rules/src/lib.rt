@@ -1,5 +1,7 @@
 //! What tree construction means: the sets of names, the state of the rules and the steps that they are made of
 //! (HTML Standard, sections 13.2.4 and 13.2.6).
+//!
+//! Worked rows: `html_rules_rows`.
 #![tactic(auto)]
 
 pub mod insertion_mode;

@@ -1,4 +1,6 @@
 //! Laws of the rules of tree construction.
+//!
+//! Laws have no tests: what they are about has worked rows, in `html_rules_rows`.
 #![tactic(auto)]
 
 pub mod laws;

@@ -1,4 +1,6 @@
 //! Writes trees as HTML (HTML Standard, section 13.3, "Serializing HTML fragments").
+//!
+//! Tests: `html_serialize_tests`.
 #![tactic(auto)]
 
 mod calls;

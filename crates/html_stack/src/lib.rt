@@ -1,4 +1,6 @@
 //! The stack of open elements and the list of active formatting elements (HTML Standard, sections 13.2.4.2 and 13.2.4.3).
+//!
+//! Tests: `html_stack_tests`.
 #![tactic(auto)]
 
 pub mod active_formatting_iter;

@@ -1,4 +1,6 @@
 //! The table of named character references that the Standard has (HTML Standard, section 13.5), built in.
+//!
+//! Tests: `pages_tests`.
 #![tactic(auto)]
 
 ghost use Rattle.std.specs.Prelude.{◌≡◌, IfErr, IfOk, Ok};

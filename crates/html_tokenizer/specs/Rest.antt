@@ -1,5 +1,5 @@
 -- What a tokenizer still makes of its sink, for each further text.
-use Rattle.std.specs.Prelude.{ℕ, List, [], ◌∷◌, ◌++◌, codes, Option, Some, None, Result}
+use Rattle.std.specs.Prelude.{ℕ, nat_eq, Bool, true, false, ◌||◌, List, [], ◌∷◌, ◌++◌, codes, Option, Some, None, Result}
 use Rattle.html_tokens.specs.declared.states.RawKind.TheVariants as raw
 use Rattle.html_tokens.specs.declared.states.ScriptEscapeKind.TheVariants as script
 use Rattle.html_tokens.specs.declared.states.DoctypeIdKind.{DoctypeIdKind}
@@ -46,6 +46,17 @@ standing k place = record { place = place; last_start_tag = k.raw_end.name }
 abbrev pub with_identifier : DoctypeIdKind → Doctype → List ℕ → Doctype
 with_identifier id.Public d cs = record d { public_id = Some cs }
 with_identifier id.System d cs = record d { system_id = Some cs }
+
+-- the quotes of an identifier, and the state in which one in such quotes is read
+abbrev pub is_quote : ℕ → Bool
+is_quote quote = nat_eq quote 34 || nat_eq quote 39
+
+abbrev pub quoted_by : Bool → DoctypeIdKind → State
+quoted_by true kind = state.DoctypeIdentifierSingleQuoted kind
+quoted_by false kind = state.DoctypeIdentifierDoubleQuoted kind
+
+abbrev pub quoted_state : ℕ → DoctypeIdKind → State
+quoted_state quote kind = quoted_by (nat_eq quote 39) kind
 
 -- the text that comes, of these characters of the input
 abbrev pub coming : {K : Type 0} → Tokenizer K → List ℕ → List ℕ

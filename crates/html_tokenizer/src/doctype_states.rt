@@ -1,10 +1,10 @@
 //! Doctypes, but for their keywords (HTML Standard, sections 13.2.5.53 to 13.2.5.55 and 13.2.5.57 to 13.2.5.68).
-ghost use Rattle.std.specs.Prelude.{◌≡◌, [], Some};
+ghost use Rattle.std.specs.Prelude.{◌≡◌, [], Some, true};
 ghost use Rattle.html_tokens.specs.declared.states.State.TheVariants as state;
 ghost use Rattle.html_tokens.specs.declared.states.DoctypeIdKind.TheVariants as id;
 ghost use Rattle.html_tokens.specs.declared.token.Token.TheVariants.{DoctypeToken};
 ghost use Rattle.html_tokens.specs.Doctypes;
-ghost use Rattle.html_tokenizer.specs.Rest.{with_identifier};
+ghost use Rattle.html_tokenizer.specs.Rest.{is_quote, quoted_state, with_identifier};
 ghost use Rattle.html_tokenizer.specs.Steps.{IsAt, Tells, Keeps, nothing_owed, owed_for};
 ghost use Rattle.html_tokens.specs.Item.{grave_if};
 
@@ -261,68 +261,35 @@ impl<Sink: TokenSink> Tokenizer<Sink> {
         }
     }
 
-    pub(crate) fn doctype_identifier_double_quoted_state(
+    /// In an identifier in quotes, `"` or `'`.
+    pub(crate) fn doctype_identifier_quoted_state(
         &mut self,
         kind: DoctypeIdKind,
+        quote: char,
         c: char,
     ) -> Result<ProcessResult<Sink::Handle>, ParseFault>
-        requires at { IsAt self.old (state.DoctypeIdentifierDoubleQuoted kind) }
+        requires at { IsAt self.old (quoted_state quote kind) }
+        requires quote { is_quote quote ≡ true }
         requires sound { Sink.is_sound (Sink.view self.old.sink) }
         ensures { Keeps Sink.TokenSink self.old self.new c result }
     {
         self.report_null(c)?;
-        self.consume_in_double_quoted(kind, c)
+        self.consume_in_quoted_identifier(kind, quote, c)
     }
 
     /// The same, where an error of the character was told.
-    fn consume_in_double_quoted(
+    fn consume_in_quoted_identifier(
         &mut self,
         kind: DoctypeIdKind,
+        quote: char,
         c: char,
     ) -> Result<ProcessResult<Sink::Handle>, ParseFault>
-        requires at { IsAt self.old (state.DoctypeIdentifierDoubleQuoted kind) }
+        requires at { IsAt self.old (quoted_state quote kind) }
+        requires quote { is_quote quote ≡ true }
         requires sound { Sink.is_sound (Sink.view self.old.sink) }
         ensures { Keeps Sink.TokenSink self.old self.new c result }
     {
-        if c == '"' {
-            self.finish_identifier(kind);
-            self.state = State::AfterDoctypeIdentifier(kind);
-            return Ok(ProcessResult::Continue);
-        }
-        if c == '>' {
-            self.finish_identifier(kind);
-            self.doctype.force_quirks = true;
-            self.emit_doctype_for(abrupt_end(kind))?;
-            return Ok(ProcessResult::Continue);
-        }
-        self.temporary.push(shown(c))?;
-        Ok(ProcessResult::Continue)
-    }
-
-    pub(crate) fn doctype_identifier_single_quoted_state(
-        &mut self,
-        kind: DoctypeIdKind,
-        c: char,
-    ) -> Result<ProcessResult<Sink::Handle>, ParseFault>
-        requires at { IsAt self.old (state.DoctypeIdentifierSingleQuoted kind) }
-        requires sound { Sink.is_sound (Sink.view self.old.sink) }
-        ensures { Keeps Sink.TokenSink self.old self.new c result }
-    {
-        self.report_null(c)?;
-        self.consume_in_single_quoted(kind, c)
-    }
-
-    /// The same, where an error of the character was told.
-    fn consume_in_single_quoted(
-        &mut self,
-        kind: DoctypeIdKind,
-        c: char,
-    ) -> Result<ProcessResult<Sink::Handle>, ParseFault>
-        requires at { IsAt self.old (state.DoctypeIdentifierSingleQuoted kind) }
-        requires sound { Sink.is_sound (Sink.view self.old.sink) }
-        ensures { Keeps Sink.TokenSink self.old self.new c result }
-    {
-        if c == '\'' {
+        if c == quote {
             self.finish_identifier(kind);
             self.state = State::AfterDoctypeIdentifier(kind);
             return Ok(ProcessResult::Continue);

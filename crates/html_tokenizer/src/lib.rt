@@ -1,4 +1,6 @@
 //! The tokenizer: a machine that takes text in any pieces (HTML Standard, section 13.2.5).
+//!
+//! Tests: `html_tokenizer_tests`.
 #![tactic(auto)]
 
 mod attribute_states;

@@ -78,10 +78,10 @@ impl<Sink: TokenSink> Tokenizer<Sink> {
             State::AfterDoctypeKeyword(kind) => self.after_doctype_keyword_state(kind, c),
             State::BeforeDoctypeIdentifier(kind) => self.before_doctype_identifier_state(kind, c),
             State::DoctypeIdentifierDoubleQuoted(kind) => {
-                self.doctype_identifier_double_quoted_state(kind, c)
+                self.doctype_identifier_quoted_state(kind, '"', c)
             }
             State::DoctypeIdentifierSingleQuoted(kind) => {
-                self.doctype_identifier_single_quoted_state(kind, c)
+                self.doctype_identifier_quoted_state(kind, '\'', c)
             }
             State::AfterDoctypeIdentifier(kind) => self.after_doctype_identifier_state(kind, c),
             State::BetweenDoctypePublicAndSystemIdentifiers => {

@@ -1,5 +1,7 @@
 //! What the tokenizer is made of that knows no sink: the characters of the input as they come, words and numbers that are read
 //! letter by letter, references that are held, and the codes of parse errors (HTML Standard, section 13.2.5).
+//!
+//! Tests: `html_tokenizer_tests`.
 #![tactic(auto)]
 
 pub mod characters;

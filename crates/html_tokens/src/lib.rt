@@ -1,4 +1,6 @@
 //! Tokens of HTML, and what tokenizing a text means (HTML Standard, section 13.2.5).
+//!
+//! Tests: `base_tests`, `tokens`; its worked rows are computed by the check.
 #![tactic(auto)]
 
 pub mod counting;

@@ -11,11 +11,11 @@ ghost use Rattle.html_tree_builder.specs.States.{answers_of, built, context_in, 
 
 use crate::beginnings::tokenizer_state;
 use crate::construction::Construction;
-use crate::counted::Turns;
 use crate::options::TreeBuilderOpts;
 use html_names::ElementName;
 use html_stack::OpenElement;
 use html_tokens::State;
+use markup::count::Count;
 use markup::{ParseFault, TreeSink};
 use std::alloc::Global;
 
@@ -32,7 +32,7 @@ pub struct TreeBuilder<Sink: TreeSink> {
     pub(crate) construction: Construction<Sink>,
     pub(crate) current_line: u64,
     pub(crate) has_failed: bool,
-    pub(crate) turns: Turns,
+    pub(crate) turns: Count,
 }
 
 /// The context of a fragment, with the name that its sink says it has.
@@ -69,7 +69,7 @@ impl<Sink: TreeSink> TreeBuilder<Sink> {
             construction: Construction::new(alloc, opts),
             current_line: 1,
             has_failed: false,
-            turns: Turns::none(),
+            turns: Count::new(),
         }
     }
 
@@ -102,7 +102,7 @@ impl<Sink: TreeSink> TreeBuilder<Sink> {
             construction,
             current_line: 1,
             has_failed: false,
-            turns: Turns::none(),
+            turns: Count::new(),
         })
     }
 

@@ -1,4 +1,6 @@
 //! The tree builder: what tokens make of a tree (HTML Standard, section 13.2.6).
+//!
+//! Tests: `html_parser_tests`, `direct` and `modes`.
 #![tactic(auto)]
 
 mod actions;
@@ -7,7 +9,6 @@ pub mod builder;
 mod conclusions;
 mod conditions;
 mod construction;
-pub mod counted;
 mod errors;
 pub mod options;
 mod rows;

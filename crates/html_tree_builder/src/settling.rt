@@ -9,10 +9,10 @@ ghost use Rattle.html_tree_builder.specs.Told.{IsTold, token_of};
 
 use crate::conclusions::Ending;
 use crate::construction::Construction;
-use crate::counted::Turns;
 use crate::errors;
 use crate::told::{Content, Told};
 use html_tokens::{TagKind, TokenSinkResult};
+use markup::count::Count;
 use markup::{ParseFault, TreeSink};
 
 impl Told<'_> {
@@ -44,7 +44,7 @@ impl<Sink: TreeSink> Construction<Sink> {
         &mut self,
         sink: &mut Sink,
         told: &Told<'_>,
-        turns: &mut Turns,
+        turns: &mut Count,
     ) -> Result<TokenSinkResult<Sink::Handle>, ParseFault>
         requires told { IsTold told.now }
         requires stands { Stands (Sink.forest sink.old) self.old }

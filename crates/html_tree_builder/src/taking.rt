@@ -18,13 +18,13 @@ ghost use Rattle.html_tree_builder.specs.Told.{IsTold, token_of};
 ghost use Rattle.html_tree_builder.specs.Turns.{most_turns, turns_of};
 
 use crate::construction::Construction;
-use crate::counted::Turns;
 use crate::errors;
 use crate::texts::{behind_line_feed, split_first};
 use crate::told::{Content, Told};
 use html_names::{ElementClass, doctype_error_and_quirks};
 use html_rules::InsertionMode;
 use html_tokens::{Doctype, Tag, Token, TokenSinkResult};
+use markup::count::Count;
 use markup::{LocalName, ParseFault, TreeSink};
 use std::borrow::CowStr;
 use std::mem;
@@ -62,7 +62,7 @@ impl<Sink: TreeSink> Construction<Sink> {
         &mut self,
         sink: &mut Sink,
         told: &Told<'_>,
-        turns: &mut Turns,
+        turns: &mut Count,
     ) -> Result<TokenSinkResult<Sink::Handle>, ParseFault>
         requires told { IsTold told.now }
         requires usable { Usable (built Sink.TreeSink self.old (Sink.forest sink.old)) }
@@ -85,7 +85,7 @@ impl<Sink: TreeSink> Construction<Sink> {
     {
         let name = LocalName::empty(self.alloc);
         let told = Told::of(Content::Characters(character), &name);
-        drop(self.settle_told(sink, &told, &mut Turns::none())?);
+        drop(self.settle_told(sink, &told, &mut Count::new())?);
         Ok(())
     }
 
@@ -193,7 +193,7 @@ impl<Sink: TreeSink> Construction<Sink> {
         &mut self,
         sink: &mut Sink,
         told: &Told<'_>,
-        turns: &mut Turns,
+        turns: &mut Count,
     ) -> Result<TokenSinkResult<Sink::Handle>, ParseFault>
         requires told { IsTold told.now }
         requires usable { Usable (built Sink.TreeSink self.old (Sink.forest sink.old)) }
@@ -214,7 +214,7 @@ impl<Sink: TreeSink> Construction<Sink> {
         &mut self,
         sink: &mut Sink,
         tag: &Tag,
-        turns: &mut Turns,
+        turns: &mut Count,
     ) -> Result<TokenSinkResult<Sink::Handle>, ParseFault>
         requires usable { Usable (built Sink.TreeSink self.old (Sink.forest sink.old)) }
         requires going { self.old.has_ended ≡ false }
@@ -235,7 +235,7 @@ impl<Sink: TreeSink> Construction<Sink> {
         &mut self,
         sink: &mut Sink,
         token: &mut Token,
-        turns: &mut Turns,
+        turns: &mut Count,
     ) -> Result<TokenSinkResult<Sink::Handle>, ParseFault>
         requires usable { Usable (built Sink.TreeSink self.old (Sink.forest sink.old)) }
         requires going { self.old.has_ended ≡ false }
@@ -274,7 +274,7 @@ impl<Sink: TreeSink> Construction<Sink> {
         &mut self,
         sink: &mut Sink,
         content: Content<'_>,
-        turns: &mut Turns,
+        turns: &mut Count,
     ) -> Result<TokenSinkResult<Sink::Handle>, ParseFault>
         requires nameless { [] ≡ name_of (token_of content) }
         requires usable { Usable (built Sink.TreeSink self.old (Sink.forest sink.old)) }

@@ -1,9 +1,12 @@
 //! The names, texts and attributes of marked-up documents, which every other crate speaks of, and the interface of who builds their tree.
+//!
+//! Tests: `base_tests`, `names`; its worked rows are computed by the check.
 #![tactic(auto)]
 
 mod attribute_index;
 pub mod attributes;
 mod characters;
+pub mod count;
 pub mod fault;
 pub mod flags;
 pub mod html_names;

@@ -1,5 +1,5 @@
 -- How doctypes are read, and what the machine's states make of them.
-use Rattle.std.proofs.Common.{◌≡◌, ◌∙◌, ℕ, zero, suc, ◌+◌, Bool, true, false, ◌||◌, nat_eq, List, [], ◌∷◌, ◌++◌, take, drop, Option, Some, None, Result, Ok, refl, sym, ap, append_assoc, append-nil}
+use Rattle.std.proofs.Common.{◌≡◌, ◌∙◌, ℕ, zero, suc, ◌+◌, Bool, true, false, ◌||◌, nat_eq, List, [], ◌∷◌, ◌++◌, take, drop, Option, Some, None, Result, Ok, refl, sym, ap, subst, append_assoc, append-nil}
 use Rattle.std.specs.Prelude.{is_some, not}
 use Rattle.std.specs.Result.{IsErrAnd}
 use Rattle.std.proofs.lemmas.Bool.{eqb-true}
@@ -21,7 +21,7 @@ use Rattle.html_tokens.specs.Reading.{line_number, line_break}
 use Rattle.html_tokens.specs.Sink.{◌>>=◌, SinkLaws}
 use Rattle.html_tokenizer_parts.specs.declared.error_code.ErrorCode.{ErrorCode}
 use Rattle.html_tokenizer.specs.declared.tokenizer.Tokenizer.{Tokenizer}
-use Rattle.html_tokenizer.specs.Rest.{rows_of, standing, with_identifier, held_at}
+use Rattle.html_tokenizer.specs.Rest.{rows_of, standing, with_identifier, held_at, is_quote, quoted_state}
 use Rattle.html_tokenizer.specs.Steps.{owed_for, IsAt, more, Falls, Told, Took, Keeps, reads, plays}
 use Rattle.html_tokenizer.proofs.Steps.TokenEnds.{EndSays, end-says, emitted-took, emitted-failed, behind-any, item-absorbs}
 use Rattle.html_tokenizer.proofs.Errors.RefusedErrors.{tells-less}
@@ -31,6 +31,15 @@ use Rattle.html_tokenizer.proofs.Steps.Readings.{marked-both, play-marked, play-
 use Rattle.html_tokenizer.proofs.Errors.Rises.{slighted-no-more}
 use Rattle.html_tokenizer_parts.proofs.Keywords.{word-other}
 use Rattle.html_tokenizer.specs.Listeners.{listening}
+
+-- QUOTES
+
+-- what holds of both quotes holds of each
+pub of-quote : (P : ℕ → Type 0) → P 34 → P 39 → (quote : ℕ) → is_quote quote ≡ true → P quote
+of-quote P double single quote h = by (nat_eq quote 34) refl h where
+  by : (b : Bool) → nat_eq quote 34 ≡ b → (b || nat_eq quote 39) ≡ true → P quote
+  by true e h = subst P (sym (eqb-true quote 34 e)) double
+  by false e h = subst P (sym (eqb-true quote 39 h)) single
 
 -- ITEMS
 
@@ -209,15 +218,18 @@ module _ {K H : Type 0} (Sink : Ghosts K H) (laws : SinkLaws Sink.is_sound Sink.
   unfolding held_at
   name-says old cs b s h t = at-mark old b s h false (record no_doctype { name = Some old.temporary }) t (doctype_name_after (standing old InData) old.temporary (62 ∷ t)) (rw append-nil refl)
 
-  pub double-says : (kind : DoctypeIdKind) (old : Tokenizer K) (cs : List ℕ) → DoctypeSays (state.DoctypeIdentifierDoubleQuoted kind) old cs false (forced (with_identifier kind old.doctype old.temporary))
+  double-says : (kind : DoctypeIdKind) (old : Tokenizer K) (cs : List ℕ) → DoctypeSays (state.DoctypeIdentifierDoubleQuoted kind) old cs false (forced (with_identifier kind old.doctype old.temporary))
   unfolding held_at
   double-says id.Public old cs b s h t = at-mark old b s h false (forced (with_identifier id.Public old.doctype old.temporary)) t (public_after 34 (standing old InData) old.doctype old.temporary (62 ∷ t)) (rw append-nil refl)
   double-says id.System old cs b s h t = at-mark old b s h false (forced (with_identifier id.System old.doctype old.temporary)) t (system_after 34 (standing old InData) old.doctype old.temporary (62 ∷ t)) (rw append-nil refl)
 
-  pub single-says : (kind : DoctypeIdKind) (old : Tokenizer K) (cs : List ℕ) → DoctypeSays (state.DoctypeIdentifierSingleQuoted kind) old cs false (forced (with_identifier kind old.doctype old.temporary))
+  single-says : (kind : DoctypeIdKind) (old : Tokenizer K) (cs : List ℕ) → DoctypeSays (state.DoctypeIdentifierSingleQuoted kind) old cs false (forced (with_identifier kind old.doctype old.temporary))
   unfolding held_at
   single-says id.Public old cs b s h t = at-mark old b s h false (forced (with_identifier id.Public old.doctype old.temporary)) t (public_after 39 (standing old InData) old.doctype old.temporary (62 ∷ t)) (rw append-nil refl)
   single-says id.System old cs b s h t = at-mark old b s h false (forced (with_identifier id.System old.doctype old.temporary)) t (system_after 39 (standing old InData) old.doctype old.temporary (62 ∷ t)) (rw append-nil refl)
+
+  pub quoted-says : (quote : ℕ) → is_quote quote ≡ true → (kind : DoctypeIdKind) (old : Tokenizer K) (cs : List ℕ) → DoctypeSays (quoted_state quote kind) old cs false (forced (with_identifier kind old.doctype old.temporary))
+  quoted-says = of-quote (λ quote. (kind : DoctypeIdKind) (old : Tokenizer K) (cs : List ℕ) → DoctypeSays (quoted_state quote kind) old cs false (forced (with_identifier kind old.doctype old.temporary))) double-says single-says
 
   pub between-says : (old : Tokenizer K) (cs : List ℕ) → DoctypeSays state.BetweenDoctypePublicAndSystemIdentifiers old cs true old.doctype
   unfolding held_at
@@ -242,15 +254,18 @@ module _ {K H : Type 0} (Sink : Ghosts K H) (laws : SinkLaws Sink.is_sound Sink.
     keyword-absorbs id.Public from = state-absorbs Sink old c (state.AfterDoctypeKeyword id.Public) from (λ b s t. item-absorbs Sink laws old (after_public_keyword (standing old InData) old.doctype (c ∷ t)) b s (c ∷ t) (public_keyword-fault (standing old InData) old.doctype (c ∷ t)))
     keyword-absorbs id.System from = state-absorbs Sink old c (state.AfterDoctypeKeyword id.System) from (λ b s t. item-absorbs Sink laws old (after_system_keyword (standing old InData) old.doctype (c ∷ t)) b s (c ∷ t) (system_keyword-fault (standing old InData) old.doctype (c ∷ t)))
 
-    pub double-absorbs : (kind : DoctypeIdKind) → IsAt old (state.DoctypeIdentifierDoubleQuoted kind) → Absorbs Sink old c
+    double-absorbs : (kind : DoctypeIdKind) → IsAt old (state.DoctypeIdentifierDoubleQuoted kind) → Absorbs Sink old c
     unfolding held_at
     double-absorbs id.Public from = state-absorbs Sink old c (state.DoctypeIdentifierDoubleQuoted id.Public) from (λ b s t. item-absorbs Sink laws old (public_after 34 (standing old InData) old.doctype old.temporary (c ∷ t)) b s (c ∷ t) (public-fault 34 (standing old InData) old.doctype old.temporary (c ∷ t)))
     double-absorbs id.System from = state-absorbs Sink old c (state.DoctypeIdentifierDoubleQuoted id.System) from (λ b s t. item-absorbs Sink laws old (system_after 34 (standing old InData) old.doctype old.temporary (c ∷ t)) b s (c ∷ t) (system-fault 34 (standing old InData) old.doctype old.temporary (c ∷ t)))
 
-    pub single-absorbs : (kind : DoctypeIdKind) → IsAt old (state.DoctypeIdentifierSingleQuoted kind) → Absorbs Sink old c
+    single-absorbs : (kind : DoctypeIdKind) → IsAt old (state.DoctypeIdentifierSingleQuoted kind) → Absorbs Sink old c
     unfolding held_at
     single-absorbs id.Public from = state-absorbs Sink old c (state.DoctypeIdentifierSingleQuoted id.Public) from (λ b s t. item-absorbs Sink laws old (public_after 39 (standing old InData) old.doctype old.temporary (c ∷ t)) b s (c ∷ t) (public-fault 39 (standing old InData) old.doctype old.temporary (c ∷ t)))
     single-absorbs id.System from = state-absorbs Sink old c (state.DoctypeIdentifierSingleQuoted id.System) from (λ b s t. item-absorbs Sink laws old (system_after 39 (standing old InData) old.doctype old.temporary (c ∷ t)) b s (c ∷ t) (system-fault 39 (standing old InData) old.doctype old.temporary (c ∷ t)))
+
+    pub quoted-absorbs : (quote : ℕ) → is_quote quote ≡ true → (kind : DoctypeIdKind) → IsAt old (quoted_state quote kind) → Absorbs Sink old c
+    quoted-absorbs = of-quote (λ quote. (kind : DoctypeIdKind) → IsAt old (quoted_state quote kind) → Absorbs Sink old c) double-absorbs single-absorbs
 
     pub identifier-absorbs : (kind : DoctypeIdKind) → IsAt old (state.AfterDoctypeIdentifier kind) → Absorbs Sink old c
     unfolding held_at
@@ -310,15 +325,18 @@ module _ {K H : Type 0} (Sink : Ghosts K H) (laws : SinkLaws Sink.is_sound Sink.
     name-push front from e f is = rw is (took_odd Sink (nat_eq c 0) old (record old { temporary = old.temporary ++ lowered c ∷ [] }) c state.DoctypeName state.DoctypeName from (record { state = from.state; fresh = from.fresh }) refl refl ok
         (λ b s t. play-odd (listening Sink) (rows_of old) slight-absorbed (nat_eq c 0) _ _ b s c t (name-goes_on (standing old InData) old.temporary c t (word-other c e f))))
 
-    pub double-push : (kind : DoctypeIdKind) (front : List ℕ) → IsAt old (state.DoctypeIdentifierDoubleQuoted kind) → nat_eq c 34 ≡ false → nat_eq c 62 ≡ false → front ≡ old.temporary ++ shown c ∷ [] → Took Sink old (record old { temporary = front }) c flow.Continue
+    double-push : (kind : DoctypeIdKind) (front : List ℕ) → IsAt old (state.DoctypeIdentifierDoubleQuoted kind) → nat_eq c 34 ≡ false → nat_eq c 62 ≡ false → front ≡ old.temporary ++ shown c ∷ [] → Took Sink old (record old { temporary = front }) c flow.Continue
     unfolding held_at
     double-push id.Public front from e f is = rw is (grows (state.DoctypeIdentifierDoubleQuoted id.Public) (old.temporary ++ shown c ∷ []) from (λ b s t. behind-c _ _ b s t (public-goes_on 34 (standing old InData) old.doctype old.temporary c t (neither c 34 e f))))
     double-push id.System front from e f is = rw is (grows (state.DoctypeIdentifierDoubleQuoted id.System) (old.temporary ++ shown c ∷ []) from (λ b s t. behind-c _ _ b s t (system-goes_on 34 (standing old InData) old.doctype old.temporary c t (neither c 34 e f))))
 
-    pub single-push : (kind : DoctypeIdKind) (front : List ℕ) → IsAt old (state.DoctypeIdentifierSingleQuoted kind) → nat_eq c 39 ≡ false → nat_eq c 62 ≡ false → front ≡ old.temporary ++ shown c ∷ [] → Took Sink old (record old { temporary = front }) c flow.Continue
+    single-push : (kind : DoctypeIdKind) (front : List ℕ) → IsAt old (state.DoctypeIdentifierSingleQuoted kind) → nat_eq c 39 ≡ false → nat_eq c 62 ≡ false → front ≡ old.temporary ++ shown c ∷ [] → Took Sink old (record old { temporary = front }) c flow.Continue
     unfolding held_at
     single-push id.Public front from e f is = rw is (grows (state.DoctypeIdentifierSingleQuoted id.Public) (old.temporary ++ shown c ∷ []) from (λ b s t. behind-c _ _ b s t (public-goes_on 39 (standing old InData) old.doctype old.temporary c t (neither c 39 e f))))
     single-push id.System front from e f is = rw is (grows (state.DoctypeIdentifierSingleQuoted id.System) (old.temporary ++ shown c ∷ []) from (λ b s t. behind-c _ _ b s t (system-goes_on 39 (standing old InData) old.doctype old.temporary c t (neither c 39 e f))))
+
+    pub quoted-push : (quote : ℕ) → is_quote quote ≡ true → (kind : DoctypeIdKind) (front : List ℕ) → IsAt old (quoted_state quote kind) → nat_eq c quote ≡ false → nat_eq c 62 ≡ false → front ≡ old.temporary ++ shown c ∷ [] → Took Sink old (record old { temporary = front }) c flow.Continue
+    quoted-push = of-quote (λ quote. (kind : DoctypeIdKind) (front : List ℕ) → IsAt old (quoted_state quote kind) → nat_eq c quote ≡ false → nat_eq c 62 ≡ false → front ≡ old.temporary ++ shown c ∷ [] → Took Sink old (record old { temporary = front }) c flow.Continue) double-push single-push
 
     pub bogus-junk : IsAt old state.BogusDoctype → nat_eq c 62 ≡ false → Took Sink old old c flow.Continue
     unfolding held_at
@@ -326,19 +344,22 @@ module _ {K H : Type 0} (Sink : Ghosts K H) (laws : SinkLaws Sink.is_sound Sink.
 
   -- Quotes.
   module _ (old : Tokenizer K) (ok : Sink.is_sound (Sink.view old.sink)) where
-    pub double-closed : (kind : DoctypeIdKind) (front : List ℕ) (d : Doctype) → IsAt old (state.DoctypeIdentifierDoubleQuoted kind) → front ≡ [] → d ≡ with_identifier kind old.doctype old.temporary → Took Sink old (record old { temporary = front; doctype = d; state = state.AfterDoctypeIdentifier kind }) 34 flow.Continue
+    double-closed : (kind : DoctypeIdKind) (front : List ℕ) (d : Doctype) → IsAt old (state.DoctypeIdentifierDoubleQuoted kind) → front ≡ [] → d ≡ with_identifier kind old.doctype old.temporary → Took Sink old (record old { temporary = front; doctype = d; state = state.AfterDoctypeIdentifier kind }) 34 flow.Continue
     unfolding held_at
     double-closed id.Public front d from is is' = rw (is, is') (moves old 34 ok (state.DoctypeIdentifierDoubleQuoted id.Public) (state.AfterDoctypeIdentifier id.Public) [] (with_identifier id.Public old.doctype old.temporary) from (λ b s t.
         behind-c old 34 ok (public_after 34 (standing old InData) old.doctype old.temporary (34 ∷ t)) _ b s t (rw append-nil refl)))
     double-closed id.System front d from is is' = rw (is, is') (moves old 34 ok (state.DoctypeIdentifierDoubleQuoted id.System) (state.AfterDoctypeIdentifier id.System) [] (with_identifier id.System old.doctype old.temporary) from (λ b s t.
         behind-c old 34 ok (system_after 34 (standing old InData) old.doctype old.temporary (34 ∷ t)) _ b s t (rw append-nil refl)))
 
-    pub single-closed : (kind : DoctypeIdKind) (front : List ℕ) (d : Doctype) → IsAt old (state.DoctypeIdentifierSingleQuoted kind) → front ≡ [] → d ≡ with_identifier kind old.doctype old.temporary → Took Sink old (record old { temporary = front; doctype = d; state = state.AfterDoctypeIdentifier kind }) 39 flow.Continue
+    single-closed : (kind : DoctypeIdKind) (front : List ℕ) (d : Doctype) → IsAt old (state.DoctypeIdentifierSingleQuoted kind) → front ≡ [] → d ≡ with_identifier kind old.doctype old.temporary → Took Sink old (record old { temporary = front; doctype = d; state = state.AfterDoctypeIdentifier kind }) 39 flow.Continue
     unfolding held_at
     single-closed id.Public front d from is is' = rw (is, is') (moves old 39 ok (state.DoctypeIdentifierSingleQuoted id.Public) (state.AfterDoctypeIdentifier id.Public) [] (with_identifier id.Public old.doctype old.temporary) from (λ b s t.
         behind-c old 39 ok (public_after 39 (standing old InData) old.doctype old.temporary (39 ∷ t)) _ b s t (rw append-nil refl)))
     single-closed id.System front d from is is' = rw (is, is') (moves old 39 ok (state.DoctypeIdentifierSingleQuoted id.System) (state.AfterDoctypeIdentifier id.System) [] (with_identifier id.System old.doctype old.temporary) from (λ b s t.
         behind-c old 39 ok (system_after 39 (standing old InData) old.doctype old.temporary (39 ∷ t)) _ b s t (rw append-nil refl)))
+
+    pub quoted-closed : (quote : ℕ) → is_quote quote ≡ true → (kind : DoctypeIdKind) (front : List ℕ) (d : Doctype) → IsAt old (quoted_state quote kind) → front ≡ [] → d ≡ with_identifier kind old.doctype old.temporary → Took Sink old (record old { temporary = front; doctype = d; state = state.AfterDoctypeIdentifier kind }) quote flow.Continue
+    quoted-closed = of-quote (λ quote. (kind : DoctypeIdKind) (front : List ℕ) (d : Doctype) → IsAt old (quoted_state quote kind) → front ≡ [] → d ≡ with_identifier kind old.doctype old.temporary → Took Sink old (record old { temporary = front; doctype = d; state = state.AfterDoctypeIdentifier kind }) quote flow.Continue) double-closed single-closed
 
     pub double-opened : (kind : DoctypeIdKind) (front : List ℕ) → IsAt old (state.BeforeDoctypeIdentifier kind) → front ≡ [] → Took Sink old (record old { temporary = front; state = state.DoctypeIdentifierDoubleQuoted kind }) 34 flow.Continue
     unfolding held_at

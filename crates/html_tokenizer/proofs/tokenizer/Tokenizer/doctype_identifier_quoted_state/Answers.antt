@@ -1,8 +1,8 @@
 use Rattle.std.proofs.Common.{nat_eq}
-use Rattle.html_tokenizer.proofs.Declarations.Doctypes.{single-absorbs}
+use Rattle.html_tokenizer.proofs.Declarations.Doctypes.{quoted-absorbs}
 use Rattle.html_tokenizer.proofs.Errors.BeforeCharacters.{keeps_refused}
 use Rattle.html_tokenizer.proofs.Steps.Keeping.{keeps_erred}
-use Rattle.html_tokenizer.proofs.tokenizer.Tokenizer.doctype_identifier_single_quoted_state.Goals as goal
+use Rattle.html_tokenizer.proofs.tokenizer.Tokenizer.doctype_identifier_quoted_state.Goals as goal
 
 pub returns-in_err-report_null : goal.returns-in_err-report_null
 returns-in_err-report_null g c =
@@ -12,4 +12,4 @@ returns-in_err-report_null g c =
 pub returns : goal.returns
 returns g c =
     let m = g.Sink.TokenSink in
-    keeps_erred m (nat_eq c.args.c 0) c.args.self.now c.report_null.new.self _ c.args.c _ c.in_ok-report_null.ensures (λ e. single-absorbs m g.met.Sink.TokenSink.laws c.args.self.now c.args.c c.args.kind c.requires.at) c.consume_in_single_quoted.ensures
+    keeps_erred m (nat_eq c.args.c 0) c.args.self.now c.report_null.new.self _ c.args.c _ c.in_ok-report_null.ensures (λ e. quoted-absorbs m g.met.Sink.TokenSink.laws c.args.self.now c.args.c c.args.quote c.requires.quote c.args.kind c.requires.at) c.consume_in_quoted_identifier.ensures

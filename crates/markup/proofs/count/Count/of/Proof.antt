@@ -28,12 +28,12 @@ use denote.Triple.Spec.{Meets, triple_of}
 use denote.Triple.Table.{entered}
 use denote.Triple.Walked.{says, Stays, walk_of, AllGo, Walks, ends_at, walked, walk_Meets, stay_none_slice, Goes-none_slice}
 use Rattle.std.specs.Str.{chars}
-use Rattle.html_queue.specs.declared.taken.Taken.{Taken}
-use Rattle.html_queue.specs.contracts.taken.Taken as T
-use Rattle.html_queue.specs.contracts.taken.Taken.of.Key.{name as #it}
-use Rattle.html_queue.specs.contracts.taken.Taken.of as it
-use Rattle.html_queue.proofs.taken.Taken.of.Statement as stated
-use Rattle.html_queue.proofs.taken.Taken.of.Code as code
+use Rattle.markup.specs.declared.count.Count.{Count}
+use Rattle.markup.specs.contracts.count.Count as T
+use Rattle.markup.specs.contracts.count.Count.of.Key.{name as #it}
+use Rattle.markup.specs.contracts.count.Count.of as it
+use Rattle.markup.proofs.count.Count.of.Statement as stated
+use Rattle.markup.proofs.count.Count.of.Code as code
 
 abbrev v : Val
 v = vstruct (vcons (vstruct vnil) vnil)
@@ -50,7 +50,7 @@ module _ {M : Type 1} {𝓤 : Ura M} (𝓛 : Logic 𝓤) (at_mem : Memory → SP
   abbrev x : Arg
   x = (s, tt)
 
-  abbrev r : Taken
+  abbrev r : Count
   r = record { marker = record {}; count = length (chars s.now) }
 
   abbrev at : List Val × Unit {0}
