@@ -24,8 +24,8 @@ pub use html_parser::{
 pub use html_serialize::{HtmlSerializer, SerializeOpts, serialize};
 pub use html_standard_references::standard;
 pub use html_tokenizer::{
-    BufferQueue, Counting, Doctype, Listed, ProcessResult, ReferenceRow, References, State,
-    TableFault, Tag, TagKind, Token, TokenSink, TokenSinkResult, Tokenizer, TokenizerOpts, Told,
+    BufferQueue, Counting, Doctype, Listed, ListedToken, ProcessResult, ReferenceRow, References,
+    State, TableFault, Tag, TagKind, Token, TokenSink, TokenSinkResult, Tokenizer, TokenizerOpts,
 };
 pub use markup::{
     Attribute, Attributes, ElementFlags, KnownNamespace, LocalName, Namespace, NodeOrText,

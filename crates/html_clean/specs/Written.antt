@@ -3,7 +3,7 @@ use Rattle.std.specs.Prelude.{◌≡◌, true, List, [], Result, IfOk, encode_ut
 use Rattle.markup.specs.Trees.{Trees}
 use Rattle.markup.specs.declared.serializer.SerializeFault.{SerializeFault}
 use Rattle.html_clean.specs.Pieces.{Piece, written_pieces}
-use Rattle.html_serialize.specs.Puts.{Told}
+use Rattle.html_serialize.specs.Puts.{WriterView}
 use Rattle.html_serialize.specs.Serializing.{Writes}
 use Rattle.html_clean.specs.Cleaned.{are_kept_pieces, cleaned, is_balanced, pieces_of}
 use Rattle.html_clean.specs.Counts.{counts_of}
@@ -17,7 +17,7 @@ pub record IsLeft (policy : Policy) (trees : Trees) (pieces : List Piece) : Type
   pub balanced : is_balanced pieces [] ≡ true
 
 -- They were written, and what was taken away is counted; or a beginning of them, and then a write failed or memory was wanted.
-pub record WritesClean (policy : Policy) (trees : Trees) (old : Told) (result : Result Cleaned SerializeFault) (new : Told) : Type 0 where
+pub record WritesClean (policy : Policy) (trees : Trees) (old : WriterView) (result : Result Cleaned SerializeFault) (new : WriterView) : Type 0 where
   pub pieces : List Piece
   pub left : IsLeft policy trees pieces
   pub writes : Writes (encode_utf8_all (written_pieces pieces)) old result new

@@ -18,24 +18,24 @@ use Rattle.html_normal.specs.Faults.{write_fault_of}
 use Rattle.html_normal.specs.Fragment.{IsFragmentRead}
 use Rattle.html_normal.specs.Normal.{CountsReads, IsRead, is_write_fault}
 use Rattle.html_normal.proofs.SameTrees.{trees_of-same}
-use Rattle.html_serialize.specs.Puts.{Told}
+use Rattle.html_serialize.specs.Puts.{WriterView}
 use Rattle.html_tokens.specs.Table.{Row}
 use Rattle.html_clean_document.specs.Clean.{IsCleaned, IsDocumentOf, IsFailed, IsFragmentOf, fragment_trees, root_of}
 
 -- WHAT WAS WRITTEN
 
 module _ (of : List ℕ → Trees → Type 0) (policy : Policy) (trees : Trees) where
-  pub was-cleaned : (whole : List ℕ) (left : Option (List ℕ)) (old new : Told) (counts : Cleaned) → of whole trees → left ≡ Some [] → WritesClean policy trees old (Ok counts) new
+  pub was-cleaned : (whole : List ℕ) (left : Option (List ℕ)) (old new : WriterView) (counts : Cleaned) → of whole trees → left ≡ Some [] → WritesClean policy trees old (Ok counts) new
       → IsCleaned of policy whole left old.written new.written counts
   was-cleaned whole left old new counts is taken wrote = record {
     pieces = wrote.pieces;
     kept = record { trees = trees; input = is; left = wrote.left };
     taken = taken;
-    output = ap (λ (t : Told). t.written) wrote.writes;
+    output = ap (λ (t : WriterView). t.written) wrote.writes;
     counts_are = wrote.counts;
   }
 
-  pub write-failed : (fault : SerializeFault) (left left' : Option (List ℕ)) (old new : Told) → ((whole : List ℕ) → left ≡ Some whole → of whole trees) → WritesClean policy trees old (Err fault) new
+  pub write-failed : (fault : SerializeFault) (left left' : Option (List ℕ)) (old new : WriterView) → ((whole : List ℕ) → left ≡ Some whole → of whole trees) → WritesClean policy trees old (Err fault) new
       → IsFailed of policy left left' old.written new.written (write_fault_of fault)
   write-failed serial.Write left left' old new is wrote = λ whole told. record {
     pieces = wrote.pieces;
@@ -51,16 +51,16 @@ module _ (of : List ℕ → Trees → Type 0) (policy : Policy) (trees : Trees) 
     kept = record { trees = trees; input = is whole told; left = wrote.left };
     count = wrote.writes.count;
     within = wrote.writes.within;
-    output = ap (λ (t : Told). t.written) wrote.writes.told;
+    output = ap (λ (t : WriterView). t.written) wrote.writes.told;
   })
   write-failed serial.Failed left left' old new is wrote = absurd wrote.writes
 
   -- how often the writer failed
-  pub write-counted : (fault : SerializeFault) (old new : Told) → WritesClean policy trees old (Err fault) new → new.failures ≡ count_after (is_write_fault {T = Cleaned} (Err (write_fault_of fault))) old.failures
+  pub write-counted : (fault : SerializeFault) (old new : WriterView) → WritesClean policy trees old (Err fault) new → new.failures ≡ count_after (is_write_fault {T = Cleaned} (Err (write_fault_of fault))) old.failures
   write-counted serial.Write old new wrote = wrote.writes.failed
   write-counted serial.NoParent old new wrote = absurd wrote.writes
   write-counted serial.NoElemInfo old new wrote = absurd wrote.writes
-  write-counted serial.Memory old new wrote = ap (λ (t : Told). t.failures) wrote.writes.told
+  write-counted serial.Memory old new wrote = ap (λ (t : WriterView). t.failures) wrote.writes.told
   write-counted serial.Failed old new wrote = absurd wrote.writes
 
 -- a serializer reads nothing

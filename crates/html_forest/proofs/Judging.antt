@@ -13,7 +13,7 @@ use Rattle.markup.specs.declared.names.QualName.{QualName}
 use Rattle.html_plain.specs.Elements.{behind_element, behind_text, element_of, inside, may_end}
 use Rattle.html_plain.specs.Grammar.{is_plain, is_plain_start, is_some_and}
 use Rattle.html_plain.specs.declared.elements.PlainElement.{PlainElement}
-use Rattle.html_plain.specs.declared.place.Place.TheVariants.{BeforeRoot}
+use Rattle.html_plain.specs.declared.place.PlainPlace.TheVariants.{BeforeRoot}
 use Rattle.html_forest.specs.Judging.{AreChildrenTaken, Descends, GoesOn, IsAround, IsAscent, IsBehindComment, IsBehindDoctype, IsBehindText, IsElementTaken, IsTaken, Walk, are_levels_plain, is_left_plain, is_walk_plain, nodes_left, plain_by, trees_behind, trees_by, waiting_nodes, around_of, goes_on_at, is_plain_at, opens_here, takes_comment_here, takes_here}
 use Rattle.html_forest.specs.declared.plain.Level.{Level}
 use Rattle.html_forest.specs.declared.plain.Stand.{Stand}

@@ -12,7 +12,7 @@ use crate::forest::Forest;
 use crate::node::{AttributesRef, NodeData, NodeId, TextRef};
 use html_plain::attributes::are_plain_attributes;
 use html_plain::texts::{is_plain_comment, is_plain_doctype, is_plain_text, takes_text};
-use html_plain::{Place, PlainElement};
+use html_plain::{PlainElement, PlainPlace};
 use markup::{ParseFault, QualName};
 use std::alloc::Global;
 use std::mem;
@@ -20,7 +20,7 @@ use std::mem;
 /// Where the next node stands, and whether a text stands just before it.
 #[derive(Clone, Copy, Debug)]
 pub(crate) struct Stand {
-    pub place: Place,
+    pub place: PlainPlace,
     pub after_text: bool,
 }
 
@@ -102,7 +102,7 @@ impl Stand {
     {
         if self.opens(name, public_id, system_id) {
             Some(Stand {
-                place: Place::BeforeRoot,
+                place: PlainPlace::BeforeRoot,
                 after_text: false,
             })
         } else {
@@ -315,7 +315,7 @@ pub(crate) fn is_plain(forest: &Forest, alloc: Global, document: NodeId) -> Resu
 {
     let mut judge = Judge {
         stand: Stand {
-            place: Place::BeforeDoctype,
+            place: PlainPlace::BeforeDoctype,
             after_text: false,
         },
         rest: forest.children(document),

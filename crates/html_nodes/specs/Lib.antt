@@ -1,4 +1,4 @@
 pub mod Below
 pub mod Looks
 pub mod Laws
-pub mod Told
+pub mod Calls

@@ -6,7 +6,7 @@ ghost use Rattle.markup.specs.Calls.{calls_of};
 ghost use Rattle.markup.specs.declared.serializer.SerializeFault.TheVariants.{Memory};
 ghost use Rattle.markup.specs.declared.serializer.TraversalScope.TheVariants.{ChildrenOnly};
 ghost use Rattle.html_forest.specs.Walk.{walked};
-ghost use Rattle.html_nodes.specs.Told.{all_told, no_name, told};
+ghost use Rattle.html_nodes.specs.Calls.{all_told, no_name, told};
 
 use html_forest::{Forest, ForestNode, NodeId};
 use markup::{
@@ -17,7 +17,7 @@ use std::alloc::Global;
 
 /// A call of a serializer. What it doesn't have is empty.
 #[derive(Drop)]
-pub(crate) struct Told {
+pub(crate) struct Call {
     kind: u8,
     name: QualName,
     attributes: Attributes,
@@ -25,15 +25,15 @@ pub(crate) struct Told {
     more: Text,
 }
 
-impl PartialEq for Told {
+impl PartialEq for Call {
     ghost use Rattle.std.specs.Cmp.{partial_equiv_from_equiv};
-    ghost use Rattle.html_nodes.specs.Told.{same_told, told_equivalence};
+    ghost use Rattle.html_nodes.specs.Calls.{same_told, told_equivalence};
 
     ghost eq = { same_told };
 
     ghost laws = { partial_equiv_from_equiv told_equivalence };
 
-    fn eq(&self, other: &Told) -> bool {
+    fn eq(&self, other: &Call) -> bool {
         self.kind == other.kind
             && self.name == other.name
             && self.attributes == other.attributes
@@ -46,7 +46,7 @@ impl PartialEq for Told {
 #[derive(Drop)]
 struct Keeper {
     alloc: Global,
-    told: Vec<Told>,
+    told: Vec<Call>,
 }
 
 impl Keeper {
@@ -64,7 +64,7 @@ impl Keeper {
             return Err(SerializeFault::Memory);
         };
         let attributes = copied(self.alloc, attrs)?;
-        self.told.push(Told {
+        self.told.push(Call {
             kind,
             name,
             attributes,
@@ -81,7 +81,7 @@ impl Keeper {
     {
         let text = text_of(self.alloc, text)?;
         let name = QualName::new(None, Namespace::none(), LocalName::empty(self.alloc));
-        self.told.push(Told {
+        self.told.push(Call {
             kind,
             name,
             attributes: Attributes::new(self.alloc),
@@ -120,10 +120,10 @@ fn text_of(alloc: Global, text: &str) -> Result<Text, SerializeFault>
 
 impl Serializer for Keeper {
     ghost use Rattle.std.specs.Prelude.{List};
-    ghost use Rattle.html_nodes.specs.Told.{kept};
-    ghost use Rattle.html_nodes.specs.declared.alike.Told.{Told};
+    ghost use Rattle.html_nodes.specs.Calls.{kept};
+    ghost use Rattle.html_nodes.specs.declared.alike.Call.{Call};
 
-    ghost State = { List Told };
+    ghost State = { List Call };
 
     ghost view = { λ keeper. keeper.told.items };
 
@@ -165,7 +165,7 @@ impl Serializer for Keeper {
 }
 
 // All that a serializer is told of what stands in a node.
-fn told_below(alloc: Global, forest: &Forest, id: NodeId) -> Result<Vec<Told>, SerializeFault>
+fn told_below(alloc: Global, forest: &Forest, id: NodeId) -> Result<Vec<Call>, SerializeFault>
     ensures { IfOk result (λ made. made.items ≡ all_told (calls_of (walked forest.now id (ChildrenOnly None)))) }
 {
     let mut keeper = Keeper {

@@ -23,7 +23,7 @@ use Rattle.html_parser.specs.Documents.{IsBuilt, builder, of_document}
 use Rattle.html_parser.specs.Read.{Beginning, FailsBehind, HasRead, IsRefusedBehind, IsTaken, RisesTo, owed_by, read_whole}
 use Rattle.html_plain.specs.Grammar.{is_plain_forest}
 use Rattle.html_rules.specs.Documents.{Setting}
-use Rattle.html_serialize.specs.Puts.{Told, with_bytes}
+use Rattle.html_serialize.specs.Puts.{WriterView, with_bytes}
 use Rattle.html_serialize.specs.Serializing.{Writes, bytes_in}
 use Rattle.html_serialize.specs.declared.opts.SerializeOpts.{SerializeOpts}
 use Rattle.html_tokens.specs.Table.{Row}
@@ -138,14 +138,14 @@ module _ (opts : SerializeOpts) (f g : Forest) (id : ℕ) (opts_is : opts ≡ re
       ∙ bytes-walked f top ∙ ap document_bytes forest_is ∙ sym (bytes-same 0 g)
 
   -- the document was written, and the report is of it
-  pub normalised : (table : List Row) (exact : Bool) (whole : List ℕ) (left : Option (List ℕ)) (old new : Told) (plain : Bool) (mode : QuirksMode) (errors : ℕ)
+  pub normalised : (table : List Row) (exact : Bool) (whole : List ℕ) (left : Option (List ℕ)) (old new : WriterView) (plain : Bool) (mode : QuirksMode) (errors : ℕ)
       → IsRead table exact whole left (with_errors 0 g) g.errors → new ≡ with_bytes old (given_bytes opts f id) → plain ≡ is_plain_forest g → mode ≡ f.quirks → errors ≡ f.errors
       → IsNormalised table exact whole left old.written new.written (report_with plain mode errors)
   normalised table exact whole left old new plain mode errors read wrote plain_is mode_is errors_is = record {
     document = with_errors 0 g;
     input = read.input;
     taken = read.taken;
-    output = ap (λ (t : Told). t.written) wrote ∙ ap (append_known old.written) given_bytes-are;
+    output = ap (λ (t : WriterView). t.written) wrote ∙ ap (append_known old.written) given_bytes-are;
     plain = plain_is ∙ sym (plain-same 0 g);
     quirks = mode_is ∙ ap (λ (h : Forest). h.quirks) forest_is;
     errors = subst (λ (n : ℕ). CountsErrors table exact (chars whole) n) (sym (errors_is ∙ ap (λ (h : Forest). h.errors) forest_is)) read.counts;
@@ -162,21 +162,21 @@ module _ (opts : SerializeOpts) (f g : Forest) (id : ℕ) (opts_is : opts ≡ re
   }
 
   -- a fault of the serializer
-  pub write-failed : (table : List Row) (exact : Bool) (fault : SerializeFault) (left left' : Option (List ℕ)) (old new : Told)
+  pub write-failed : (table : List Row) (exact : Bool) (fault : SerializeFault) (left left' : Option (List ℕ)) (old new : WriterView)
       → ((whole : List ℕ) → left ≡ Some whole → IsRead table exact whole left' (with_errors 0 g) g.errors) → Writes {R = Unit {0}} (given_bytes opts f id) old (Err fault) new
       → IsFailed table left left' old.written new.written (write_fault_of fault)
   write-failed table exact serial.Write left left' old new read wrote = λ whole told. begun table exact whole left' old.written new.written wrote.count (read whole told) wrote.within wrote.written
   write-failed table exact serial.NoParent left left' old new read wrote = absurd wrote
   write-failed table exact serial.NoElemInfo left left' old new read wrote = absurd wrote
-  write-failed table exact serial.Memory left left' old new read wrote = inr (λ whole told. begun table exact whole left' old.written new.written wrote.count (read whole told) wrote.within (ap (λ (t : Told). t.written) wrote.told))
+  write-failed table exact serial.Memory left left' old new read wrote = inr (λ whole told. begun table exact whole left' old.written new.written wrote.count (read whole told) wrote.within (ap (λ (t : WriterView). t.written) wrote.told))
   write-failed table exact serial.Failed left left' old new read wrote = absurd wrote
 
 -- how often the writer failed, where a serializer did
-pub writes-counted : (T : Type 0) (fault : SerializeFault) (bytes : List ℕ) (old new : Told) → Writes {R = Unit {0}} bytes old (Err fault) new → new.failures ≡ count_after (is_write_fault {T = T} (Err (write_fault_of fault))) old.failures
+pub writes-counted : (T : Type 0) (fault : SerializeFault) (bytes : List ℕ) (old new : WriterView) → Writes {R = Unit {0}} bytes old (Err fault) new → new.failures ≡ count_after (is_write_fault {T = T} (Err (write_fault_of fault))) old.failures
 writes-counted T serial.Write bytes old new wrote = wrote.failed
 writes-counted T serial.NoParent bytes old new wrote = absurd wrote
 writes-counted T serial.NoElemInfo bytes old new wrote = absurd wrote
-writes-counted T serial.Memory bytes old new wrote = ap (λ (t : Told). t.failures) wrote.told
+writes-counted T serial.Memory bytes old new wrote = ap (λ (t : WriterView). t.failures) wrote.told
 writes-counted T serial.Failed bytes old new wrote = absurd wrote
 
 -- a serializer reads nothing

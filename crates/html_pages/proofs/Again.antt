@@ -10,7 +10,7 @@ use Rattle.markup.specs.Trees.{inner_of}
 use Rattle.markup.specs.declared.serializer.TraversalScope.TheVariants.{ChildrenOnly}
 use Rattle.html_forest.specs.Walk.{walked}
 use Rattle.html_rules.specs.State.{State}
-use Rattle.html_serialize.specs.Puts.{Told, with_bytes}
+use Rattle.html_serialize.specs.Puts.{WriterView, with_bytes}
 use Rattle.html_serialize.specs.Serializing.{bytes_in}
 use Rattle.html_serialize.specs.declared.opts.SerializeOpts.{SerializeOpts}
 use Rattle.html_tokens.specs.Sink.{Refusal}
@@ -55,11 +55,11 @@ bytes_known None = []
 bytes_known (Some bytes) = bytes
 
 -- what was written of the document, with default options, to who had nothing
-pub written-bytes : (f : Forest) (id : ℕ) (opts : SerializeOpts) (old new : Told) (bytes : List ℕ) → data_of f 0 ≡ Document → id ≡ 0 → opts ≡ record { scripting_enabled = true; traversal_scope = ChildrenOnly None; create_missing_parent = false }
+pub written-bytes : (f : Forest) (id : ℕ) (opts : SerializeOpts) (old new : WriterView) (bytes : List ℕ) → data_of f 0 ≡ Document → id ≡ 0 → opts ≡ record { scripting_enabled = true; traversal_scope = ChildrenOnly None; create_missing_parent = false }
     → old.written ≡ Some [] → new ≡ with_bytes old (given opts f id) → new.written ≡ Some bytes → bytes ≡ document_bytes f
 unfolding bytes_known
 written-bytes f id opts old new bytes top id_is opts_is none wrote told =
     let all : given opts f id ≡ document_bytes f =
     ap (λ (o : SerializeOpts). given o f id) opts_is
     ∙ (ap (λ n. bytes_in true (ChildrenOnly None) (walked f n (ChildrenOnly None))) id_is ∙ bytes-walked f top) in
-    ap bytes_known (sym told ∙ (ap (λ (t : Told). t.written) wrote ∙ ap (λ (o : Option (List ℕ)). append_known o (given opts f id)) none)) ∙ all
+    ap bytes_known (sym told ∙ (ap (λ (t : WriterView). t.written) wrote ∙ ap (λ (o : Option (List ℕ)). append_known o (given opts f id)) none)) ∙ all

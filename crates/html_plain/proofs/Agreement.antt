@@ -10,11 +10,11 @@ use Rattle.markup.specs.declared.names.QualName.{QualName}
 use Rattle.html_plain.specs.Elements.{behind_element, behind_text, element_of, holds, html_name, inside, spelled, takes_comments, text_kind}
 use Rattle.html_plain.specs.Grammar.{IsPlain, are_plain_attributes, is_empty, is_first, is_plain, is_plain_comment, is_plain_doctype, is_plain_start, is_plain_text, is_some_and, takes_text}
 use Rattle.html_plain.specs.declared.elements.PlainElement.{PlainElement}
-use Rattle.html_plain.specs.declared.place.Place.{Place}
-use Rattle.html_plain.specs.declared.place.Place.TheVariants as place
+use Rattle.html_plain.specs.declared.place.PlainPlace.{PlainPlace}
+use Rattle.html_plain.specs.declared.place.PlainPlace.TheVariants as place
 use Rattle.html_plain.proofs.Names.{element-named, named-element}
 
-first-is : (pl : Place) → is_first pl ≡ true → pl ≡ place.BeforeDoctype
+first-is : (pl : PlainPlace) → is_first pl ≡ true → pl ≡ place.BeforeDoctype
 first-is place.BeforeDoctype h = refl
 first-is place.BeforeRoot h = absurd cc
 first-is place.BehindRoot h = absurd cc
@@ -39,7 +39,7 @@ empty-is (c ∷ t) h = absurd cc
 
 -- COMPUTED, BY CASES
 
-element-cases : (pl : Place) (name : QualName) (attributes : List Attribute) (template : Bool) (kids rest : Trees) (o : Option PlainElement) → element_of name ≡ o
+element-cases : (pl : PlainPlace) (name : QualName) (attributes : List Attribute) (template : Bool) (kids rest : Trees) (o : Option PlainElement) → element_of name ≡ o
     → ((k : PlainElement) → is_plain (inside pl k) false kids ≡ true → IsPlain (inside pl k) false kids) → (is_plain (behind_element pl) false rest ≡ true → IsPlain (behind_element pl) false rest)
     → is_some_and o (λ k. is_plain_start pl attributes template k && (is_plain (inside pl k) false kids && is_plain (behind_element pl) false rest)) ≡ true
     → IsPlain pl false (Element name attributes template kids rest)
@@ -51,7 +51,7 @@ element-cases pl name attributes template kids rest (Some k) e f g h =
     let u = and_parts (not template) (are_plain_attributes attributes) r.1 in
     (k, (element-named name k e, not-true template u.0, r.0, u.1, f k q.0, g q.1))
 
-pub computed-cases : (pl : Place) (after_text : Bool) (trees : Trees) → is_plain pl after_text trees ≡ true → IsPlain pl after_text trees
+pub computed-cases : (pl : PlainPlace) (after_text : Bool) (trees : Trees) → is_plain pl after_text trees ≡ true → IsPlain pl after_text trees
 unfolding is_plain
 computed-cases pl after_text Nothing h = h
 computed-cases pl after_text (Text text rest) h =
@@ -75,13 +75,13 @@ computed-cases pl after_text (Element name attributes template kids rest) h =
 
 -- BY CASES, COMPUTED
 
-element-computed : (pl : Place) (name : QualName) (attributes : List Attribute) (template : Bool) (inner outer : PlainElement → Bool) (k : PlainElement) → name ≡ html_name (spelled k) → template ≡ false → holds pl k ≡ true → are_plain_attributes attributes ≡ true → inner k ≡ true → outer k ≡ true
+element-computed : (pl : PlainPlace) (name : QualName) (attributes : List Attribute) (template : Bool) (inner outer : PlainElement → Bool) (k : PlainElement) → name ≡ html_name (spelled k) → template ≡ false → holds pl k ≡ true → are_plain_attributes attributes ≡ true → inner k ≡ true → outer k ≡ true
     → is_some_and (element_of name) (λ k. is_plain_start pl attributes template k && (inner k && outer k)) ≡ true
 element-computed pl name attributes template inner outer k e t h a i o =
     ap (λ n. is_some_and (element_of n) (λ k. is_plain_start pl attributes template k && (inner k && outer k))) e
     ∙ (ap (λ n. is_some_and n (λ k. is_plain_start pl attributes template k && (inner k && outer k))) (named-element k) ∙ (rw (t, h, a, i, o) refl))
 
-pub cases-computed : (pl : Place) (after_text : Bool) (trees : Trees) → IsPlain pl after_text trees → is_plain pl after_text trees ≡ true
+pub cases-computed : (pl : PlainPlace) (after_text : Bool) (trees : Trees) → IsPlain pl after_text trees → is_plain pl after_text trees ≡ true
 unfolding is_plain
 cases-computed pl after_text Nothing h = h
 cases-computed pl after_text (Text text rest) h = rw (h.0, h.1, h.2) (cases-computed (behind_text pl) true rest h.3)

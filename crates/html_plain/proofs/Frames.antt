@@ -10,8 +10,8 @@ use Rattle.html_plain.specs.Frames.{AreDocumentsFramed, text_before}
 use Rattle.html_plain.specs.Grammar.{IsPlain, are_plain_attributes, is_plain_text, is_white}
 use Rattle.html_plain.specs.declared.elements.PlainElement.{PlainElement}
 use Rattle.html_plain.specs.declared.elements.PlainElement.TheVariants.{Html, Head, Body}
-use Rattle.html_plain.specs.declared.place.Place.{Place}
-use Rattle.html_plain.specs.declared.place.Place.TheVariants.{BeforeRoot, BehindRoot, BeforeHead, BehindHead, BeforeBody, BehindBody, InFlow, InHead}
+use Rattle.html_plain.specs.declared.place.PlainPlace.{PlainPlace}
+use Rattle.html_plain.specs.declared.place.PlainPlace.TheVariants.{BeforeRoot, BehindRoot, BeforeHead, BehindHead, BeforeBody, BehindBody, InFlow, InHead}
 
 html-only : (k : PlainElement) → holds BeforeRoot k ≡ true → k ≡ Html
 html-only Html h = refl
@@ -30,14 +30,14 @@ body-behind_head Body h = refl
 body-behind_head k h = absurd cc
 
 -- what is known of an element where only one may stand
-record IsOne (pl : Place) (j : PlainElement) (name : QualName) (attributes : List Attribute) (template : Bool) (kids rest : Trees) : Type 0 where
+record IsOne (pl : PlainPlace) (j : PlainElement) (name : QualName) (attributes : List Attribute) (template : Bool) (kids rest : Trees) : Type 0 where
   called : name ≡ html_name (spelled j)
   ordinary : template ≡ false
   tagged : are_plain_attributes attributes ≡ true
   within : IsPlain (inside pl j) false kids
   behind : IsPlain (behind_element pl) false rest
 
-one : (pl : Place) (j : PlainElement) → ((k : PlainElement) → holds pl k ≡ true → k ≡ j) → (b : Bool) (name : QualName) (attributes : List Attribute) (template : Bool) (kids rest : Trees) → IsPlain pl b (Element name attributes template kids rest) → IsOne pl j name attributes template kids rest
+one : (pl : PlainPlace) (j : PlainElement) → ((k : PlainElement) → holds pl k ≡ true → k ≡ j) → (b : Bool) (name : QualName) (attributes : List Attribute) (template : Bool) (kids rest : Trees) → IsPlain pl b (Element name attributes template kids rest) → IsOne pl j name attributes template kids rest
 one pl j only b name attributes template kids rest h =
     let k = h.0 in
     let w = h.1 in

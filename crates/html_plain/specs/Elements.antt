@@ -13,10 +13,10 @@ use Rattle.html_plain.specs.declared.elements.ListKind.{ListKind}
 use Rattle.html_plain.specs.declared.elements.ListKind.TheVariants.{Unordered, Ordered}
 use Rattle.html_plain.specs.declared.elements.PlainElement.{PlainElement}
 use Rattle.html_plain.specs.declared.elements.PlainElement.TheVariants.{Html, Head, Title, Body, Paragraph, Heading, Division, List as ListElement, Item, Table, TableBody, Row, Cell, Break, Formatted, Link}
-use Rattle.html_plain.specs.declared.place.Place.{Place}
+use Rattle.html_plain.specs.declared.place.PlainPlace.{PlainPlace}
 use Rattle.html_plain.specs.declared.place.TextKind.{TextKind}
 use Rattle.html_plain.specs.declared.place.TextKind.TheVariants.{NoText, WhiteSpace, AnyText}
-use Rattle.html_plain.specs.declared.place.Place.TheVariants.{BeforeDoctype, BeforeRoot, BehindRoot, BeforeHead, BehindHead, BeforeBody, BehindBody, InHead, BehindTitle, InTitle, InFlow, InLine, InList, InTable, InTableBody, InRow, InBreak}
+use Rattle.html_plain.specs.declared.place.PlainPlace.TheVariants.{BeforeDoctype, BeforeRoot, BehindRoot, BeforeHead, BehindHead, BeforeBody, BehindBody, InHead, BehindTitle, InTitle, InFlow, InLine, InList, InTable, InTableBody, InRow, InBreak}
 
 -- NAMES
 
@@ -112,7 +112,7 @@ is_cell (Cell kind) = true
 is_cell _ = false
 
 -- whether an element may stand here
-abbrev pub holds : Place → PlainElement → Bool
+abbrev pub holds : PlainPlace → PlainElement → Bool
 holds BeforeRoot Html = true
 holds BeforeHead Head = true
 holds BehindHead Body = true
@@ -126,12 +126,12 @@ holds InTableBody Row = true
 holds InRow k = is_cell k
 holds place k = false
 
-abbrev pub is_in_link : Place → Bool
+abbrev pub is_in_link : PlainPlace → Bool
 is_in_link (InLine in_link) = in_link
 is_in_link _ = false
 
 -- where the children of an element stand that stands here
-abbrev pub inside : Place → PlainElement → Place
+abbrev pub inside : PlainPlace → PlainElement → PlainPlace
 inside place Html = BeforeHead
 inside place Head = InHead
 inside place Title = InTitle
@@ -150,7 +150,7 @@ inside place (Formatted format) = InLine (is_in_link place)
 inside place Link = InLine true
 
 -- where the next node stands behind an element that stands here
-abbrev pub behind_element : Place → Place
+abbrev pub behind_element : PlainPlace → PlainPlace
 behind_element BeforeRoot = BehindRoot
 behind_element BeforeHead = BehindHead
 behind_element BehindHead = BehindBody
@@ -159,12 +159,12 @@ behind_element InHead = BehindTitle
 behind_element place = place
 
 -- and behind a text
-abbrev pub behind_text : Place → Place
+abbrev pub behind_text : PlainPlace → PlainPlace
 behind_text BehindHead = BeforeBody
 behind_text place = place
 
 -- which texts may stand in a place
-abbrev pub text_kind : Place → TextKind
+abbrev pub text_kind : PlainPlace → TextKind
 text_kind BehindHead = WhiteSpace
 text_kind InHead = WhiteSpace
 text_kind BehindTitle = WhiteSpace
@@ -178,12 +178,12 @@ text_kind InRow = WhiteSpace
 text_kind _ = NoText
 
 -- whether comments may stand in a place
-abbrev pub takes_comments : Place → Bool
+abbrev pub takes_comments : PlainPlace → Bool
 takes_comments InFlow = true
 takes_comments _ = false
 
 -- whether the children may end here
-abbrev pub may_end : Place → Bool
+abbrev pub may_end : PlainPlace → Bool
 may_end BeforeDoctype = false
 may_end BeforeRoot = false
 may_end BeforeHead = false

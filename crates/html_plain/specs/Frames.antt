@@ -5,7 +5,7 @@ use Rattle.markup.specs.Trees.{Trees, Nothing, Text, Doctype, Element}
 use Rattle.markup.specs.declared.attributes.Attribute.{Attribute}
 use Rattle.html_plain.specs.Elements.{html_name}
 use Rattle.html_plain.specs.Grammar.{IsPlain, IsPlainDocument, are_plain_attributes, is_white}
-use Rattle.html_plain.specs.declared.place.Place.TheVariants.{InFlow, InHead}
+use Rattle.html_plain.specs.declared.place.PlainPlace.TheVariants.{InFlow, InHead}
 
 -- the attributes of `html`, `head` and `body`, what stands in the last two, and the white space between them
 pub record Frame : Type 0 where

@@ -13,8 +13,8 @@ use Rattle.html_plain.specs.Elements.{behind_element, behind_text, element_of, h
 use Rattle.html_plain.specs.declared.place.TextKind.{TextKind}
 use Rattle.html_plain.specs.declared.place.TextKind.TheVariants.{NoText, WhiteSpace, AnyText}
 use Rattle.html_plain.specs.declared.elements.PlainElement.{PlainElement}
-use Rattle.html_plain.specs.declared.place.Place.{Place}
-use Rattle.html_plain.specs.declared.place.Place.TheVariants.{BeforeDoctype, BeforeRoot}
+use Rattle.html_plain.specs.declared.place.PlainPlace.{PlainPlace}
+use Rattle.html_plain.specs.declared.place.PlainPlace.TheVariants.{BeforeDoctype, BeforeRoot}
 
 -- TEXTS AND ATTRIBUTES
 
@@ -68,14 +68,14 @@ takes_text AnyText text = true
 abbrev pub is_plain_doctype : List ℕ → List ℕ → List ℕ → Bool
 is_plain_doctype name public_id system_id = bytes_eq name (codes "html") && (is_empty public_id && is_empty system_id)
 
-abbrev pub is_first : Place → Bool
+abbrev pub is_first : PlainPlace → Bool
 is_first BeforeDoctype = true
 is_first _ = false
 
 -- TREES, BY CASES
 
 -- trees in a place, of which the first is no text if a text stands before them
-abbrev pub IsPlain : Place → Bool → Trees → Type 0
+abbrev pub IsPlain : PlainPlace → Bool → Trees → Type 0
 IsPlain place after_text Nothing = may_end place ≡ true
 IsPlain place after_text (Text text rest) = (after_text ≡ false) × (is_plain_text text ≡ true) × (takes_text (text_kind place) text ≡ true) × IsPlain (behind_text place) true rest
 IsPlain place after_text (Comment text rest) = (takes_comments place ≡ true) × (is_plain_comment text ≡ true) × IsPlain place false rest
@@ -97,10 +97,10 @@ is_some_and None test = false
 is_some_and (Some k) test = test k
 
 -- whether an element may stand in a place, apart from what stands in it
-abbrev pub is_plain_start : Place → List Attribute → Bool → PlainElement → Bool
+abbrev pub is_plain_start : PlainPlace → List Attribute → Bool → PlainElement → Bool
 is_plain_start place attributes template k = holds place k && (not template && are_plain_attributes attributes)
 
-unfoldable pub is_plain : Place → Bool → Trees → Bool
+unfoldable pub is_plain : PlainPlace → Bool → Trees → Bool
 is_plain place after_text Nothing = may_end place
 is_plain place after_text (Text text rest) = (not after_text && (is_plain_text text && takes_text (text_kind place) text)) && is_plain (behind_text place) true rest
 is_plain place after_text (Comment text rest) = (takes_comments place && is_plain_comment text) && is_plain place false rest

@@ -7,11 +7,11 @@ use Rattle.html_plain.specs.Elements.{html_name, spelled}
 use Rattle.html_plain.specs.Grammar.{IsPlain, is_plain}
 use Rattle.html_plain.specs.declared.elements.PlainElement.{PlainElement}
 use Rattle.html_plain.specs.declared.elements.PlainElement.TheVariants.{Break}
-use Rattle.html_plain.specs.declared.place.Place.{Place}
+use Rattle.html_plain.specs.declared.place.PlainPlace.{PlainPlace}
 
 -- the grammar by cases, and as it is computed, have the same trees
 abbrev pub IsGrammarComputed : Type 0
-IsGrammarComputed = (place : Place) (after_text : Bool) (trees : Trees) → (is_plain place after_text trees ≡ true) ↔ IsPlain place after_text trees
+IsGrammarComputed = (place : PlainPlace) (after_text : Bool) (trees : Trees) → (is_plain place after_text trees ≡ true) ↔ IsPlain place after_text trees
 
 -- what is written of trees, whether scripts run or not
 abbrev pub text_of : Bool → Trees → List ℕ

@@ -12,4 +12,4 @@ pub mod rows;
 pub mod texts;
 
 pub use elements::{CellKind, Format, Level, ListKind, PlainElement};
-pub use place::{Place, TextKind};
+pub use place::{PlainPlace, TextKind};

@@ -5,7 +5,7 @@ use crate::elements::PlainElement;
 
 /// Where a node of a plain document stands among its parent's children.
 #[derive(Clone, Copy, Debug, PartialEq, Eq)]
-pub enum Place {
+pub enum PlainPlace {
     /// First in a document: its doctype comes.
     BeforeDoctype,
     /// Behind the doctype: `html` comes.
@@ -56,7 +56,7 @@ pub enum TextKind {
     AnyText,
 }
 
-impl Place {
+impl PlainPlace {
     ghost use Rattle.html_plain.specs.Elements.{behind_element, behind_text, holds, inside, may_end, takes_comments, text_kind};
     ghost use Rattle.html_plain.specs.Grammar.{is_first};
 
@@ -65,64 +65,70 @@ impl Place {
         ensures { result ≡ holds self element }
     {
         match self {
-            Place::BeforeRoot => matches!(element, PlainElement::Html),
-            Place::BeforeHead => matches!(element, PlainElement::Head),
-            Place::BehindHead | Place::BeforeBody => matches!(element, PlainElement::Body),
-            Place::InHead => matches!(element, PlainElement::Title),
-            Place::InFlow => element.is_block() || element.is_inline(),
-            Place::InLine(in_link) => {
+            PlainPlace::BeforeRoot => matches!(element, PlainElement::Html),
+            PlainPlace::BeforeHead => matches!(element, PlainElement::Head),
+            PlainPlace::BehindHead | PlainPlace::BeforeBody => matches!(
+                element,
+                PlainElement::Body
+            ),
+            PlainPlace::InHead => matches!(element, PlainElement::Title),
+            PlainPlace::InFlow => element.is_block() || element.is_inline(),
+            PlainPlace::InLine(in_link) => {
                 element.is_inline() && !(in_link && matches!(element, PlainElement::Link))
             }
-            Place::InList => matches!(element, PlainElement::Item),
-            Place::InTable => matches!(element, PlainElement::TableBody),
-            Place::InTableBody => matches!(element, PlainElement::Row),
-            Place::InRow => matches!(element, PlainElement::Cell(_)),
+            PlainPlace::InList => matches!(element, PlainElement::Item),
+            PlainPlace::InTable => matches!(element, PlainElement::TableBody),
+            PlainPlace::InTableBody => matches!(element, PlainElement::Row),
+            PlainPlace::InRow => matches!(element, PlainElement::Cell(_)),
             _ => false,
         }
     }
 
     /// Where the children of an element stand that stands here.
-    pub fn inside(self, element: PlainElement) -> Place
+    pub fn inside(self, element: PlainElement) -> PlainPlace
         ensures { result ≡ inside self element }
     {
         match element {
-            PlainElement::Html => Place::BeforeHead,
-            PlainElement::Head => Place::InHead,
-            PlainElement::Title => Place::InTitle,
-            PlainElement::Paragraph | PlainElement::Heading(_) => Place::InLine(false),
+            PlainElement::Html => PlainPlace::BeforeHead,
+            PlainElement::Head => PlainPlace::InHead,
+            PlainElement::Title => PlainPlace::InTitle,
+            PlainElement::Paragraph | PlainElement::Heading(_) => PlainPlace::InLine(false),
             PlainElement::Body
             | PlainElement::Division
             | PlainElement::Item
-            | PlainElement::Cell(_) => Place::InFlow,
-            PlainElement::List(_) => Place::InList,
-            PlainElement::Table => Place::InTable,
-            PlainElement::TableBody => Place::InTableBody,
-            PlainElement::Row => Place::InRow,
-            PlainElement::Break => Place::InBreak,
-            PlainElement::Formatted(_) => Place::InLine(matches!(self, Place::InLine(true))),
-            PlainElement::Link => Place::InLine(true),
+            | PlainElement::Cell(_) => PlainPlace::InFlow,
+            PlainElement::List(_) => PlainPlace::InList,
+            PlainElement::Table => PlainPlace::InTable,
+            PlainElement::TableBody => PlainPlace::InTableBody,
+            PlainElement::Row => PlainPlace::InRow,
+            PlainElement::Break => PlainPlace::InBreak,
+            PlainElement::Formatted(_) => PlainPlace::InLine(matches!(
+                self,
+                PlainPlace::InLine(true)
+            )),
+            PlainElement::Link => PlainPlace::InLine(true),
         }
     }
 
     /// Where the next node stands behind an element that stands here.
-    pub fn behind_element(self) -> Place
+    pub fn behind_element(self) -> PlainPlace
         ensures { result ≡ behind_element self }
     {
         match self {
-            Place::BeforeRoot => Place::BehindRoot,
-            Place::BeforeHead => Place::BehindHead,
-            Place::BehindHead | Place::BeforeBody => Place::BehindBody,
-            Place::InHead => Place::BehindTitle,
+            PlainPlace::BeforeRoot => PlainPlace::BehindRoot,
+            PlainPlace::BeforeHead => PlainPlace::BehindHead,
+            PlainPlace::BehindHead | PlainPlace::BeforeBody => PlainPlace::BehindBody,
+            PlainPlace::InHead => PlainPlace::BehindTitle,
             place => place,
         }
     }
 
     /// Where the next node stands behind a text that stands here.
-    pub fn behind_text(self) -> Place
+    pub fn behind_text(self) -> PlainPlace
         ensures { result ≡ behind_text self }
     {
         match self {
-            Place::BehindHead => Place::BeforeBody,
+            PlainPlace::BehindHead => PlainPlace::BeforeBody,
             place => place,
         }
     }
@@ -132,14 +138,14 @@ impl Place {
         ensures { result ≡ text_kind self }
     {
         match self {
-            Place::InTitle | Place::InFlow | Place::InLine(_) => TextKind::AnyText,
-            Place::BehindHead
-            | Place::InHead
-            | Place::BehindTitle
-            | Place::InList
-            | Place::InTable
-            | Place::InTableBody
-            | Place::InRow => TextKind::WhiteSpace,
+            PlainPlace::InTitle | PlainPlace::InFlow | PlainPlace::InLine(_) => TextKind::AnyText,
+            PlainPlace::BehindHead
+            | PlainPlace::InHead
+            | PlainPlace::BehindTitle
+            | PlainPlace::InList
+            | PlainPlace::InTable
+            | PlainPlace::InTableBody
+            | PlainPlace::InRow => TextKind::WhiteSpace,
             _ => TextKind::NoText,
         }
     }
@@ -148,14 +154,14 @@ impl Place {
     pub fn takes_comments(self) -> bool
         ensures { result ≡ takes_comments self }
     {
-        matches!(self, Place::InFlow)
+        matches!(self, PlainPlace::InFlow)
     }
 
     /// Whether a doctype may stand here.
     pub fn is_first(self) -> bool
         ensures { result ≡ is_first self }
     {
-        matches!(self, Place::BeforeDoctype)
+        matches!(self, PlainPlace::BeforeDoctype)
     }
 
     /// Whether the children may end here.
@@ -164,11 +170,11 @@ impl Place {
     {
         !matches!(
             self,
-            Place::BeforeDoctype
-                | Place::BeforeRoot
-                | Place::BeforeHead
-                | Place::BehindHead
-                | Place::BeforeBody
+            PlainPlace::BeforeDoctype
+                | PlainPlace::BeforeRoot
+                | PlainPlace::BeforeHead
+                | PlainPlace::BehindHead
+                | PlainPlace::BeforeBody
         )
     }
 }

@@ -2,7 +2,7 @@
 use Rattle.std.specs.Prelude.{◌≡◌, ℕ, Bool, true, false, List, Option, Some, None, IfSome, Ok, codes}
 use Rattle.markup.specs.Forest.{Forest, above_of, data_of, element_name}
 use Rattle.markup.specs.Named.{IsTree}
-use Rattle.html_tokens.specs.Item.{Place, InRaw, InTag, Stand}
+use Rattle.html_tokens.specs.Item.{TextPlace, InRaw, InTag, Stand}
 use Rattle.html_tokens.specs.Items.{item}
 use Rattle.html_tokens.specs.Reading.{next_stand, said}
 use Rattle.html_tokens.specs.Sink.{Reply}
@@ -18,7 +18,7 @@ use Rattle.html_rules.specs.declared.insertion_mode.InsertionMode.TheVariants.{T
 use Rattle.html_rules_laws.specs.Soundness.{IsOwn}
 
 -- raw text, and inside of an end tag
-abbrev pub is_raw_place : Place → Bool
+abbrev pub is_raw_place : TextPlace → Bool
 is_raw_place (InRaw kind) = true
 is_raw_place (InTag tag) = is_end_tag tag.kind
 is_raw_place p = false

@@ -50,7 +50,7 @@ name_of_mode mode.AfterAfterBody = "after after body"
 name_of_mode mode.AfterAfterFrameset = "after after frameset"
 
 -- a token by its first character, or by its name
-pub record Told : Type 0 where
+pub record TokenMet : Type 0 where
   pub token : List ℕ
   pub turns : List Met
 
@@ -84,24 +84,24 @@ short EOFToken = codes "end"
 short t = []
 
 -- errors and doctypes take no turns
-abbrev told_of : Token → State → List Told
+abbrev told_of : Token → State → List TokenMet
 told_of (ParseError message) s = []
 told_of (DoctypeToken doctype) s = []
 told_of t s = record { token = short (first_of t); turns = turns_met 16 (first_of t) (set_ignore_lf false s) } ∷ []
 
 -- a sink that notes what tokens meet
-abbrev noting : State × List Told → Token → ℕ → Result ((State × List Told) × Reply) Refusal
+abbrev noting : State × List TokenMet → Token → ℕ → Result ((State × List TokenMet) × Reply) Refusal
 noting (s, told) t line = step s t line >>= λ p. Ok ((p.0, told ++ told_of t s), p.1)
 
-abbrev trace_by : Result (State × List Told) Refusal → List Told
+abbrev trace_by : Result (State × List TokenMet) Refusal → List TokenMet
 trace_by (Ok (s, told)) = told
 trace_by (Err refusal) = []
 
 -- what the tokens of a page meet, in their order
-abbrev pub trace : String → List Told
+abbrev pub trace : String → List TokenMet
 trace text = trace_by (reading noting (λ fault p. p) (λ p. asks_cdata p.0) (λ p. (ended p.0, p.1)) five (stand_of default_options) 0 (hushed (before_document default_setting empty_forest), []) (normal_text true (codes text)))
 
-abbrev told : String → List Met → Told
+abbrev told : String → List Met → TokenMet
 told token turns = record { token = codes token; turns = turns }
 
 -- a start tag of a paragraph where nothing is open yet, its text, a table, text in it, and the end

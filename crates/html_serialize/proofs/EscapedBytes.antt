@@ -120,19 +120,19 @@ of_space InText t = refl
 of_space InValue t = refl
 
 -- a character that is not escaped
-pub record IsPlain (c : ℕ) : Type 0 where
+pub record IsUnescaped (c : ℕ) : Type 0 where
   pub amp : c ≢ 0x26
   pub lt : c ≢ 0x3C
   pub gt : c ≢ 0x3E
   pub quote : c ≢ 0x22
   pub space : c ≢ 0xA0
 
-pub escaped-plain : (mode : Mode) (c : ℕ) → IsPlain c → escaped_in mode c ≡ c ∷ []
+pub escaped-plain : (mode : Mode) (c : ℕ) → IsUnescaped c → escaped_in mode c ≡ c ∷ []
 escaped-plain InText c is = rw (ne_eqb c 0x26 is.amp, ne_eqb c 0x3C is.lt, ne_eqb c 0x3E is.gt, ne_eqb c 0xA0 is.space) refl
 escaped-plain InValue c is = rw (ne_eqb c 0x22 is.quote, ne_eqb c 0x26 is.amp, ne_eqb c 0x3C is.lt, ne_eqb c 0x3E is.gt, ne_eqb c 0xA0 is.space) refl
 
 -- its bytes are written as they are
-bytes-plain : (mode : Mode) (c : ℕ) (t : List ℕ) → IsPlain c → escape_bytes mode false (encode c ++ t) ≡ encode c ++ escape_bytes mode false t
+bytes-plain : (mode : Mode) (c : ℕ) (t : List ℕ) → IsUnescaped c → escape_bytes mode false (encode c ++ t) ≡ encode c ++ escape_bytes mode false t
 unfolding encode
 bytes-plain mode c t is =
     elim (cases_lt c 128) [
@@ -166,7 +166,7 @@ bytes-plain mode c t is =
     behind : (bits : ℕ) (rest : List ℕ) → escape_bytes mode false (next bits ∷ rest) ≡ next bits ∷ escape_bytes mode false rest
     behind bits rest = as_is mode (next bits) rest (omega arith) (λ (lead : 128 + bits % 64 ≡ 194) _. absurd (omega arith))
 
-of_plain : (mode : Mode) (c : ℕ) (t : List ℕ) → IsPlain c → OfChar mode c t
+of_plain : (mode : Mode) (c : ℕ) (t : List ℕ) → IsUnescaped c → OfChar mode c t
 of_plain mode c t is =
     bytes-plain mode c t is ∙ ap (λ (xs : List ℕ). xs ++ escape_bytes mode false t) (sym (append-nil (encode c)) ∙ ap encode_utf8_all (sym (escaped-plain mode c is)))
 

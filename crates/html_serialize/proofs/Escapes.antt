@@ -7,10 +7,10 @@ use Rattle.std.proofs.lemmas.List.Folds.{list_all-append}
 use Rattle.markup.specs.Escape.{Mode, escape_in, escaped_in}
 use Rattle.markup.specs.Escape.Mode.{InText, InValue}
 use Rattle.html_serialize.specs.Laws.{is_harmless}
-use Rattle.html_serialize.proofs.EscapedBytes.{IsPlain, escaped-plain}
+use Rattle.html_serialize.proofs.EscapedBytes.{IsUnescaped, escaped-plain}
 
 -- a fact of each escaped character and one of all others is a fact of each character
-pub by_kind : (P : ℕ → Type 0) → P 0x26 → P 0x3C → P 0x3E → P 0x22 → P 0xA0 → ((c : ℕ) → IsPlain c → P c) → (c : ℕ) → P c
+pub by_kind : (P : ℕ → Type 0) → P 0x26 → P 0x3C → P 0x3E → P 0x22 → P 0xA0 → ((c : ℕ) → IsUnescaped c → P c) → (c : ℕ) → P c
 by_kind P amp lt gt quote space plain c =
     elim (cases_eq c 0x26) [
       | inl same ↦ rw same amp
@@ -56,7 +56,7 @@ record IsCut (mode : Mode) (c : ℕ) (rest : List ℕ) : Type 0 where
   char : first_char (escaped_in mode c ++ rest) ≡ c
   behind : behind_first (escaped_in mode c ++ rest) ≡ rest
 
-plain_cut : (mode : Mode) (rest : List ℕ) (c : ℕ) → IsPlain c → IsCut mode c rest
+plain_cut : (mode : Mode) (rest : List ℕ) (c : ℕ) → IsUnescaped c → IsCut mode c rest
 unfolding first_char behind_first char_by length_by
 plain_cut mode rest c is = record {
   char = rw (escaped-plain mode c is) (rw (ne_eqb c 0x26 is.amp) refl);

@@ -10,40 +10,40 @@ use Rattle.markup.specs.Trees.{Entry, Trees, Nothing, Text, Comment, ProcessingI
 use Rattle.markup.specs.declared.serializer.SerializeFault.{SerializeFault}
 use Rattle.markup.specs.declared.serializer.SerializeFault.TheVariants.{Write, NoParent, NoElemInfo, Memory, Failed}
 use Rattle.markup.specs.declared.serializer.TraversalScope.{TraversalScope}
-use Rattle.html_serialize.specs.Puts.{Told, with_bytes}
+use Rattle.html_serialize.specs.Puts.{WriterView, with_bytes}
 use Rattle.html_serialize.specs.Serializing.{Began, Serializes, Serializing, Writes, bytes_in, bytes_of, behind_stack, entry_for, map_ok, refuses, stack_behind, started, step}
 use Rattle.html_serialize.proofs.Putting.{Broke-behind, Broke-longer, with_bytes-append, with_bytes-none}
 
-abbrev with_text : Told → List ℕ → Told
+abbrev with_text : WriterView → List ℕ → WriterView
 with_text told text = with_bytes told (encode_utf8_all text)
 
-with_text-append : (told : Told) (first second : List ℕ) → with_text (with_text told first) second ≡ with_text told (first ++ second)
+with_text-append : (told : WriterView) (first second : List ℕ) → with_text (with_text told first) second ≡ with_text told (first ++ second)
 with_text-append told first second = with_bytes-append told (encode_utf8_all first) (encode_utf8_all second) ∙ ap (with_bytes told) (sym (encodes-append first second))
 
-with_text-four : (told : Told) (a b c d : List ℕ) → with_text (with_text (with_text (with_text told a) b) c) d ≡ with_text told (a ++ (b ++ (c ++ d)))
+with_text-four : (told : WriterView) (a b c d : List ℕ) → with_text (with_text (with_text (with_text told a) b) c) d ≡ with_text told (a ++ (b ++ (c ++ d)))
 with_text-four told a b c d = with_text-append (with_text (with_text told a) b) c d ∙ with_text-append (with_text told a) b (c ++ d) ∙ with_text-append told a (b ++ (c ++ d))
 
 -- a serializer that has not failed
-abbrev at : Bool → Bool → List Entry → Told → Serializing
+abbrev at : Bool → Bool → List Entry → WriterView → Serializing
 at scripting creates stack told = record { scripting = scripting; creates = creates; stack = stack; told = told; failed = false }
 
 -- the calls of trees write their text, and leave the stack as it was
-pub run-trees : (trees : Trees) (scripting creates : Bool) (top : Entry) (stack : List Entry) (told : Told) (rest : List Call)
+pub run-trees : (trees : Trees) (scripting creates : Bool) (top : Entry) (stack : List Entry) (told : WriterView) (rest : List Call)
     → run step (at scripting creates (top ∷ stack) told) (calls_before trees rest) ≡ run step (at scripting creates (top ∷ stack) (with_text told (written scripting top trees))) rest
 unfolding step written
-run-trees Nothing sc cr top stack told rest = ap (λ (t : Told). run step (at sc cr (top ∷ stack) t) rest) (with_bytes-none told)
+run-trees Nothing sc cr top stack told rest = ap (λ (t : WriterView). run step (at sc cr (top ∷ stack) t) rest) (with_bytes-none told)
 run-trees (Text text next) sc cr top stack told rest =
     run-trees next sc cr top stack (with_text told (text_under top text)) rest
-    ∙ ap (λ (t : Told). run step (at sc cr (top ∷ stack) t) rest) (with_text-append told (text_under top text) (written sc top next))
+    ∙ ap (λ (t : WriterView). run step (at sc cr (top ∷ stack) t) rest) (with_text-append told (text_under top text) (written sc top next))
 run-trees (Comment text next) sc cr top stack told rest =
     run-trees next sc cr top stack (with_text told (written_comment text)) rest
-    ∙ ap (λ (t : Told). run step (at sc cr (top ∷ stack) t) rest) (with_text-append told (written_comment text) (written sc top next))
+    ∙ ap (λ (t : WriterView). run step (at sc cr (top ∷ stack) t) rest) (with_text-append told (written_comment text) (written sc top next))
 run-trees (ProcessingInstruction target text next) sc cr top stack told rest =
     run-trees next sc cr top stack (with_text told (written_instruction target text)) rest
-    ∙ ap (λ (t : Told). run step (at sc cr (top ∷ stack) t) rest) (with_text-append told (written_instruction target text) (written sc top next))
+    ∙ ap (λ (t : WriterView). run step (at sc cr (top ∷ stack) t) rest) (with_text-append told (written_instruction target text) (written sc top next))
 run-trees (Doctype name public_id system_id next) sc cr top stack told rest =
     run-trees next sc cr top stack (with_text told (written_doctype name)) rest
-    ∙ ap (λ (t : Told). run step (at sc cr (top ∷ stack) t) rest) (with_text-append told (written_doctype name) (written sc top next))
+    ∙ ap (λ (t : WriterView). run step (at sc cr (top ∷ stack) t) rest) (with_text-append told (written_doctype name) (written sc top next))
 run-trees (Element name attributes template kids next) sc cr top stack told rest =
     let own = entry_under sc top name in
     let begun = with_text told (start_under top name attributes) in
@@ -51,7 +51,7 @@ run-trees (Element name attributes template kids next) sc cr top stack told rest
     let ended = with_text filled (end_of own name) in
     run-trees kids sc cr own (top ∷ stack) begun (EndElem name ∷ calls_before next rest)
     ∙ run-trees next sc cr top stack ended rest
-    ∙ ap (λ (t : Told). run step (at sc cr (top ∷ stack) t) rest)
+    ∙ ap (λ (t : WriterView). run step (at sc cr (top ∷ stack) t) rest)
     (with_text-append filled (end_of own name) (written sc top next)
     ∙ with_text-append begun (written sc own kids) (end_of own name ++ written sc top next)
     ∙ with_text-append told (start_under top name attributes) (written sc own kids ++ (end_of own name ++ written sc top next)))
@@ -88,7 +88,7 @@ ran-step s call made left reached (Ok next) first is rest =
     let behind = rest next is in
     record {
       told =
-          behind.told ∙ ap (λ (t : Told). with_bytes t (bytes_run next made)) (step-told s call next first) ∙ with_bytes-append s.told (bytes_of s call) (bytes_run next made)
+          behind.told ∙ ap (λ (t : WriterView). with_bytes t (bytes_run next made)) (step-told s call next first) ∙ with_bytes-append s.told (bytes_of s call) (bytes_run next made)
           ∙ rw first refl;
       bytes = rw first (ap (λ (xs : List ℕ). bytes_of s call ++ xs) behind.bytes ∙ sym (append_assoc (bytes_of s call) (bytes_run next made) (bytes_run reached left)));
       goes = rw first behind.goes;
@@ -102,14 +102,14 @@ ran [] left s reached is =
 ran (call ∷ made) left s reached is = ran-step s call made left reached (step s call) refl is (λ next was. ran made left next reached was)
 
 -- the bytes of one call, and of the trees behind it
-one : (sc cr : Bool) (top : Entry) (stack : List Entry) (told : Told) (rest : List Call) (text : List ℕ) (next : Trees) (more : List ℕ)
+one : (sc cr : Bool) (top : Entry) (stack : List Entry) (told : WriterView) (rest : List Call) (text : List ℕ) (next : Trees) (more : List ℕ)
     → more ≡ encode_utf8_all (written sc top next) ++ bytes_run (at sc cr (top ∷ stack) (with_text (with_text told text) (written sc top next))) rest
     → encode_utf8_all text ++ more ≡ encode_utf8_all (text ++ written sc top next) ++ bytes_run (at sc cr (top ∷ stack) (with_text told (text ++ written sc top next))) rest
 one sc cr top stack told rest text next more is =
     ap (λ (xs : List ℕ). encode_utf8_all text ++ xs) is
     ∙ sym (append_assoc (encode_utf8_all text) (encode_utf8_all (written sc top next)) (bytes_run (at sc cr (top ∷ stack) (with_text (with_text told text) (written sc top next))) rest))
     ∙ ap (λ (xs : List ℕ). xs ++ bytes_run (at sc cr (top ∷ stack) (with_text (with_text told text) (written sc top next))) rest) (sym (encodes-append text (written sc top next)))
-    ∙ ap (λ (t : Told). encode_utf8_all (text ++ written sc top next) ++ bytes_run (at sc cr (top ∷ stack) t) rest) (with_text-append told text (written sc top next))
+    ∙ ap (λ (t : WriterView). encode_utf8_all (text ++ written sc top next) ++ bytes_run (at sc cr (top ∷ stack) t) rest) (with_text-append told text (written sc top next))
 
 regroup : (a b c d tail : List ℕ) → a ++ (b ++ (c ++ (d ++ tail))) ≡ (a ++ (b ++ (c ++ d))) ++ tail
 regroup a b c d tail = sym (simp append_assoc)
@@ -119,11 +119,11 @@ encodes-four a b c d =
     encodes-append a (b ++ (c ++ d)) ∙ ap (λ (xs : List ℕ). encode_utf8_all a ++ xs) (encodes-append b (c ++ d) ∙ ap (λ (xs : List ℕ). encode_utf8_all b ++ xs) (encodes-append c d))
 
 -- the bytes of trees
-bytes-trees : (trees : Trees) (scripting creates : Bool) (top : Entry) (stack : List Entry) (told : Told) (rest : List Call)
+bytes-trees : (trees : Trees) (scripting creates : Bool) (top : Entry) (stack : List Entry) (told : WriterView) (rest : List Call)
     → bytes_run (at scripting creates (top ∷ stack) told) (calls_before trees rest)
     ≡ encode_utf8_all (written scripting top trees) ++ bytes_run (at scripting creates (top ∷ stack) (with_text told (written scripting top trees))) rest
 unfolding step written bytes_run bytes_behind
-bytes-trees Nothing sc cr top stack told rest = ap (λ (t : Told). bytes_run (at sc cr (top ∷ stack) t) rest) (with_bytes-none told)
+bytes-trees Nothing sc cr top stack told rest = ap (λ (t : WriterView). bytes_run (at sc cr (top ∷ stack) t) rest) (with_bytes-none told)
 bytes-trees (Text text next) sc cr top stack told rest = one sc cr top stack told rest (text_under top text) next _ (bytes-trees next sc cr top stack (with_text told (text_under top text)) rest)
 bytes-trees (Comment text next) sc cr top stack told rest = one sc cr top stack told rest (written_comment text) next _ (bytes-trees next sc cr top stack (with_text told (written_comment text)) rest)
 bytes-trees (ProcessingInstruction target text next) sc cr top stack told rest = one sc cr top stack told rest (written_instruction target text) next _ (bytes-trees next sc cr top stack (with_text told (written_instruction target text)) rest)
@@ -143,13 +143,13 @@ bytes-trees (Element name attributes template kids next) sc cr top stack told re
     ∙ ap (λ (xs : List ℕ). encode_utf8_all inner ++ (encode_utf8_all end ++ xs)) (bytes-trees next sc cr top stack ended rest))
     ∙ regroup (encode_utf8_all start) (encode_utf8_all inner) (encode_utf8_all end) (encode_utf8_all behind) tail
     ∙ ap (λ (xs : List ℕ). xs ++ tail) (sym (encodes-four start inner end behind))
-    ∙ ap (λ (t : Told). encode_utf8_all (start ++ (inner ++ (end ++ behind))) ++ bytes_run (at sc cr (top ∷ stack) t) rest) (with_text-four told start inner end behind)
+    ∙ ap (λ (t : WriterView). encode_utf8_all (start ++ (inner ++ (end ++ behind))) ++ bytes_run (at sc cr (top ∷ stack) t) rest) (with_text-four told start inner end behind)
 
 abbrev err : {R : Type 0} → SerializeFault → Result R SerializeFault
 err fault = Err fault
 
 -- a beginning of bytes that are two parts
-began : (old reached new : Told) (first second bytes : List ℕ) → reached ≡ with_bytes old first → new ≡ reached → bytes ≡ first ++ second → Began old bytes new
+began : (old reached new : WriterView) (first second bytes : List ℕ) → reached ≡ with_bytes old first → new ≡ reached → bytes ≡ first ++ second → Began old bytes new
 began old reached new first second bytes put same whole = record {
   count = length first;
   within = let n = ap length whole in omega (arith, length-append first second);
@@ -192,7 +192,7 @@ writes_of {R} bytes s left calls end (Err fault) all is told walk =
     (sym behind.goes ∙ ap (run step s) (sym walk.parts) ∙ all)
     (sym is ∙ ap (bytes_run s) walk.parts ∙ behind.bytes) walk.stopped
 
-pub writes : {R : Type 0} (scripting creates : Bool) (scope : TraversalScope) (calls : List Call) (old new : Told) (result : Result R SerializeFault) → Serializes scripting creates scope calls old result new
+pub writes : {R : Type 0} (scripting creates : Bool) (scope : TraversalScope) (calls : List Call) (old new : WriterView) (result : Result R SerializeFault) → Serializes scripting creates scope calls old result new
     → (trees : Trees) → calls ≡ calls_of trees → Writes (bytes_in scripting scope trees) old result new
 unfolding bytes_run
 writes sc cr scope calls old new result walks trees are =

@@ -5,14 +5,14 @@ use Rattle.markup.specs.Calls.{Answers, Call}
 use Rattle.markup.specs.Trees.{Entry}
 use Rattle.markup.specs.declared.serializer.SerializeFault.{SerializeFault}
 use Rattle.markup.specs.declared.serializer.SerializeFault.TheVariants.{Write, NoParent, NoElemInfo, Memory, Failed}
-use Rattle.html_serialize.specs.Puts.{Broke, Puts, Told}
+use Rattle.html_serialize.specs.Puts.{Broke, Puts, WriterView}
 use Rattle.html_serialize.specs.Serializing.{Does, Serializing, behind_stack, bytes_of, is_fatal, may_grow, refuses, stack_behind, step}
 
 IsOk-from : {A : Type 0} (behind : Result A SerializeFault) (x : A) → behind ≡ Ok x → IsOk behind
 IsOk-from behind x is = rw is refl
 
 -- bytes were put once the stack was as it is behind the call
-pub Does-puts : {R : Type 0} (behind : Result (List Entry) SerializeFault) (bytes : List ℕ) (stack stack' : List Entry) (told told' : Told) (result : Result R SerializeFault)
+pub Does-puts : {R : Type 0} (behind : Result (List Entry) SerializeFault) (bytes : List ℕ) (stack stack' : List Entry) (told told' : WriterView) (result : Result R SerializeFault)
     → behind ≡ Ok stack' → Puts told bytes result told' → Does behind bytes stack told result stack' told'
 Does-puts behind bytes stack stack' told told' (Ok _) is puts = (is, puts)
 Does-puts behind bytes stack stack' told told' (Err Write) is puts = (IsOk-from behind stack' is, puts.1)
@@ -34,14 +34,14 @@ pub step-ok : (s : Serializing) (call : Call) (stack : List Entry) → s.failed 
 unfolding step
 step-ok s call stack well is = rw (well, is) refl
 
-unchanged : (s : Serializing) (stack' : List Entry) (told' : Told) (failed' : Bool) → s.failed ≡ false → failed' ≡ false → stack' ≡ s.stack → told' ≡ s.told → record s { stack = stack'; told = told'; failed = failed' } ≡ s
+unchanged : (s : Serializing) (stack' : List Entry) (told' : WriterView) (failed' : Bool) → s.failed ≡ false → failed' ≡ false → stack' ≡ s.stack → told' ≡ s.told → record s { stack = stack'; told = told'; failed = failed' } ≡ s
 unchanged s stack' told' failed' well fatal same_stack same_told =
     ap (λ (x : List Entry). record s { stack = x; told = told'; failed = failed' }) same_stack
-    ∙ ap (λ (x : Told). record s { told = x; failed = failed' }) same_told
+    ∙ ap (λ (x : WriterView). record s { told = x; failed = failed' }) same_told
     ∙ ap (λ (x : Bool). record s { failed = x }) (fatal ∙ sym well)
 
 -- a call's answer, by what it left of the stack and of what the writer tells
-pub answered : {R : Type 0} (s : Serializing) (call : Call) (stack' : List Entry) (told' : Told) (failed' : Bool) (result : Result R SerializeFault)
+pub answered : {R : Type 0} (s : Serializing) (call : Call) (stack' : List Entry) (told' : WriterView) (failed' : Bool) (result : Result R SerializeFault)
     → s.failed ≡ false → failed' ≡ is_fatal result → (result ≡ Err Memory → may_grow call ≡ true)
     → Does (stack_behind s call) (bytes_of s call) s.stack s.told result stack' told'
     → Answers step refuses s call result (record s { stack = stack'; told = told'; failed = failed' })
@@ -67,7 +67,7 @@ answered s call stack' told' failed' (Err Failed) well fatal grows does = record
 }
 
 -- the same of a call that takes no memory
-pub answered-none : {R : Type 0} (s : Serializing) (call : Call) (stack' : List Entry) (told' : Told) (failed' : Bool) (result : Result R SerializeFault)
+pub answered-none : {R : Type 0} (s : Serializing) (call : Call) (stack' : List Entry) (told' : WriterView) (failed' : Bool) (result : Result R SerializeFault)
     → s.failed ≡ false → failed' ≡ is_fatal result → IfErr result (λ fault. fault ≢ Memory)
     → Does (stack_behind s call) (bytes_of s call) s.stack s.told result stack' told'
     → Answers step refuses s call result (record s { stack = stack'; told = told'; failed = failed' })
@@ -75,7 +75,7 @@ answered-none s call stack' told' failed' result well fatal none does =
     answered s call stack' told' failed' result well fatal (λ is. absurd ((rw is at none) refl)) does
 
 -- the same of a call that only puts bytes
-pub answered-puts : {R : Type 0} (s : Serializing) (call : Call) (told' : Told) (failed' : Bool) (result : Result R SerializeFault)
+pub answered-puts : {R : Type 0} (s : Serializing) (call : Call) (told' : WriterView) (failed' : Bool) (result : Result R SerializeFault)
     → s.failed ≡ false → failed' ≡ is_fatal result → stack_behind s call ≡ Ok s.stack → Puts s.told (bytes_of s call) result told'
     → Answers step refuses s call result (record s { told = told'; failed = failed' })
 answered-puts s call told' failed' result well fatal kept puts =

@@ -8,7 +8,7 @@ use Rattle.markup.specs.declared.serializer.SerializeFault.{SerializeFault}
 use Rattle.markup.specs.declared.serializer.SerializeFault.TheVariants.{Write, NoParent, NoElemInfo, Memory, Failed}
 use Rattle.markup.specs.declared.serializer.TraversalScope.{TraversalScope}
 use Rattle.markup.specs.declared.serializer.TraversalScope.TheVariants.{IncludeNode, ChildrenOnly}
-use Rattle.html_serialize.specs.Puts.{Broke, Told, told_by, with_bytes}
+use Rattle.html_serialize.specs.Puts.{Broke, WriterView, told_by, with_bytes}
 
 pub record Serializing : Type 0 where
   -- whether scripts run
@@ -18,7 +18,7 @@ pub record Serializing : Type 0 where
   -- an entry for each element that has begun and not ended, the last one first, and one for what stands around them
   pub stack : List Entry
   -- what the writer tells
-  pub told : Told
+  pub told : WriterView
   -- whether a write failed or memory was wanted
   pub failed : Bool
 
@@ -37,7 +37,7 @@ abbrev pub entry_for : Bool → TraversalScope → Entry
 entry_for scripting IncludeNode = default_entry
 entry_for scripting (ChildrenOnly name) = first_entry scripting name
 
-abbrev pub started : Bool → Bool → TraversalScope → Told → Serializing
+abbrev pub started : Bool → Bool → TraversalScope → WriterView → Serializing
 started scripting creates scope told = record { scripting = scripting; creates = creates; stack = entry_for scripting scope ∷ []; told = told; failed = false }
 
 abbrev pub first_of : List Entry → Option Entry
@@ -96,7 +96,7 @@ Takes behind old (Err Memory) new = IsOk behind
 Takes behind old (Err fault) new = (behind ≡ Err fault) × (new ≡ old)
 
 -- what a call leaves of the stack and of what the writer tells, by the stack behind it and its bytes
-abbrev pub Does : {R : Type 0} → Result (List Entry) SerializeFault → List ℕ → List Entry → Told → Result R SerializeFault → List Entry → Told → Type 0
+abbrev pub Does : {R : Type 0} → Result (List Entry) SerializeFault → List ℕ → List Entry → WriterView → Result R SerializeFault → List Entry → WriterView → Type 0
 Does behind bytes stack told (Ok _) stack' told' = (behind ≡ Ok stack') × (told' ≡ with_bytes told bytes)
 Does behind bytes stack told (Err Write) stack' told' = IsOk behind × Broke told bytes told'
 Does behind bytes stack told (Err Memory) stack' told' = IsOk behind × (told' ≡ told)
@@ -140,18 +140,18 @@ refuses old call Memory new = OutOfMemory old call new
 refuses old call fault new = Refused old call fault new
 
 -- what a walk of these calls makes of what the writer tells, from a new serializer on
-abbrev pub Serializes : {R : Type 0} → Bool → Bool → TraversalScope → List Call → Told → Result R SerializeFault → Told → Type 0
+abbrev pub Serializes : {R : Type 0} → Bool → Bool → TraversalScope → List Call → WriterView → Result R SerializeFault → WriterView → Type 0
 Serializes scripting creates scope calls old result new =
     (left : Serializing) × ((left.told ≡ new) × Walks step refuses (started scripting creates scope old) calls result left)
 
 -- a beginning of the bytes was written
-pub record Began (old : Told) (bytes : List ℕ) (new : Told) : Type 0 where
+pub record Began (old : WriterView) (bytes : List ℕ) (new : WriterView) : Type 0 where
   pub count : ℕ
   pub within : count ≤ length bytes
   pub told : new ≡ with_bytes old (take count bytes)
 
 -- the bytes were written; or a beginning of them, and then a write failed or memory was wanted
-abbrev pub Writes : {R : Type 0} → List ℕ → Told → Result R SerializeFault → Told → Type 0
+abbrev pub Writes : {R : Type 0} → List ℕ → WriterView → Result R SerializeFault → WriterView → Type 0
 Writes bytes old (Ok _) new = new ≡ with_bytes old bytes
 Writes bytes old (Err Write) new = Broke old bytes new
 Writes bytes old (Err Memory) new = Began old bytes new

@@ -6,4 +6,4 @@ pub mod References
 pub mod Tags
 pub mod Text
 pub mod Tokens
-pub mod Told
+pub mod Emitted

@@ -13,7 +13,7 @@ use Rattle.html_tokens.specs.declared.states.State.TheVariants as state
 use Rattle.html_tokens.specs.declared.token.Token.TheVariants.{EOFToken}
 use Rattle.html_tokens.specs.declared.options.TokenizerOpts.{TokenizerOpts}
 use Rattle.html_tokens.specs.declared.sink.TokenSink.{Ghosts}
-use Rattle.html_tokens.specs.Item.{Place}
+use Rattle.html_tokens.specs.Item.{TextPlace}
 use Rattle.html_tokens.specs.NormalText.{normal_text}
 use Rattle.html_tokens.specs.Table.{Row}
 use Rattle.html_tokens.specs.TextState.{is_text_state}
@@ -62,7 +62,7 @@ abbrev pub has_ended : {K : Type 0} → Tokenizer K → Bool
 has_ended k = k.stream.has_ended
 
 -- the text state in which a tokenizer with nothing pending stands
-abbrev pub text_place : {K : Type 0} → Tokenizer K → Place
+abbrev pub text_place : {K : Type 0} → Tokenizer K → TextPlace
 text_place k = first_place (Some k.state)
 
 -- whether a tokenizer stands in text, holds no part of an item, and neither ended nor failed
@@ -261,5 +261,5 @@ module _ {K H : Type 0} (Sink : Ghosts K H) where
     pub comes : (t : List ℕ) → coming k t ≡ normal_text opts.discard_bom t
 
   -- A tokenizer in a text state, with no part of an item held: what is to come is the reading of what comes, from that text on.
-  abbrev pub ReadsAt : Place → Tokenizer K → Type 0
+  abbrev pub ReadsAt : TextPlace → Tokenizer K → Type 0
   ReadsAt place k = (notes : Notes ℕ) (t : List ℕ) → to_come k notes t ≡ reads Sink (rows_of k) (standing k place) k.stream.breaks (Sink.view k.sink, notes) (coming k t)

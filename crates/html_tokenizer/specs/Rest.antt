@@ -10,7 +10,7 @@ use Rattle.html_tokens.specs.declared.states.State.TheVariants as state
 use Rattle.html_tokens.specs.declared.token.Doctype.{Doctype}
 use Rattle.html_tokens.specs.Comments.{comment_at, comment_after, bogus_comment_after}
 use Rattle.html_tokens.specs.Doctypes.{doctype_at, doctype_behind, doctype_name_after, after_name, after_public_keyword, after_system_keyword, public_after, system_after, after_public, after_system, junk_after}
-use Rattle.html_tokens.specs.Item.{Fault, Slight, slight_if, Place, InData, InRaw, InPlaintext, InCdata, InTag, Stand, Item}
+use Rattle.html_tokens.specs.Item.{Fault, Slight, slight_if, TextPlace, InData, InRaw, InPlaintext, InCdata, InTag, Stand, Item}
 use Rattle.html_tokens.specs.NormalText.{newlines_behind, without_mark}
 use Rattle.html_tokens.specs.Reading.{erred_by}
 use Rattle.html_tokens.specs.Sink.{Refusal}
@@ -39,7 +39,7 @@ fault_behind (Some (Held cs)) = None
 fault_behind (Some Unknown) = Some Slight
 
 -- where a reading stands at this place
-abbrev pub standing : {K : Type 0} → Tokenizer K → Place → Stand
+abbrev pub standing : {K : Type 0} → Tokenizer K → TextPlace → Stand
 standing k place = record { place = place; last_start_tag = k.raw_end.name }
 
 -- a doctype with one of its identifiers
@@ -64,7 +64,7 @@ coming k t = newlines_behind k.stream.ignore_lf (without_mark k.stream.discard_b
 
 module _ {K T : Type 0} (to : Listener T) where
   -- what a text makes of the sink, where a reading stands at this place
-  abbrev pub read_at : Place → Tokenizer K → ℕ → T → List ℕ → Result T (Refusal × ℕ)
+  abbrev pub read_at : TextPlace → Tokenizer K → ℕ → T → List ℕ → Result T (Refusal × ℕ)
   read_at place k b s t = told_text to (rows_of k) (standing k place) b s t
 
   -- an item, and then what follows it

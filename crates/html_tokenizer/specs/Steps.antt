@@ -169,7 +169,7 @@ module _ {K H : Type 0} (Sink : Ghosts K H) where
   PausesAt (flow.EncodingIndicator label) c k = (c ≡ 62) × IsAt k state.Data × Replied k.sink (reply.EncodingIndicator label)
 
   -- The token has gone to the sink, which answered only that reading goes on, behind what is owed. Nothing else changes.
-  pub record Told (owed : Owed) (token : Token) (old new : Tokenizer K) : Type 0 where
+  pub record Emitted (owed : Owed) (token : Token) (old new : Tokenizer K) : Type 0 where
     pub gives : (line : ℕ) → line ≡ line_number old.stream.breaks → Sink.step (Sink.view old.sink) token line ≡ Ok (Sink.view new.sink, reply.Continue)
     pub changed : new ≡ record old { sink = new.sink }
     pub sound : Sink.is_sound (Sink.view new.sink)
@@ -177,7 +177,7 @@ module _ {K H : Type 0} (Sink : Ghosts K H) where
     pub rises : Rises Sink.errors (and_heard (Sink.is_quiet (Sink.view old.sink) token) owed) old.sink new.sink
 
   abbrev pub TellsAmong : (Token → Type 0) → Owed → Token → Tokenizer K → Tokenizer K → Result (Unit {0}) ParseFault → Type 0
-  TellsAmong among owed token old new (Ok x) = Told owed token old new
+  TellsAmong among owed token old new (Ok x) = Emitted owed token old new
   TellsAmong among owed token old new (Err fault) = Fell old.sink new.sink × FailsAmong among old.sink new.sink (Sink.step (Sink.view old.sink) token (line_number old.stream.breaks)) fault
 
   abbrev pub Tells : Owed → Token → Tokenizer K → Tokenizer K → Result (Unit {0}) ParseFault → Type 0
@@ -185,7 +185,7 @@ module _ {K H : Type 0} (Sink : Ghosts K H) where
 
   -- The same of a call that then goes on to the next character.
   abbrev pub TakesAs : Owed → Token → Tokenizer K → Tokenizer K → Result (ProcessResult H) ParseFault → Type 0
-  TakesAs owed token old new (Ok flow.Continue) = Told owed token old new
+  TakesAs owed token old new (Ok flow.Continue) = Emitted owed token old new
   TakesAs owed token old new (Ok _) = ⊥
   TakesAs owed token old new (Err fault) = Falls old.sink new.sink (Sink.step (Sink.view old.sink) token (line_number old.stream.breaks)) fault
 

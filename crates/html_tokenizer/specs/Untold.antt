@@ -4,7 +4,7 @@ use Rattle.html_tokens.specs.declared.states.RawKind.{RawKind}
 use Rattle.html_tokens.specs.declared.states.State.{State}
 use Rattle.html_tokens.specs.declared.token.Token.{Token}
 use Rattle.html_tokens.specs.declared.token.Token.TheVariants.{TagToken, CommentToken, DoctypeToken}
-use Rattle.html_tokens.specs.Item.{Place, InRaw, InTag, Item}
+use Rattle.html_tokens.specs.Item.{TextPlace, InRaw, InTag, Item}
 use Rattle.html_tokens.specs.RawText.{is_letters, ends_at_tag}
 use Rattle.html_tokenizer.specs.declared.tokenizer.Tokenizer.{Tokenizer}
 use Rattle.html_tokenizer.specs.Rest.{read_at, played, held_at}
@@ -12,7 +12,7 @@ use Rattle.html_tokenizer_parts.specs.Words.{BeginsEnd}
 use Rattle.html_tokenizer.specs.Listeners.{Listener}
 
 -- text of any kind
-abbrev pub is_text_place : Place → Bool
+abbrev pub is_text_place : TextPlace → Bool
 is_text_place (InTag tag) = false
 is_text_place _ = true
 
@@ -38,7 +38,7 @@ BeginsEndTag last (c ∷ cs) = (c ≡ 47) × BeginsEnd last cs
 module _ (T : Type 0) {K : Type 0} (st : State) (k : Tokenizer K) where
   -- Nothing is held: what follows is read as text, of a kind that it may still decide.
   pub record IsAllTold : Type 0 where
-    pub place : List ℕ → Place
+    pub place : List ℕ → TextPlace
     pub in_text : (t : List ℕ) → is_text_place (place t) ≡ true
     pub same : (to : Listener T) (b : ℕ) (s : T) (t : List ℕ) → held_at to st k b s t ≡ read_at to (place t) k b s t
 

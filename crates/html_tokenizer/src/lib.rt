@@ -34,7 +34,7 @@ pub mod tokenizer;
 pub use html_queue::{BufferQueue, SetResult, SmallCharSet};
 pub use html_references::{ReferenceRow, References, TableFault};
 pub use html_tokens::{
-    Counting, Doctype, Listed, ProcessResult, State, Tag, TagKind, Token, TokenSink,
-    TokenSinkResult, TokenizerOpts, Told, states,
+    Counting, Doctype, Listed, ListedToken, ProcessResult, State, Tag, TagKind, Token, TokenSink,
+    TokenSinkResult, TokenizerOpts, states,
 };
 pub use tokenizer::Tokenizer;

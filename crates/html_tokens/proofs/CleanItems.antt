@@ -15,7 +15,7 @@ use Rattle.html_tokens.specs.declared.token.Token.TheVariants.{EOFToken}
 use Rattle.html_tokens.specs.Characters.{begins}
 use Rattle.html_tokens.specs.Clean.{is_clean_text, is_clean_name, is_clean_end, is_clean_comment, is_clean_declaration, is_clean_open, is_clean_markup, is_clean_in, is_clean, is_clean_part, quiet_by, clean_by, clean_from, is_named}
 use Rattle.html_tokens.specs.Comments
-use Rattle.html_tokens.specs.Item.{Place, InData, InRaw, InPlaintext, InCdata, InTag, Stand, Fault, grave_if, reference_item, fault_at_end}
+use Rattle.html_tokens.specs.Item.{TextPlace, InData, InRaw, InPlaintext, InCdata, InTag, Stand, Fault, grave_if, reference_item, fault_at_end}
 use Rattle.html_tokens.specs.Items
 use Rattle.html_tokens.specs.Notes.{Notes, no_notes, noted, heard, noting, noting_error, noting_cdata, noting_end, errors_of, was_quiet, owed, is_quiet_reading}
 use Rattle.html_tokens.specs.RawText
@@ -145,7 +145,7 @@ clean-raw_end true null named false fits name h e = absurd cc
 clean-raw_end false null named ends fits name h e = absurd cc
 
 -- a clean item has no fault, at each place
-item-in : (place : Place) (rows : List Row) (cdata : Bool) (st : Stand) (c : ℕ) (t : List ℕ) → is_clean_in place rows st c t ≡ true → IsFaultless (Items.item_in place rows cdata st c t)
+item-in : (place : TextPlace) (rows : List Row) (cdata : Bool) (st : Stand) (c : ℕ) (t : List ℕ) → is_clean_in place rows st c t ≡ true → IsFaultless (Items.item_in place rows cdata st c t)
 item-in InData rows cdata st c t h = in-data (nat_eq c 60) (nat_eq c 38) (nat_eq c 0) rows cdata st c t refl h (in-open cdata st t)
 item-in (InRaw kind) rows cdata st c t h =
     let ends = RawText.ends_at_tag kind in

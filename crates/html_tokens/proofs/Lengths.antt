@@ -10,7 +10,7 @@ use Rattle.html_tokens.specs.declared.token.Doctype.{Doctype}
 use Rattle.html_tokens.specs.Characters
 use Rattle.html_tokens.specs.Comments
 use Rattle.html_tokens.specs.Doctypes
-use Rattle.html_tokens.specs.Item.{Place, InData, InRaw, InPlaintext, InCdata, InTag, Stand, moved, Item, Fault, behind_all, reference_item, null_by}
+use Rattle.html_tokens.specs.Item.{TextPlace, InData, InRaw, InPlaintext, InCdata, InTag, Stand, moved, Item, Fault, behind_all, reference_item, null_by}
 use Rattle.html_tokens.specs.Items
 use Rattle.html_tokens.specs.RawText
 use Rattle.html_tokens.specs.Reference
@@ -411,7 +411,7 @@ cdata_by-≤ : (b : Bool) (st : Stand) (c : ℕ) (t : List ℕ) → (b ≡ true 
 cdata_by-≤ true st c t h = let k = h refl in record { some = omega arith; within = k }
 cdata_by-≤ false st c t h = null_by-≤ _ c st c t
 
-item_in-≤ : (p : Place) (rows : List Row) (cdata : Bool) (st : Stand) (c : ℕ) (t : List ℕ) → Takes (Items.item_in p rows cdata st c t) (c ∷ t)
+item_in-≤ : (p : TextPlace) (rows : List Row) (cdata : Bool) (st : Stand) (c : ℕ) (t : List ℕ) → Takes (Items.item_in p rows cdata st c t) (c ∷ t)
 item_in-≤ InData rows cdata st c t = data_by-≤ _ _ rows cdata st c t
 item_in-≤ (InRaw kind) rows cdata st c t = raw_by-≤ _ _ rows st kind c t (λ e. fits-≤ st.last_start_tag t (and_parts (nat_eq c 60 && RawText.ends_at_tag kind) _ e).1)
 item_in-≤ InPlaintext rows cdata st c t = one _ c t refl

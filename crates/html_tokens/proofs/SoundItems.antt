@@ -20,7 +20,7 @@ use Rattle.html_tokens.specs.declared.token.Token.TheVariants.{TagToken, Comment
 use Rattle.html_tokens.specs.Characters
 use Rattle.html_tokens.specs.Comments
 use Rattle.html_tokens.specs.Doctypes
-use Rattle.html_tokens.specs.Item.{Place, InData, InRaw, InPlaintext, InCdata, InTag, Stand, moved, Item, Fault, behind_all, reference_item, null_by}
+use Rattle.html_tokens.specs.Item.{TextPlace, InData, InRaw, InPlaintext, InCdata, InTag, Stand, moved, Item, Fault, behind_all, reference_item, null_by}
 use Rattle.html_tokens.specs.Items
 use Rattle.html_tokens.specs.Laws.{is_not_null, has_no_null, are_distinct, IsSoundToken, IsSoundPlace, IsSoundItem, has_values}
 use Rattle.html_tokens.specs.RawText
@@ -328,7 +328,7 @@ cdata_by : (b : Bool) (st : Stand) (c : ℕ) → IsSoundPlace st.place → IsSou
 cdata_by true st c p = (tt, tt)
 cdata_by false st c p = null_by-sound (nat_eq c 0) c st refl p
 
-item_in : (place : Place) (rows : List Row) (cdata : Bool) (st : Stand) (c : ℕ) (t : List ℕ) → has_values rows ≡ true → st.place ≡ place → IsSoundPlace st.place → IsSoundPlace place → IsSoundItem (Items.item_in place rows cdata st c t)
+item_in : (place : TextPlace) (rows : List Row) (cdata : Bool) (st : Stand) (c : ℕ) (t : List ℕ) → has_values rows ≡ true → st.place ≡ place → IsSoundPlace st.place → IsSoundPlace place → IsSoundItem (Items.item_in place rows cdata st c t)
 item_in InData rows cdata st c t h e p q = data_by _ _ rows cdata st c t h p
 item_in (InRaw kind) rows cdata st c t h e p q = raw_by _ _ rows st kind c t (λ k. (and_parts (nat_eq c 60 && RawText.ends_at_tag kind) _ k).1) h p
 item_in InPlaintext rows cdata st c t h e p q = (shown c, p)

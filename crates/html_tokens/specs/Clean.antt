@@ -10,7 +10,7 @@ use Rattle.html_tokens.specs.declared.token.Token.{Token}
 use Rattle.html_tokens.specs.declared.token.Token.TheVariants.{EOFToken}
 use Rattle.html_tokens.specs.Characters.{ends_word, run, white, begins}
 use Rattle.html_tokens.specs.Table.{Row, longest}
-use Rattle.html_tokens.specs.Item.{Place, InData, InRaw, InPlaintext, InCdata, InTag, Stand, fault_at_end}
+use Rattle.html_tokens.specs.Item.{TextPlace, InData, InRaw, InPlaintext, InCdata, InTag, Stand, fault_at_end}
 use Rattle.html_tokens.specs.Items.{item, Opening as Markup, Letter, Slash, Mark, Question, Close, Other, opening}
 use Rattle.html_tokens.specs.Tags.{Part, Space, Solidus, End, Attributes, part, has_attribute, is_faulty_tag}
 use Rattle.html_tokens.specs.Reference.{ends_in_semicolon}
@@ -124,7 +124,7 @@ abbrev pub is_clean_markup : List ℕ → Bool
 is_clean_markup [] = false
 is_clean_markup (c ∷ t) = is_clean_open (opening c) (c ∷ t)
 
-abbrev pub is_clean_in : Place → List Row → Stand → ℕ → List ℕ → Bool
+abbrev pub is_clean_in : TextPlace → List Row → Stand → ℕ → List ℕ → Bool
 is_clean_in InData rows st c t = is_clean_text rows c t || (nat_eq c 60 && is_clean_markup t)
 is_clean_in (InRaw kind) rows st c t = is_clean_text rows c t || (nat_eq c 60 && ends_at_tag kind && is_fitting_end st.last_start_tag t && is_clean_end (drop 1 t))
 is_clean_in InPlaintext rows st c t = is_clean_text rows c t

@@ -10,19 +10,19 @@ pub use Rattle.html_tokens.specs.Fault.{Fault, Grave, Slight, grave_if, slight_i
 use Rattle.html_tokens.specs.Reference.{Reference}
 
 -- text of one of the five text states, a script's escaped text, a CDATA section, or a tag that was read so far
-pub data Place : Type 0 where
-  InData : Place
-  InRaw : RawKind → Place
-  InPlaintext : Place
-  InCdata : Place
-  InTag : Tag → Place
+pub data TextPlace : Type 0 where
+  InData : TextPlace
+  InRaw : RawKind → TextPlace
+  InPlaintext : TextPlace
+  InCdata : TextPlace
+  InTag : Tag → TextPlace
 
 -- where a reading stands: the place, and the name of the last start tag if there was one
 pub record Stand : Type 0 where
-  pub place : Place
+  pub place : TextPlace
   pub last_start_tag : Option (List ℕ)
 
-abbrev pub moved : Stand → Place → Stand
+abbrev pub moved : Stand → TextPlace → Stand
 moved st place = record st { place = place }
 
 -- an item: the token that it gives, its fault if it has one, how many characters it takes, and where the reading stands behind it
@@ -90,7 +90,7 @@ is_escaped_kind ScriptData = false
 is_escaped_kind (ScriptDataEscaped kind) = true
 
 -- what is wrong where the input ends here: something is cut off, or a script's text is escaped
-abbrev pub fault_at_end : Place → Option Fault
+abbrev pub fault_at_end : TextPlace → Option Fault
 fault_at_end InData = None
 fault_at_end (InRaw kind) = slight_if (is_escaped_kind kind)
 fault_at_end InPlaintext = None

@@ -5,7 +5,7 @@ use Rattle.html_tokens.specs.declared.tags.TagKind.TheVariants.{StartTag, EndTag
 use Rattle.html_tokens.specs.Characters.{begins, begins_any_case}
 use Rattle.html_tokens.specs.Table.{Row}
 use Rattle.html_tokens.specs.Reference.{reference_at, fault_of_reference}
-use Rattle.html_tokens.specs.Item.{Place, InData, InRaw, InPlaintext, InCdata, InTag, Stand, moved, Item, Grave, behind, behind_all, silent, unopened, shown_character, character_or_null, reference_item}
+use Rattle.html_tokens.specs.Item.{TextPlace, InData, InRaw, InPlaintext, InCdata, InTag, Stand, moved, Item, Grave, behind, behind_all, silent, unopened, shown_character, character_or_null, reference_item}
 use Rattle.html_tokens.specs.Comments.{comment_at, bogus_comment_after}
 use Rattle.html_tokens.specs.Doctypes.{doctype_at}
 use Rattle.html_tokens.specs.Tags.{named, name_after, tag_at}
@@ -74,7 +74,7 @@ abbrev pub cdata_by : Bool → Stand → ℕ → Item
 cdata_by true st c = silent 3 (moved st InData)
 cdata_by false st c = character_or_null c st
 
-abbrev pub item_in : Place → List Row → Bool → Stand → ℕ → List ℕ → Item
+abbrev pub item_in : TextPlace → List Row → Bool → Stand → ℕ → List ℕ → Item
 item_in InData rows cdata st c t = data_by (nat_eq c 60) (nat_eq c 38) rows cdata st c t
 item_in (InRaw kind) rows cdata st c t = raw_at rows st kind c t
 item_in InPlaintext rows cdata st c t = shown_character c st

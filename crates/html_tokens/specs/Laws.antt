@@ -9,7 +9,7 @@ use Rattle.html_tokens.specs.declared.replies.TokenSinkResult.{TokenSinkResult}
 use Rattle.html_tokens.specs.declared.replies.TokenSinkResult.TheVariants.{Continue}
 use Rattle.html_tokens.specs.declared.token.Token.{Token}
 use Rattle.html_tokens.specs.declared.token.Token.TheVariants.{DoctypeToken, TagToken, CommentToken, CharacterTokens, NullCharacterToken, EOFToken, ParseError}
-use Rattle.html_tokens.specs.Item.{Fault, Place, InData, InRaw, InPlaintext, InCdata, InTag, Stand, Item}
+use Rattle.html_tokens.specs.Item.{Fault, TextPlace, InData, InRaw, InPlaintext, InCdata, InTag, Stand, Item}
 use Rattle.html_tokens.specs.Items.{item}
 use Rattle.html_tokens.specs.Clean.{is_clean_reading}
 use Rattle.html_tokens.specs.Notes.{Notes, noted_reading, owed, is_quiet_reading, without_notes}
@@ -125,7 +125,7 @@ IsSoundToken EOFToken = Unit {0}
 IsSoundToken (ParseError message) = Unit {0}
 
 -- a tag that is being read
-abbrev pub IsSoundPlace : Place → Type 0
+abbrev pub IsSoundPlace : TextPlace → Type 0
 IsSoundPlace InData = Unit {0}
 IsSoundPlace (InRaw kind) = Unit {0}
 IsSoundPlace InPlaintext = Unit {0}

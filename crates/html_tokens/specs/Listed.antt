@@ -5,7 +5,7 @@ use Rattle.std.proofs.Common.{ap, append_assoc}
 use Rattle.std.proofs.lemmas.List.{append-nil}
 use Rattle.html_tokens.specs.Sink.{◌>>=◌, Step, Reply, AfterEnd, SinkLaws, IsIdle, IsTagReply, IsReplyTo}
 use Rattle.html_tokens.specs.declared.listed.Listed.{Listed}
-use Rattle.html_tokens.specs.declared.listed.Told.{Told}
+use Rattle.html_tokens.specs.declared.listed.ListedToken.{ListedToken}
 use Rattle.html_tokens.specs.declared.replies.TokenSinkResult.TheVariants.{Continue, Script, Plaintext, RawData}
 use Rattle.html_tokens.specs.declared.states.RawKind.TheVariants.{Rcdata, Rawtext, ScriptData}
 use Rattle.html_tokens.specs.declared.tags.TagKind.{TagKind}
@@ -16,7 +16,7 @@ use Rattle.html_tokens.specs.declared.token.Token.TheVariants.{TagToken, Charact
 -- the tokens in order, each with the text before it, then the text since the last, whether the end was told, and
 -- whether sections of CDATA are asked for
 pub record Listing : Type 0 where
-  pub told : List Told
+  pub told : List ListedToken
   pub text : List ℕ
   pub has_ended : Bool
   pub asks_cdata : Bool
@@ -57,10 +57,10 @@ abbrev pub step : Step Listing
 step s t line = if s.has_ended then Err AfterEnd else Ok (listed s t line)
 
 -- the parts of a listing, put together
-abbrev whole : List Told → List ℕ → Bool → Bool → Listing
+abbrev whole : List ListedToken → List ℕ → Bool → Bool → Listing
 whole told text has_ended asks_cdata = record { told = told; text = text; has_ended = has_ended; asks_cdata = asks_cdata }
 
-pieces : (told : List Told) (text : List ℕ) (has_ended asks_cdata : Bool) (a b : List ℕ) (line : ℕ) → (step (whole told text has_ended asks_cdata) (CharacterTokens a) line >>= λ p. step p.0 (CharacterTokens b) line) ≡ step (whole told text has_ended asks_cdata) (CharacterTokens (a ++ b)) line
+pieces : (told : List ListedToken) (text : List ℕ) (has_ended asks_cdata : Bool) (a b : List ℕ) (line : ℕ) → (step (whole told text has_ended asks_cdata) (CharacterTokens a) line >>= λ p. step p.0 (CharacterTokens b) line) ≡ step (whole told text has_ended asks_cdata) (CharacterTokens (a ++ b)) line
 pieces told text true asks_cdata a b line = refl
 pieces told text false asks_cdata a b line = ap (λ t. Ok (whole told t false asks_cdata, Continue)) (append_assoc text a b)
 
@@ -69,11 +69,11 @@ listed-idle s (CharacterTokens []) h line = ap (λ t. record s { text = t }) (ap
 listed-idle s (ParseError _) h line = refl
 listed-idle s _ h line = absurd h
 
-idle : (told : List Told) (text : List ℕ) (has_ended asks_cdata : Bool) (t : Token) → IsIdle t → (line : ℕ) → IfOk (step (whole told text has_ended asks_cdata) t line) (λ p. p.0 ≡ whole told text has_ended asks_cdata)
+idle : (told : List ListedToken) (text : List ℕ) (has_ended asks_cdata : Bool) (t : Token) → IsIdle t → (line : ℕ) → IfOk (step (whole told text has_ended asks_cdata) t line) (λ p. p.0 ≡ whole told text has_ended asks_cdata)
 idle told text true asks_cdata t h line = tt
 idle told text false asks_cdata t h line = listed-idle (whole told text false asks_cdata) t h line
 
-refused : (told : List Told) (text : List ℕ) (has_ended asks_cdata : Bool) (t : Token) (line : ℕ) → IsErr (step (whole told text has_ended asks_cdata) t line) → (any : Token) (other : ℕ) → IsErr (step (whole told text has_ended asks_cdata) any other)
+refused : (told : List ListedToken) (text : List ℕ) (has_ended asks_cdata : Bool) (t : Token) (line : ℕ) → IsErr (step (whole told text has_ended asks_cdata) t line) → (any : Token) (other : ℕ) → IsErr (step (whole told text has_ended asks_cdata) any other)
 refused told text true asks_cdata t line h any other = refl
 refused told text false asks_cdata t line h any other = h
 
@@ -100,11 +100,11 @@ listed-reply s (TagToken tag) line = IsTagReply-kind tag.kind tag.name (length s
 listed-reply s _ line = refl
 
 -- what holds of what a step gives, where it holds of what a token that is taken gives
-IfOk-step : (P : Listing × Reply → Type 0) (told : List Told) (text : List ℕ) (has_ended asks_cdata : Bool) (t : Token) (line : ℕ) → P (listed (whole told text has_ended asks_cdata) t line) → IfOk (step (whole told text has_ended asks_cdata) t line) P
+IfOk-step : (P : Listing × Reply → Type 0) (told : List ListedToken) (text : List ℕ) (has_ended asks_cdata : Bool) (t : Token) (line : ℕ) → P (listed (whole told text has_ended asks_cdata) t line) → IfOk (step (whole told text has_ended asks_cdata) t line) P
 IfOk-step P told text true asks_cdata t line h = tt
 IfOk-step P told text false asks_cdata t line h = h
 
-lines : (told : List Told) (text : List ℕ) (has_ended asks_cdata : Bool) (a : List ℕ) (line other : ℕ) → step (whole told text has_ended asks_cdata) (CharacterTokens a) line ≡ step (whole told text has_ended asks_cdata) (CharacterTokens a) other
+lines : (told : List ListedToken) (text : List ℕ) (has_ended asks_cdata : Bool) (a : List ℕ) (line other : ℕ) → step (whole told text has_ended asks_cdata) (CharacterTokens a) line ≡ step (whole told text has_ended asks_cdata) (CharacterTokens a) other
 lines told text has_ended asks_cdata a line other = refl
 
 pub listed_laws : SinkLaws (λ _. Unit {0}) step (λ s. record s { has_ended = true }) (λ _ _. true)

@@ -7,7 +7,7 @@ use Rattle.html_tokens.specs.declared.states.State.TheVariants as state
 use Rattle.html_tokens.specs.declared.token.Token.{Token}
 use Rattle.html_tokens.specs.declared.token.Token.TheVariants.{EOFToken}
 use Rattle.html_tokens.specs.Table.{Row}
-use Rattle.html_tokens.specs.Item.{Place, InData, InRaw, InPlaintext, Stand, moved, Item, Fault, fault_at_end}
+use Rattle.html_tokens.specs.Item.{TextPlace, InData, InRaw, InPlaintext, Stand, moved, Item, Fault, fault_at_end}
 use Rattle.html_tokens.specs.Items.{item}
 pub use Rattle.html_tokens.specs.Sink.{◌>>=◌}
 
@@ -20,7 +20,7 @@ next_stand st (RawData kind) = moved st (InRaw kind)
 next_stand st (EncodingIndicator label) = st
 
 -- the text state in which a reading begins
-abbrev pub first_place : Option State → Place
+abbrev pub first_place : Option State → TextPlace
 first_place None = InData
 first_place (Some state.Plaintext) = InPlaintext
 first_place (Some (state.RawData kind)) = InRaw kind

@@ -17,7 +17,7 @@ pub mod tags;
 pub mod token;
 
 pub use counting::Counting;
-pub use listed::{Listed, Told};
+pub use listed::{Listed, ListedToken};
 pub use options::TokenizerOpts;
 pub use replies::{ProcessResult, TokenSinkResult};
 pub use sink::TokenSink;

@@ -15,7 +15,7 @@ use std::mem;
 
 /// A token as it was told.
 #[derive(Debug, Drop, PartialEq, Eq)]
-pub struct Told {
+pub struct ListedToken {
     /// The text that was told between the token before and this one, in one.
     pub text: Text,
     /// The token, which is no text and no error.
@@ -32,7 +32,7 @@ pub struct Told {
 pub struct Listed {
     alloc: Global,
     /// The tokens, in order.
-    pub told: Vec<Told>,
+    pub told: Vec<ListedToken>,
     /// The text that was told since the last of them, in one.
     pub text: Text,
     /// Whether the end was told.
@@ -123,7 +123,7 @@ impl Listed {
     {
         let reply = reply_to(&token, self.told.len() as u64);
         let text = mem::replace(&mut self.text, Text::empty(self.alloc));
-        self.told.push(Told { text, token, line })?;
+        self.told.push(ListedToken { text, token, line })?;
         Ok(reply)
     }
 }

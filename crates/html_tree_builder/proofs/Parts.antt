@@ -24,7 +24,7 @@ use Rattle.html_tree_builder.specs.Rows.{may_be_in, sets_for}
 use Rattle.html_tree_builder.specs.Told.{IsTold, token_of}
 use Rattle.html_tree_builder.specs.declared.told.Content.{Content}
 use Rattle.html_tree_builder.specs.declared.told.Content.TheVariants.{Tag as TagContent}
-use Rattle.html_tree_builder.specs.declared.told.Told.{Told}
+use Rattle.html_tree_builder.specs.declared.told.NamedToken.{NamedToken}
 
 -- numbers without a bit in common
 apart : (a b i : ℕ) → bit_and a b ≡ 0 → (bit_at b i == 1) ≡ true → (bit_at a i == 1) ≡ false
@@ -69,5 +69,5 @@ skipped-at (TagContent tag) name sets part s rest n is h m = rows-skipped part.r
 skipped-at _ name sets part s rest n is h m = absurd (true≢false m)
 
 -- no row of a part is for a tag whose name is in none of the part's sets
-pub part-skipped : (told : Told) (part : Part) (s : State) (rest : List rules.Row) → IsTold told → is_covered part ≡ true → may_be_in told.class.sets part (token_of told.content) ≡ false → first_fit (rows_of part.rows.now ++ rest) (token_of told.content) s ≡ first_fit rest (token_of told.content) s
+pub part-skipped : (told : NamedToken) (part : Part) (s : State) (rest : List rules.Row) → IsTold told → is_covered part ≡ true → may_be_in told.class.sets part (token_of told.content) ≡ false → first_fit (rows_of part.rows.now ++ rest) (token_of told.content) s ≡ first_fit rest (token_of told.content) s
 part-skipped told part s rest is h m = skipped-at told.content told.name.now told.class.sets part s rest is.name is.class.sets h m

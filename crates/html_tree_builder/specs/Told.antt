@@ -14,7 +14,7 @@ use Rattle.html_rules.specs.declared.insertion_mode.InsertionMode.TheVariants.{T
 use Rattle.html_names.specs.Classes.{IsClassOf}
 use Rattle.html_tree_builder.specs.declared.told.Content.{Content}
 use Rattle.html_tree_builder.specs.declared.told.Content.TheVariants.{Tag, Characters, Null, Comment, EndOfFile}
-use Rattle.html_tree_builder.specs.declared.told.Told.{Told}
+use Rattle.html_tree_builder.specs.declared.told.NamedToken.{NamedToken}
 
 -- the token that is lent
 abbrev pub token_of : Content → tokens.Token
@@ -25,7 +25,7 @@ token_of (Comment text) = CommentToken text.now
 token_of EndOfFile = EOFToken
 
 -- the name is the token's, and the class is of that name
-pub record IsTold (told : Told) : Type 0 where
+pub record IsTold (told : NamedToken) : Type 0 where
   pub name : told.name.now ≡ name_of (token_of told.content)
   pub class : IsClassOf Html told.name.now told.class
 

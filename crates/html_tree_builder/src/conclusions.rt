@@ -20,7 +20,7 @@ ghost use Rattle.html_tree_builder.specs.Turning.{MayConclude, MayGoOn, MayUse};
 
 use crate::conditions::value_of;
 use crate::construction::Construction;
-use crate::told::{Content, Told};
+use crate::told::{Content, NamedToken};
 use html_modes::{Action, Conclusion};
 use html_names::{equals_any_case, extract_a_character_encoding_from_a_meta_element};
 use html_rules::InsertionMode;
@@ -85,7 +85,7 @@ fn hint_of(attributes: &[Attribute]) -> Option<&str>
     }
 }
 
-impl<'a> Told<'a> {
+impl<'a> NamedToken<'a> {
     /// The encoding that a tag names, if it names one.
     #[tactic(auto, unfolding(html_rules::specs::Encodings::encoding_hint))]
     fn encoding_hint(&self) -> Option<&'a str>
@@ -125,7 +125,7 @@ impl<Sink: TreeSink> Construction<Sink> {
         &mut self,
         ends: &'static Conclusion,
         script: Sink::Handle,
-        told: &Told<'_>,
+        told: &NamedToken<'_>,
     ) -> Result<Next<Sink::Handle>, ParseFault>
         ensures ok { IfOk result (λ next. (a : Answers) (f : Forest) (using : Mode → Token → State → Turn) → concluded using (conclusion_of ends.now) (token_of told.now.content) (Sink.node script) (state_of a self.old f) ≡ next_turn Sink.node using next (token_of told.now.content) (state_of a self.new f)) }
         ensures may { IfOk result (λ next. (n : ℕ) (a : Answers) (f : Forest) → MayConclude (MayUse n) (using_rules_for n) (conclusion_of ends.now) (token_of told.now.content) (state_of a self.old f) → MayGoOn (MayUse n) (using_rules_for n) next (token_of told.now.content) (state_of a self.new f)) }

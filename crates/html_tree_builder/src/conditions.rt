@@ -19,7 +19,7 @@ ghost use Rattle.html_rules.specs.Tokens.{has_font_attributes, is_hidden_value, 
 ghost use Rattle.html_tree_builder.specs.Told.{token_of};
 
 use crate::construction::Construction;
-use crate::told::{Content, Told};
+use crate::told::{Content, NamedToken};
 use crate::walks;
 use html_names::{ElementClass, equals_any_case};
 use html_rules::TagSet;
@@ -210,7 +210,7 @@ impl<Sink: TreeSink> Construction<Sink> {
     }
 }
 
-impl Told<'_> {
+impl NamedToken<'_> {
     /// Whether the attribute `type` is `hidden`, in any case.
     pub(crate) fn is_type_hidden(&self) -> bool
         ensures { result ≡ is_type_hidden (token_of self.now.content) }

@@ -1,5 +1,5 @@
 //! What the sink is told of errors: by the HTML Standard's codes where it has one (section 13.2.2), else by what was not expected.
-use crate::told::{Content, Told};
+use crate::told::{Content, NamedToken};
 use html_rules::InsertionMode;
 use html_tokens::TagKind;
 use markup::ParseFault;
@@ -7,7 +7,7 @@ use std::alloc::Global;
 use std::borrow::CowStr;
 
 /// A token that was not expected.
-fn unexpected(told: &Told<'_>) -> &'static str {
+fn unexpected(told: &NamedToken<'_>) -> &'static str {
     match told.content {
         Content::Tag(tag) => match tag.kind {
             TagKind::StartTag => "unexpected start tag",
@@ -50,7 +50,7 @@ fn name_of(mode: InsertionMode) -> &'static str {
 /// Writes the same, with the tag's name and the mode.
 fn write_exactly(
     message: &mut String,
-    told: &Told<'_>,
+    told: &NamedToken<'_>,
     mode: InsertionMode,
 ) -> Result<(), ParseFault> {
     message.push_str(unexpected(told))?;
@@ -68,7 +68,7 @@ fn write_exactly(
 /// What the sink is told of a token that was not expected; if `exact`, with the tag's name and the mode, where there is memory for that.
 pub(crate) fn of_token(
     alloc: Global,
-    told: &Told<'_>,
+    told: &NamedToken<'_>,
     mode: InsertionMode,
     exact: bool,
 ) -> CowStr<'static> {

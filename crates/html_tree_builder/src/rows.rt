@@ -12,7 +12,7 @@ ghost use Rattle.html_tree_builder.specs.States.{state_of};
 ghost use Rattle.html_tree_builder.specs.Told.{IsTold, token_of};
 
 use crate::construction::Construction;
-use crate::told::{Content, Told};
+use crate::told::{Content, NamedToken};
 use html_modes::{
     Action, Class, Conclusion, Condition, Part, Row, Rows, rows_of_foreign_content, rows_of_mode,
 };
@@ -28,7 +28,7 @@ const NO_ROW: &Row = &Row {
     ends: Conclusion::Done,
 };
 
-impl Told<'_> {
+impl NamedToken<'_> {
     /// Whether a part of a table may have a row for it: of a tag, whether its name is in one of the part's sets.
     fn may_be_in(&self, part: &Part) -> bool
         ensures { result ≡ may_be_in self.now.class.sets part.now (token_of self.now.content) }
@@ -45,7 +45,7 @@ impl Told<'_> {
 
 impl<Sink: TreeSink> Construction<Sink> {
     /// Whether a condition holds for a token.
-    pub(crate) fn holds(&self, sink: &Sink, condition: &Condition, told: &Told<'_>) -> bool
+    pub(crate) fn holds(&self, sink: &Sink, condition: &Condition, told: &NamedToken<'_>) -> bool
         requires { IsTold told.now }
         ensures { (a : Answers) (f : Forest) → result ≡ holds (condition_of condition.now) (token_of told.now.content) (state_of a self.now f) }
     {
@@ -83,7 +83,7 @@ impl<Sink: TreeSink> Construction<Sink> {
     }
 
     /// Whether a row is for a token.
-    fn fits(&self, sink: &Sink, row: &Row, told: &Told<'_>) -> bool
+    fn fits(&self, sink: &Sink, row: &Row, told: &NamedToken<'_>) -> bool
         requires { IsTold told.now }
         ensures { (a : Answers) (f : Forest) → result ≡ fits (row_of row.now) (token_of told.now.content) (state_of a self.now f) }
     {
@@ -91,7 +91,7 @@ impl<Sink: TreeSink> Construction<Sink> {
     }
 
     /// The first row that is for a token, if there is one.
-    fn find(&self, sink: &Sink, rows: &'static [Row], told: &Told<'_>) -> Option<&'static Row>
+    fn find(&self, sink: &Sink, rows: &'static [Row], told: &NamedToken<'_>) -> Option<&'static Row>
         requires { IsTold told.now }
         ensures { (a : Answers) (f : Forest) (rest : List RuleRow) → first_fit (rows_of rows.now ++ rest) (token_of told.now.content) (state_of a self.now f) ≡ row_or result (first_fit rest (token_of told.now.content) (state_of a self.now f)) }
     {
@@ -104,7 +104,7 @@ impl<Sink: TreeSink> Construction<Sink> {
     }
 
     /// The first row that is for a token, or what a token takes that no row is for.
-    fn first_in(&self, sink: &Sink, rows: &'static [Row], told: &Told<'_>) -> &'static Row
+    fn first_in(&self, sink: &Sink, rows: &'static [Row], told: &NamedToken<'_>) -> &'static Row
         requires { IsTold told.now }
         ensures { (a : Answers) (f : Forest) → row_of result.now ≡ first_fit (rows_of rows.now) (token_of told.now.content) (state_of a self.now f) }
     {
@@ -115,7 +115,7 @@ impl<Sink: TreeSink> Construction<Sink> {
     }
 
     /// The first row of a part that is for a token, if there is one.
-    fn find_in(&self, sink: &Sink, part: &Part, told: &Told<'_>) -> Option<&'static Row>
+    fn find_in(&self, sink: &Sink, part: &Part, told: &NamedToken<'_>) -> Option<&'static Row>
         requires told { IsTold told.now }
         requires covered { is_covered part.now ≡ true }
         ensures { (a : Answers) (f : Forest) (rest : List RuleRow) → first_fit (rows_of part.now.rows.now ++ rest) (token_of told.now.content) (state_of a self.now f) ≡ row_or result (first_fit rest (token_of told.now.content) (state_of a self.now f)) }
@@ -133,7 +133,7 @@ impl<Sink: TreeSink> Construction<Sink> {
         sink: &Sink,
         front: &Part,
         back: &Part,
-        told: &Told<'_>,
+        told: &NamedToken<'_>,
     ) -> Option<&'static Row>
         requires told { IsTold told.now }
         requires front { is_covered front.now ≡ true }
@@ -147,7 +147,7 @@ impl<Sink: TreeSink> Construction<Sink> {
     }
 
     /// The same of all parts of a table.
-    fn find_in_parts(&self, sink: &Sink, rows: &Rows, told: &Told<'_>) -> Option<&'static Row>
+    fn find_in_parts(&self, sink: &Sink, rows: &Rows, told: &NamedToken<'_>) -> Option<&'static Row>
         requires told { IsTold told.now }
         requires covered { are_covered rows.now ≡ true }
         ensures { (a : Answers) (f : Forest) → first_fit (all_rows rows.now) (token_of told.now.content) (state_of a self.now f) ≡ row_or result (first_fit (rows_of rows.now.last.now) (token_of told.now.content) (state_of a self.now f)) }
@@ -159,7 +159,7 @@ impl<Sink: TreeSink> Construction<Sink> {
     }
 
     /// The row of a table that a token takes.
-    fn first_of(&self, sink: &Sink, rows: &Rows, told: &Told<'_>) -> &'static Row
+    fn first_of(&self, sink: &Sink, rows: &Rows, told: &NamedToken<'_>) -> &'static Row
         requires told { IsTold told.now }
         requires covered { are_covered rows.now ≡ true }
         ensures { (a : Answers) (f : Forest) → row_of result.now ≡ first_fit (all_rows rows.now) (token_of told.now.content) (state_of a self.now f) }
@@ -175,7 +175,7 @@ impl<Sink: TreeSink> Construction<Sink> {
         &self,
         sink: &Sink,
         mode: InsertionMode,
-        told: &Told<'_>,
+        told: &NamedToken<'_>,
     ) -> &'static Row
         requires { IsTold told.now }
         ensures { (a : Answers) (f : Forest) → row_of result.now ≡ first_fit (rows mode) (token_of told.now.content) (state_of a self.now f) }
@@ -184,7 +184,7 @@ impl<Sink: TreeSink> Construction<Sink> {
     }
 
     /// The row of foreign content that a token takes.
-    pub(crate) fn first_foreign_row(&self, sink: &Sink, told: &Told<'_>) -> &'static Row
+    pub(crate) fn first_foreign_row(&self, sink: &Sink, told: &NamedToken<'_>) -> &'static Row
         requires { IsTold told.now }
         ensures { (a : Answers) (f : Forest) → row_of result.now ≡ first_fit in_foreign_content (token_of told.now.content) (state_of a self.now f) }
     {

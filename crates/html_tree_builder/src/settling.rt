@@ -10,12 +10,12 @@ ghost use Rattle.html_tree_builder.specs.Told.{IsTold, token_of};
 use crate::conclusions::Ending;
 use crate::construction::Construction;
 use crate::errors;
-use crate::told::{Content, Told};
+use crate::told::{Content, NamedToken};
 use html_tokens::{TagKind, TokenSinkResult};
 use markup::count::Count;
 use markup::{ParseFault, TreeSink};
 
-impl Told<'_> {
+impl NamedToken<'_> {
     /// Whether it is a start tag that closes itself.
     fn is_self_closing(&self) -> bool
         ensures { result ≡ is_self_closing (token_of self.now.content) }
@@ -30,7 +30,7 @@ impl Told<'_> {
 impl<Sink: TreeSink> Construction<Sink> {
     /// A self-closing flag that was not acknowledged is an error.
     #[tactic(auto, unfolding(html_rules::specs::Stack::parse_error))]
-    fn check_acknowledged(&self, sink: &mut Sink, acknowledged: bool, told: &Told<'_>)
+    fn check_acknowledged(&self, sink: &mut Sink, acknowledged: bool, told: &NamedToken<'_>)
         ensures state { Performs (check_acknowledged acknowledged (token_of told.now.content)) self.now self.now (Sink.forest sink.old) (Sink.forest sink.new) }
         ensures stands { Stands (Sink.forest sink.old) self.now → Stands (Sink.forest sink.new) self.now }
     {
@@ -43,7 +43,7 @@ impl<Sink: TreeSink> Construction<Sink> {
     pub(crate) fn settle(
         &mut self,
         sink: &mut Sink,
-        told: &Told<'_>,
+        told: &NamedToken<'_>,
         turns: &mut Count,
     ) -> Result<TokenSinkResult<Sink::Handle>, ParseFault>
         requires told { IsTold told.now }

@@ -20,7 +20,7 @@ ghost use Rattle.html_tree_builder.specs.Turns.{most_turns, turns_of};
 use crate::construction::Construction;
 use crate::errors;
 use crate::texts::{behind_line_feed, split_first};
-use crate::told::{Content, Told};
+use crate::told::{Content, NamedToken};
 use html_names::{ElementClass, doctype_error_and_quirks};
 use html_rules::InsertionMode;
 use html_tokens::{Doctype, Tag, Token, TokenSinkResult};
@@ -29,13 +29,13 @@ use markup::{LocalName, ParseFault, TreeSink};
 use std::borrow::CowStr;
 use std::mem;
 
-impl<'a> Told<'a> {
+impl<'a> NamedToken<'a> {
     /// A tag.
-    fn of_tag(tag: &'a Tag) -> Told<'a>
+    fn of_tag(tag: &'a Tag) -> NamedToken<'a>
         ensures told { IsTold result }
         ensures content { token_of result.content ≡ TagToken tag.now }
     {
-        Told {
+        NamedToken {
             content: Content::Tag(tag),
             name: &tag.name,
             class: ElementClass::html(&tag.name),
@@ -43,12 +43,12 @@ impl<'a> Told<'a> {
     }
 
     /// What has this name, or no name.
-    fn of(content: Content<'a>, name: &'a LocalName) -> Told<'a>
+    fn of(content: Content<'a>, name: &'a LocalName) -> NamedToken<'a>
         requires { name.now ≡ name_of (token_of content) }
         ensures told { IsTold result }
         ensures content { token_of result.content ≡ token_of content.entry }
     {
-        Told {
+        NamedToken {
             content,
             name,
             class: ElementClass::html(name),
@@ -61,7 +61,7 @@ impl<Sink: TreeSink> Construction<Sink> {
     fn settle_told(
         &mut self,
         sink: &mut Sink,
-        told: &Told<'_>,
+        told: &NamedToken<'_>,
         turns: &mut Count,
     ) -> Result<TokenSinkResult<Sink::Handle>, ParseFault>
         requires told { IsTold told.now }
@@ -84,7 +84,7 @@ impl<Sink: TreeSink> Construction<Sink> {
         ensures fault { IfErr result (λ fault. fault ≡ Memory) }
     {
         let name = LocalName::empty(self.alloc);
-        let told = Told::of(Content::Characters(character), &name);
+        let told = NamedToken::of(Content::Characters(character), &name);
         drop(self.settle_told(sink, &told, &mut Count::new())?);
         Ok(())
     }
@@ -192,7 +192,7 @@ impl<Sink: TreeSink> Construction<Sink> {
     fn process_told(
         &mut self,
         sink: &mut Sink,
-        told: &Told<'_>,
+        told: &NamedToken<'_>,
         turns: &mut Count,
     ) -> Result<TokenSinkResult<Sink::Handle>, ParseFault>
         requires told { IsTold told.now }
@@ -224,7 +224,7 @@ impl<Sink: TreeSink> Construction<Sink> {
         ensures most { turns.new.count ≤ turns.old.count + most_turns self.old.stack.open_elems }
         ensures fault { IfErr result (λ fault. fault ≡ Memory) }
     {
-        self.process_told(sink, &Told::of_tag(tag), turns)
+        self.process_told(sink, &NamedToken::of_tag(tag), turns)
     }
 
     /// Takes a token, of which an error's message is taken out, and a doctype where it belongs. An error is told on, and an empty text
@@ -286,6 +286,6 @@ impl<Sink: TreeSink> Construction<Sink> {
         ensures fault { IfErr result (λ fault. fault ≡ Memory) }
     {
         let name = LocalName::empty(self.alloc);
-        self.process_told(sink, &Told::of(content, &name), turns)
+        self.process_told(sink, &NamedToken::of(content, &name), turns)
     }
 }

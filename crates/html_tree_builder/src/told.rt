@@ -30,7 +30,7 @@ pub(crate) enum Content<'a> {
 
 /// A token. Its name is that of a tag, and is empty where it is no tag.
 #[derive(Clone, Copy)]
-pub(crate) struct Told<'a> {
+pub(crate) struct NamedToken<'a> {
     /// What it is.
     pub(crate) content: Content<'a>,
     /// The name.
@@ -47,7 +47,7 @@ pub(crate) fn is_white(text: &str) -> bool
         .all(|c| matches!(c, '\t' | '\n' | '\x0C' | '\r' | ' '))
 }
 
-impl<'a> Told<'a> {
+impl<'a> NamedToken<'a> {
     /// The text of characters or of a comment; else none.
     pub(crate) fn text(&self) -> &'a str
         ensures { chars result.now ≡ text_of (token_of self.now.content) }
@@ -73,7 +73,7 @@ impl<'a> Told<'a> {
     }
 }
 
-impl Told<'_> {
+impl NamedToken<'_> {
     /// Whether it is a tag of a kind whose name is in a set.
     fn is_tag_in(&self, kind: TagKind, set: TagSet) -> bool
         requires { IsTold self.now }

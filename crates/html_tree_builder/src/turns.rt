@@ -10,7 +10,7 @@ ghost use Rattle.html_tree_builder.specs.Turning.{MayGoOn, MayTakeRow, MayTurn, 
 
 use crate::conclusions::{Ending, Next};
 use crate::construction::Construction;
-use crate::told::Told;
+use crate::told::NamedToken;
 use html_modes::Row;
 use html_rules::InsertionMode;
 use markup::{ParseFault, TreeSink};
@@ -25,7 +25,7 @@ impl<Sink: TreeSink> Construction<Sink> {
         &mut self,
         sink: &mut Sink,
         mode: InsertionMode,
-        told: &Told<'_>,
+        told: &NamedToken<'_>,
         left: u8,
     ) -> Result<Ending<Sink::Handle>, ParseFault>
         requires told { IsTold told.now }
@@ -48,7 +48,7 @@ impl<Sink: TreeSink> Construction<Sink> {
         &mut self,
         sink: &mut Sink,
         row: &'static Row,
-        told: &Told<'_>,
+        told: &NamedToken<'_>,
         left: u8,
     ) -> Result<Ending<Sink::Handle>, ParseFault>
         requires told { IsTold told.now }
@@ -70,7 +70,7 @@ impl<Sink: TreeSink> Construction<Sink> {
         &mut self,
         sink: &mut Sink,
         next: Next<Sink::Handle>,
-        told: &Told<'_>,
+        told: &NamedToken<'_>,
         left: u8,
     ) -> Result<Ending<Sink::Handle>, ParseFault>
         requires told { IsTold told.now }
@@ -95,7 +95,7 @@ impl<Sink: TreeSink> Construction<Sink> {
     pub(crate) fn turn(
         &mut self,
         sink: &mut Sink,
-        told: &Told<'_>,
+        told: &NamedToken<'_>,
     ) -> Result<Ending<Sink::Handle>, ParseFault>
         requires told { IsTold told.now }
         requires stands { Stands (Sink.forest sink.old) self.old }

@@ -5,7 +5,7 @@ use super::tags::tag;
 use crate::see;
 use html_tokens::pieces::{emit_pieces, tell_error};
 use html_tokens::states::RawKind;
-use html_tokens::{Counting, Listed, TagKind, Token, TokenSink, TokenSinkResult, Told};
+use html_tokens::{Counting, Listed, ListedToken, TagKind, Token, TokenSink, TokenSinkResult};
 use markup::{ParseFault, Text};
 use std::alloc::Global;
 use std::borrow::CowStr;
@@ -28,7 +28,7 @@ fn tell_null(sink: &mut Listed, line: u64) -> Result<(), ParseFault> {
     Ok(())
 }
 
-fn is_null_at(told: &Told, line: u64, text: &str) -> bool {
+fn is_null_at(told: &ListedToken, line: u64, text: &str) -> bool {
     told.text.as_str() == text && told.token == Token::NullCharacterToken && told.line == line
 }
 

@@ -12,8 +12,8 @@ use Rattle.markup.proofs.TemplateContents.{HasContents-empty}
 use Rattle.html_plain.specs.Elements.{behind_text, spelled}
 use Rattle.html_plain.specs.Grammar.{IsPlain, IsPlainDocument, is_plain_forest, is_plain_text}
 use Rattle.html_plain.specs.declared.elements.PlainElement.{PlainElement}
-use Rattle.html_plain.specs.declared.place.Place.{Place}
-use Rattle.html_plain.specs.declared.place.Place.TheVariants.{BeforeDoctype}
+use Rattle.html_plain.specs.declared.place.PlainPlace.{PlainPlace}
+use Rattle.html_plain.specs.declared.place.PlainPlace.TheVariants.{BeforeDoctype}
 use Rattle.html_plain.proofs.Agreement.{computed-cases, cases-computed}
 use Rattle.html_plain.proofs.Names.{each-element}
 use Rattle.html_round_trip.specs.Planting.Planted.{ArePlantable, planted}
@@ -31,7 +31,7 @@ pub and-false : (b c : Bool) → c ≡ false → (b && c) ≡ false
 and-false true c h = h
 and-false false c h = refl
 
-pub plain-plantable : (place : Place) (after_text : Bool) (trees : Trees) → IsPlain place after_text trees → ArePlantable after_text trees
+pub plain-plantable : (place : PlainPlace) (after_text : Bool) (trees : Trees) → IsPlain place after_text trees → ArePlantable after_text trees
 plain-plantable place after_text Nothing h = tt
 plain-plantable place after_text (Text text rest) h = (h.0, (λ e. (let no : is_plain_text [] ≡ true = rw e at h.1 in absurd (cc))), plain-plantable (behind_text place) true rest h.3)
 plain-plantable place after_text (Comment text rest) h = plain-plantable place false rest h.2

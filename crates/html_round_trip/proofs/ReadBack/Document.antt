@@ -17,7 +17,7 @@ use Rattle.html_plain.specs.Frames.{Frame, IsPlainFrame, framed, text_before}
 use Rattle.html_plain.specs.Grammar.{IsPlainDocument, is_plain_document, is_plain_forest}
 use Rattle.html_plain.specs.Laws.{text_of}
 use Rattle.html_plain.specs.declared.elements.PlainElement.TheVariants.{Html, Head, Body}
-use Rattle.html_plain.specs.declared.place.Place.TheVariants.{BeforeDoctype, InFlow, InHead}
+use Rattle.html_plain.specs.declared.place.PlainPlace.TheVariants.{BeforeDoctype, InFlow, InHead}
 use Rattle.html_plain.proofs.Agreement.{computed-cases}
 use Rattle.html_plain.proofs.Frames.{documents-framed}
 use Rattle.html_plain.proofs.WrittenForms.{element-written}

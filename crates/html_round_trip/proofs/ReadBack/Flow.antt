@@ -14,8 +14,8 @@ use Rattle.html_plain.specs.declared.elements.Level.{Level}
 use Rattle.html_plain.specs.declared.elements.ListKind.TheVariants.{Unordered, Ordered}
 use Rattle.html_plain.specs.declared.elements.PlainElement.{PlainElement}
 use Rattle.html_plain.specs.declared.elements.PlainElement.TheVariants.{Heading, Division, List as ListElement, Item, Break, Formatted, Link}
-use Rattle.html_plain.specs.declared.place.Place.{Place}
-use Rattle.html_plain.specs.declared.place.Place.TheVariants.{InFlow, InLine, InList}
+use Rattle.html_plain.specs.declared.place.PlainPlace.{PlainPlace}
+use Rattle.html_plain.specs.declared.place.PlainPlace.TheVariants.{InFlow, InLine, InList}
 use Rattle.html_round_trip.specs.Planting.Planted.{ArePlantable, planted}
 use Rattle.html_rules.specs.Actions.{frameset_not_ok, frameset_not_ok_unless_white}
 use Rattle.html_rules.specs.Formatting.{create_formatting_element_for, reconstruct_active_formatting_elements, with_room}
@@ -56,7 +56,7 @@ bare-no_link (Marker ∷ es) bare = refl
 bare-no_link (Element n tag ∷ es) bare = absurd bare
 
 -- entries that left are none of which more is asked
-lists-left : (place : Place) (es left : List Entry) → Drops es left → ListsThere place es → ListsThere place left
+lists-left : (place : PlainPlace) (es left : List Entry) → Drops es left → ListsThere place es → ListsThere place left
 lists-left (InLine true) es left h lists = tt
 lists-left (InLine false) es left h lists = link-left es left h lists
 lists-left InFlow es left h lists = rw (bare-stays es left lists h) lists
@@ -64,7 +64,7 @@ lists-left InList es left h lists = rw (bare-stays es left lists h) lists
 lists-left place es left h lists = rw (bare-stays es left lists h) lists
 
 -- behind a subtree the place is as before
-pub fits-after : (place : Place) (b : Home) (f g : Forest) (stack : List Open) (es left : List Entry) → node_count f ≤ node_count g → Drops es left → Fits place b f stack es → Fits place b g stack left
+pub fits-after : (place : PlainPlace) (b : Home) (f g : Forest) (stack : List Open) (es left : List Entry) → node_count f ≤ node_count g → Drops es left → Fits place b f stack es → Fits place b g stack left
 fits-after place b f g stack es left more h fits = record {
   home = fits.home;
   takes = fits.takes;
@@ -74,7 +74,7 @@ fits-after place b f g stack es left more h fits = record {
 }
 
 -- in an element that is not listed
-fits-inside : (k : PlainElement) → is_in_flow k ≡ true → (place other : Place) (b : Home) (f g : Forest) (stack : List Open) (es : List Entry) → node_count f < node_count g → Fits place b f stack es → TakesThere other b (opened (node_count f) k ∷ stack) → ListsThere other es → Fits other b g (opened (node_count f) k ∷ stack) es
+fits-inside : (k : PlainElement) → is_in_flow k ≡ true → (place other : PlainPlace) (b : Home) (f g : Forest) (stack : List Open) (es : List Entry) → node_count f < node_count g → Fits place b f stack es → TakesThere other b (opened (node_count f) k ∷ stack) → ListsThere other es → Fits other b g (opened (node_count f) k ∷ stack) es
 fits-inside k flows place other b f g stack es more fits takes lists = record {
   home = home-more k flows b (node_count f) stack fits.home;
   takes = takes;
@@ -87,7 +87,7 @@ is-open_first : (n : ℕ) (k : PlainElement) (stack : List Open) (tag : _) (es :
 is-open_first n k stack tag es are = ((rw (same n) refl), all-open_more n k stack es are)
 
 -- in one that is
-fits-listed : (k : PlainElement) (attrs : List Attribute) → is_in_flow k ≡ true → (place other : Place) (b : Home) (f g : Forest) (stack : List Open) (es : List Entry) → node_count f < node_count g → Fits place b f stack es
+fits-listed : (k : PlainElement) (attrs : List Attribute) → is_in_flow k ≡ true → (place other : PlainPlace) (b : Home) (f g : Forest) (stack : List Open) (es : List Entry) → node_count f < node_count g → Fits place b f stack es
     → let entries = Element (node_count f) (tag_of k attrs) ∷ with_room (tag_of k attrs) es in TakesThere other b (opened (node_count f) k ∷ stack) → ListsThere other entries → Fits other b g (opened (node_count f) k ∷ stack) entries
 fits-listed k attrs flows place other b f g stack es more fits takes lists =
     let room = with_room (tag_of k attrs) es in
@@ -114,10 +114,10 @@ takes-list Unordered b n stack takes = (record { back = takes.back; no_paragraph
 takes-list Ordered b n stack takes = (record { back = takes.back; no_paragraph = takes.no_paragraph }, refl)
 
 module _ (rows : List TableRow) (reads : ReadsEscapes rows) (sc : Bool) (o : Around) (head : Option ℕ) where
-  abbrev FlowLaw : Place → Trees → Type 0
+  abbrev FlowLaw : PlainPlace → Trees → Type 0
   FlowLaw place trees = AreReadInFlow rows sc o head place trees
 
-  abbrev FlowElement : Place → PlainElement → List Attribute → Trees → Type 0
+  abbrev FlowElement : PlainPlace → PlainElement → List Attribute → Trees → Type 0
   FlowElement place k attrs kids = IsReadInFlow rows sc o head place k attrs kids
 
   -- an element, from what is read of its tags and of its children
@@ -143,7 +143,7 @@ module _ (rows : List TableRow) (reads : ReadsEscapes rows) (sc : Bool) (o : Aro
       ∙ ap (λ s. turn_of s (Finished false)) (appended o head (mode_in b) (c ∷ []) n top f os es (ok && is_white (c ∷ [])))))
       (good-text f n (c ∷ []) good).silent
 
-  pub text-flows : (place : Place) (b : Home) (n : ℕ) (top : PlainElement) (os : List Open) (last : Option (List ℕ)) (f : Forest) (es : List Entry) (ok : Bool) (cs : List ℕ) → has_no_null cs ≡ true → IsGood f n → Fits place b f (opened n top ∷ os) es
+  pub text-flows : (place : PlainPlace) (b : Home) (n : ℕ) (top : PlainElement) (os : List Open) (last : Option (List ℕ)) (f : Forest) (es : List Entry) (ok : Bool) (cs : List ℕ) → has_no_null cs ≡ true → IsGood f n → Fits place b f (opened n top ∷ os) es
       → ReadsInFlow rows o head b n top os last f es ok (escape cs) (put_text f (Last n) cs)
   text-flows place b n top os last f es ok cs shown good fits = record {
     last_tag = last;
@@ -168,7 +168,7 @@ module _ (rows : List TableRow) (reads : ReadsEscapes rows) (sc : Bool) (o : Aro
   comment-reads b n top os last f es ok text plain good home =
       reads-one rows (in_data last) (in_data last) _ _ (written_comment text) (CommentToken text) Continue (comment-spelled rows last text (comments-read text plain).0) (comment-takes b n top os f es ok text good home)
 
-  pub comment-flows : (place : Place) (b : Home) (n : ℕ) (top : PlainElement) (os : List Open) (last : Option (List ℕ)) (f : Forest) (es : List Entry) (ok : Bool) (text : List ℕ) → is_plain_comment text ≡ true → IsGood f n → Fits place b f (opened n top ∷ os) es
+  pub comment-flows : (place : PlainPlace) (b : Home) (n : ℕ) (top : PlainElement) (os : List Open) (last : Option (List ℕ)) (f : Forest) (es : List Entry) (ok : Bool) (text : List ℕ) → is_plain_comment text ≡ true → IsGood f n → Fits place b f (opened n top ∷ os) es
       → ReadsInFlow rows o head b n top os last f es ok (written_comment text) (put_new f (Last n) (comment_node text))
   comment-flows place b n top os last f es ok text plain good fits = record {
     last_tag = last;
@@ -202,7 +202,7 @@ module _ (rows : List TableRow) (reads : ReadsEscapes rows) (sc : Bool) (o : Aro
       tag-once rows _ _ _ false (home-ready o head b f (opened n k ∷ stack) es ok _ (home-more k flows b n stack home) silent) refl (end-simple o head n f stack es ok k ends b) silent
 
   -- an element that is not listed
-  module _ (k : PlainElement) (attrs : List Attribute) (plain : are_plain_attributes attrs ≡ true) (kids : Trees) (can : ArePlantable false kids) (ends : is_simply_ended k ≡ true) (flows : is_in_flow k ≡ true) (place other : Place) (law : FlowLaw other kids) where
+  module _ (k : PlainElement) (attrs : List Attribute) (plain : are_plain_attributes attrs ≡ true) (kids : Trees) (can : ArePlantable false kids) (ends : is_simply_ended k ≡ true) (flows : is_in_flow k ≡ true) (place other : PlainPlace) (law : FlowLaw other kids) where
     simply : (b : Home) (n : ℕ) (top : PlainElement) (os : List Open) (last : Option (List ℕ)) (f : Forest) (es : List Entry) (ok opens_ok : Bool) → IsGood f n → Fits place b f (opened n top ∷ os) es
         → let g = put_new f (Last n) (element_node k attrs) in
         TakesQuietly rows (at o head (mode_in b) f (opened n top ∷ os) es ok) (start_token (spelled k) attrs) (at o head (mode_in b) g (opened (node_count f) k ∷ opened n top ∷ os) es opens_ok) Continue
@@ -220,7 +220,7 @@ module _ (rows : List TableRow) (reads : ReadsEscapes rows) (sc : Bool) (o : Aro
 
   -- a paragraph, a division or a list
   pub block-law : (k : PlainElement) → is_simple_block k ≡ true → is_simply_ended k ≡ true → is_in_flow k ≡ true → (attrs : List Attribute) → are_plain_attributes attrs ≡ true → (kids : Trees) → ArePlantable false kids
-      → (other : Place) → ((b : Home) (n : ℕ) (stack : List Open) → TakesBlocks b stack → TakesThere other b (opened n k ∷ stack)) → ((es : List Entry) → IsBare es → ListsThere other es)
+      → (other : PlainPlace) → ((b : Home) (n : ℕ) (stack : List Open) → TakesBlocks b stack → TakesThere other b (opened n k ∷ stack)) → ((es : List Entry) → IsBare es → ListsThere other es)
       → FlowLaw other kids → (b : Home) (n : ℕ) (top : PlainElement) (os : List Open) (last : Option (List ℕ)) (f : Forest) (es : List Entry) (ok : Bool) → IsGood f n → Fits InFlow b f (opened n top ∷ os) es
       → ReadsInFlow rows o head b n top os last f es ok (start_tag (spelled k) attrs ++ (text_of sc kids ++ end_tag (spelled k))) (planted kids (node_count f) (put_new f (Last n) (element_node k attrs)))
   block-law k block ends flows attrs plain kids can other takes lists law b n top os last f es ok good fits =
@@ -261,7 +261,7 @@ module _ (rows : List TableRow) (reads : ReadsEscapes rows) (sc : Bool) (o : Aro
       (takes-item b (node_count f) stack fits.takes.0) fits.lists
 
   -- a break
-  pub break-law : (place : Place) (attrs : List Attribute) → are_plain_attributes attrs ≡ true → (kids : Trees) → kids ≡ NoTrees → FlowElement place Break attrs kids
+  pub break-law : (place : PlainPlace) (attrs : List Attribute) → are_plain_attributes attrs ≡ true → (kids : Trees) → kids ≡ NoTrees → FlowElement place Break attrs kids
   unfolding frameset_not_ok
   break-law place attrs plain kids none b n top os last f es ok good fits =
       let stack = opened n top ∷ os in
@@ -307,7 +307,7 @@ module _ (rows : List TableRow) (reads : ReadsEscapes rows) (sc : Bool) (o : Aro
       }
 
   -- an element that is listed, once its tag opens it
-  listed-law : (k : PlainElement) → is_formatting k ≡ true → is_in_flow k ≡ true → (attrs : List Attribute) → are_plain_attributes attrs ≡ true → (kids : Trees) → ArePlantable false kids → (place : Place) (in_link : Bool) → FlowLaw (InLine in_link) kids
+  listed-law : (k : PlainElement) → is_formatting k ≡ true → is_in_flow k ≡ true → (attrs : List Attribute) → are_plain_attributes attrs ≡ true → (kids : Trees) → ArePlantable false kids → (place : PlainPlace) (in_link : Bool) → FlowLaw (InLine in_link) kids
       → (b : Home) (n : ℕ) (top : PlainElement) (os : List Open) (last : Option (List ℕ)) (f : Forest) (es : List Entry) (ok : Bool) → IsGood f n → Fits place b f (opened n top ∷ os) es
       → let g = put_new f (Last n) (element_node k attrs) in
       let entries = Element (node_count f) (tag_of k attrs) ∷ with_room (tag_of k attrs) es in
@@ -328,7 +328,7 @@ module _ (rows : List TableRow) (reads : ReadsEscapes rows) (sc : Bool) (o : Aro
       let closes = closes-listed k formats flows attrs b m stack (planted kids m g) room within.entries within.frameset_ok fits.home left.silent (below-left m es room less fits.below) within.drops in
       wrapped k attrs plain b n top os last f g (planted kids m g) m es entries ok ok (text_of sc kids) opens within closes.left (drops-then es room closes.left less closes.drops) closes.takes
 
-  pub format-law : (k : PlainElement) → is_format k ≡ true → is_formatting k ≡ true → is_in_flow k ≡ true → (attrs : List Attribute) → are_plain_attributes attrs ≡ true → (kids : Trees) → ArePlantable false kids → (place : Place) (in_link : Bool) → FlowLaw (InLine in_link) kids
+  pub format-law : (k : PlainElement) → is_format k ≡ true → is_formatting k ≡ true → is_in_flow k ≡ true → (attrs : List Attribute) → are_plain_attributes attrs ≡ true → (kids : Trees) → ArePlantable false kids → (place : PlainPlace) (in_link : Bool) → FlowLaw (InLine in_link) kids
       → ((m : ℕ) (es room : List Entry) → Drops es room → ListsThere place es → ListsThere (InLine in_link) (Element m (tag_of k attrs) ∷ room))
       → (b : Home) (n : ℕ) (top : PlainElement) (os : List Open) (last : Option (List ℕ)) (f : Forest) (es : List Entry) (ok : Bool) → IsGood f n → Fits place b f (opened n top ∷ os) es
       → ReadsInFlow rows o head b n top os last f es ok (start_tag (spelled k) attrs ++ (text_of sc kids ++ end_tag (spelled k))) (planted kids (node_count f) (put_new f (Last n) (element_node k attrs)))
@@ -342,7 +342,7 @@ module _ (rows : List TableRow) (reads : ReadsEscapes rows) (sc : Bool) (o : Aro
       good.silent)
       (lists (node_count f) es (with_room (tag_of k attrs) es) (drops-room (tag_of k attrs) es) fits.lists)
 
-  pub link-law : (attrs : List Attribute) → are_plain_attributes attrs ≡ true → (kids : Trees) → ArePlantable false kids → (place : Place) → FlowLaw (InLine true) kids → ((es : List Entry) → ListsThere place es → HasNoLink es) → FlowElement place Link attrs kids
+  pub link-law : (attrs : List Attribute) → are_plain_attributes attrs ≡ true → (kids : Trees) → ArePlantable false kids → (place : PlainPlace) → FlowLaw (InLine true) kids → ((es : List Entry) → ListsThere place es → HasNoLink es) → FlowElement place Link attrs kids
   link-law attrs plain kids can place law none b n top os last f es ok good fits =
       let k = Link in
       let stack = opened n top ∷ os in

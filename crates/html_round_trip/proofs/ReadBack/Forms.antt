@@ -9,8 +9,8 @@ use Rattle.html_plain.specs.declared.elements.Level.{Level}
 use Rattle.html_plain.specs.declared.elements.ListKind.{ListKind}
 use Rattle.html_plain.specs.declared.elements.PlainElement.{PlainElement}
 use Rattle.html_plain.specs.declared.elements.PlainElement.TheVariants.{Paragraph, Heading, Division, List as ListElement, Item, Table, TableBody, Row, Cell, Break, Formatted, Link}
-use Rattle.html_plain.specs.declared.place.Place.{Place}
-use Rattle.html_plain.specs.declared.place.Place.TheVariants.{InBreak, InFlow, InLine, InList, InRow, InTable, InTableBody}
+use Rattle.html_plain.specs.declared.place.PlainPlace.{PlainPlace}
+use Rattle.html_plain.specs.declared.place.PlainPlace.TheVariants.{InBreak, InFlow, InLine, InList, InRow, InTable, InTableBody}
 use Rattle.html_round_trip.proofs.Planting.PlainTrees.{plain-plantable}
 use Rattle.html_tokens.specs.Laws.{ReadsEscapes}
 use Rattle.html_tokens.specs.Table.{Row as TableRow}
@@ -130,7 +130,7 @@ module _ (rows : List TableRow) (reads : ReadsEscapes rows) where
   in-row (Cell kind) h = cell-form kind
   in-row k h = absurd (cc)
 
-  pub form : (place : Place) (k : PlainElement) → holds place k ≡ true → IsFormRead rows place k
+  pub form : (place : PlainPlace) (k : PlainElement) → holds place k ≡ true → IsFormRead rows place k
   form InFlow k h = in-flow k h
   form (InLine in_link) k h = in-line in_link k h
   form InList k h = in-list k h

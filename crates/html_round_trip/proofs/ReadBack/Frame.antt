@@ -11,7 +11,7 @@ use Rattle.html_plain.specs.Grammar.{IsPlain, are_plain_attributes, is_white}
 use Rattle.html_plain.specs.Laws.{text_of}
 use Rattle.html_plain.specs.declared.elements.PlainElement.{PlainElement}
 use Rattle.html_plain.specs.declared.elements.PlainElement.TheVariants.{Html, Head, Title, Body}
-use Rattle.html_plain.specs.declared.place.Place.TheVariants.{BehindTitle, InFlow, InHead, InTitle}
+use Rattle.html_plain.specs.declared.place.PlainPlace.TheVariants.{BehindTitle, InFlow, InHead, InTitle}
 use Rattle.html_plain.proofs.WrittenForms.{element-written}
 use Rattle.html_round_trip.specs.Planting.Planted.{planted}
 use Rattle.html_round_trip.proofs.Planting.PlainTrees.{plain-plantable}

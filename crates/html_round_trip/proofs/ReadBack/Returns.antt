@@ -10,7 +10,7 @@ use Rattle.html_plain.specs.Grammar.{IsPlain, are_plain_attributes}
 use Rattle.html_plain.specs.Laws.{is_void, text_of}
 use Rattle.html_plain.specs.declared.elements.PlainElement.{PlainElement}
 use Rattle.html_plain.specs.declared.elements.PlainElement.TheVariants.{Break}
-use Rattle.html_plain.specs.declared.place.Place.{Place}
+use Rattle.html_plain.specs.declared.place.PlainPlace.{PlainPlace}
 use Rattle.html_plain.proofs.WrittenForms.{break-written, element-written}
 use Rattle.html_round_trip.specs.Slices.Forms.{has_no_return}
 use Rattle.html_round_trip.proofs.Slices.PlainForms.{attributes-read, comments-read, names-of_tags, texts-read, values-read}
@@ -37,14 +37,14 @@ module _ (sc : Bool) where
       ∙ joined (start_tag (spelled k) attrs) (text_of sc kids ++ (end_tag (spelled k) ++ text_of sc rest)) (start-none k attrs plain)
       (joined (text_of sc kids) (end_tag (spelled k) ++ text_of sc rest) inner (joined (end_tag (spelled k)) (text_of sc rest) (end-none k) more))
 
-  element-none : (place : Place) (k : PlainElement) (attrs : List Attribute) → are_plain_attributes attrs ≡ true → (kids rest : Trees) → IsPlain (inside place k) false kids → has_no_return (text_of sc kids) ≡ true → has_no_return (text_of sc rest) ≡ true
+  element-none : (place : PlainPlace) (k : PlainElement) (attrs : List Attribute) → are_plain_attributes attrs ≡ true → (kids rest : Trees) → IsPlain (inside place k) false kids → has_no_return (text_of sc kids) ≡ true → has_no_return (text_of sc rest) ≡ true
       → has_no_return (text_of sc (Element (html_name (spelled k)) attrs false kids rest)) ≡ true
   element-none place Break attrs plain kids rest is inner more =
       ap (λ kids. has_no_return (text_of sc (Element (html_name (spelled Break)) attrs false kids rest))) (nothing-in_break false kids is)
       ∙ (ap has_no_return (break-written sc attrs rest) ∙ joined (start_tag (spelled Break) attrs) (text_of sc rest) (start-none Break attrs plain) more)
   element-none place k attrs plain kids rest is inner more = whole-none k refl attrs plain kids rest inner more
 
-  pub trees-none : (trees : Trees) (place : Place) (after_text : Bool) → IsPlain place after_text trees → has_no_return (text_of sc trees) ≡ true
+  pub trees-none : (trees : Trees) (place : PlainPlace) (after_text : Bool) → IsPlain place after_text trees → has_no_return (text_of sc trees) ≡ true
   unfolding written
   trees-none Nothing place after_text h = refl
   trees-none (Text text rest) place after_text h = joined (escape text) (text_of sc rest) (text-no_return text (texts-read text h.1).1) (trees-none rest (behind_text place) true h.3)

@@ -16,7 +16,7 @@ use Rattle.html_plain.specs.Grammar.{IsPlain, are_distinct, are_plain_attributes
 use Rattle.html_plain.specs.Laws.{is_void, text_of}
 use Rattle.html_plain.specs.declared.elements.PlainElement.{PlainElement}
 use Rattle.html_plain.specs.declared.elements.PlainElement.TheVariants.{Break}
-use Rattle.html_plain.specs.declared.place.Place.{Place}
+use Rattle.html_plain.specs.declared.place.PlainPlace.{PlainPlace}
 use Rattle.html_plain.proofs.WrittenForms.{break-written, element-written}
 use Rattle.html_round_trip.specs.Slices.Forms.{is_no_text, is_tag_name}
 use Rattle.html_round_trip.proofs.Slices.Attributes.{as-written}
@@ -119,14 +119,14 @@ module _ (sc : Bool) where
       ∙ both (start_tag (spelled k) attributes) (text_of sc kids ++ (end_tag (spelled k) ++ text_of sc rest)) (start-scalars k attributes plain)
       (both (text_of sc kids) (end_tag (spelled k) ++ text_of sc rest) inner (both (end_tag (spelled k)) (text_of sc rest) (end-scalars k) more))
 
-  element-scalars : (place : Place) (k : PlainElement) (attributes : List Attribute) → are_plain_attributes attributes ≡ true → (kids rest : Trees) → IsPlain (inside place k) false kids → scalars (text_of sc kids) ≡ true → scalars (text_of sc rest) ≡ true
+  element-scalars : (place : PlainPlace) (k : PlainElement) (attributes : List Attribute) → are_plain_attributes attributes ≡ true → (kids rest : Trees) → IsPlain (inside place k) false kids → scalars (text_of sc kids) ≡ true → scalars (text_of sc rest) ≡ true
       → scalars (text_of sc (Element (html_name (spelled k)) attributes false kids rest)) ≡ true
   element-scalars place Break attributes plain kids rest is inner more =
       ap (λ kids. scalars (text_of sc (Element (html_name (spelled Break)) attributes false kids rest))) (nothing-in_break false kids is)
       ∙ (ap scalars (break-written sc attributes rest) ∙ both (start_tag (spelled Break) attributes) (text_of sc rest) (start-scalars Break attributes plain) more)
   element-scalars place k attributes plain kids rest is inner more = whole-scalars k refl attributes plain kids rest inner more
 
-  trees-scalars : (trees : Trees) (place : Place) (after_text : Bool) → IsPlain place after_text trees → scalars (text_of sc trees) ≡ true
+  trees-scalars : (trees : Trees) (place : PlainPlace) (after_text : Bool) → IsPlain place after_text trees → scalars (text_of sc trees) ≡ true
   unfolding written
   trees-scalars Nothing place after_text h = refl
   trees-scalars (Text text rest) place after_text h =
@@ -144,7 +144,7 @@ module _ (sc : Bool) where
       (element-scalars place k attributes w.3 kids rest w.4 (trees-scalars kids (inside place k) false w.4) (trees-scalars rest (behind_element place) false w.5)))
 
   -- the bytes of what is written of plain trees
-  pub trees-utf8 : (trees : Trees) (place : Place) (after_text : Bool) → IsPlain place after_text trees → IsUtf8 (encode_utf8_all (text_of sc trees)) × (chars (encode_utf8_all (text_of sc trees)) ≡ text_of sc trees)
+  pub trees-utf8 : (trees : Trees) (place : PlainPlace) (after_text : Bool) → IsPlain place after_text trees → IsUtf8 (encode_utf8_all (text_of sc trees)) × (chars (encode_utf8_all (text_of sc trees)) ≡ text_of sc trees)
   trees-utf8 trees place after_text h =
       let are = trees-scalars trees place after_text h in
       ((text_of sc trees, (are, refl)), chars-encodes (text_of sc trees) are)

@@ -17,7 +17,7 @@ use Rattle.html_plain.specs.declared.elements.CellKind.{CellKind}
 use Rattle.html_plain.specs.declared.elements.CellKind.TheVariants.{Data, Header}
 use Rattle.html_plain.specs.declared.elements.PlainElement.{PlainElement}
 use Rattle.html_plain.specs.declared.elements.PlainElement.TheVariants.{Table, TableBody, Row, Cell}
-use Rattle.html_plain.specs.declared.place.Place.TheVariants.{InFlow}
+use Rattle.html_plain.specs.declared.place.PlainPlace.TheVariants.{InFlow}
 use Rattle.html_round_trip.specs.Planting.Planted.{ArePlantable, planted}
 use Rattle.html_rules.specs.Actions.{restore_mode, frameset_not_ok, set_mode, insert_pending_text}
 use Rattle.html_rules.specs.Encodings.{is_space}

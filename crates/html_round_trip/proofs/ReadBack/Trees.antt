@@ -11,8 +11,8 @@ use Rattle.html_plain.specs.Grammar.{IsPlain, is_plain_comment, is_plain_text, i
 use Rattle.html_plain.specs.Laws.{text_of}
 use Rattle.html_plain.specs.declared.elements.PlainElement.{PlainElement}
 use Rattle.html_plain.specs.declared.elements.PlainElement.TheVariants.{Break}
-use Rattle.html_plain.specs.declared.place.Place.{Place}
-use Rattle.html_plain.specs.declared.place.Place.TheVariants.{InFlow, InLine, InList, InRow, InTable, InTableBody}
+use Rattle.html_plain.specs.declared.place.PlainPlace.{PlainPlace}
+use Rattle.html_plain.specs.declared.place.PlainPlace.TheVariants.{InFlow, InLine, InList, InRow, InTable, InTableBody}
 use Rattle.html_plain.proofs.WrittenForms.{break-written, element-written}
 use Rattle.html_round_trip.specs.Planting.Planted.{planted}
 use Rattle.html_round_trip.proofs.Planting.PlainTrees.{plain-plantable}
@@ -33,18 +33,18 @@ use Rattle.html_round_trip.proofs.ReadBack.Runs.{reads-both}
 use Rattle.html_round_trip.proofs.ReadBack.Tables.{text-part}
 
 module _ (rows : List TableRow) (reads : ReadsEscapes rows) (sc : Bool) (o : Around) (head : Option ℕ) where
-  abbrev flow : Place → Trees → Type 0
+  abbrev flow : PlainPlace → Trees → Type 0
   flow place trees = AreReadInFlow rows sc o head place trees
 
   abbrev part : Part → Trees → Type 0
   part p trees = AreReadInPart rows sc o head p trees
 
-  abbrev Law : Place → Trees → Type 0
+  abbrev Law : PlainPlace → Trees → Type 0
   Law place trees = AreRead rows sc o head place trees
 
   -- ONE AFTER THE OTHER
 
-  flow-both : (place : Place) (b : Home) (n : ℕ) (top : PlainElement) (os : List Open) (last : Option (List ℕ)) (f g : Forest) (es : List Entry) (ok : Bool) (t : List ℕ) (rest : Trees)
+  flow-both : (place : PlainPlace) (b : Home) (n : ℕ) (top : PlainElement) (os : List Open) (last : Option (List ℕ)) (f g : Forest) (es : List Entry) (ok : Bool) (t : List ℕ) (rest : Trees)
       → Fits place b f (opened n top ∷ os) es → IsGood g n → node_count f ≤ node_count g → ReadsInFlow rows o head b n top os last f es ok t g → flow place rest
       → ReadsInFlow rows o head b n top os last f es ok (t ++ text_of sc rest) (planted rest n g)
   flow-both place b n top os last f g es ok t rest fits good more first law =
@@ -92,7 +92,7 @@ module _ (rows : List TableRow) (reads : ReadsEscapes rows) (sc : Bool) (o : Aro
 
   -- NOTHING
 
-  flow-nothing : (place : Place) → flow place Nothing
+  flow-nothing : (place : PlainPlace) → flow place Nothing
   unfolding written
   flow-nothing place b n top os last f es ok good fits = record { last_tag = last; entries = es; frameset_ok = ok; drops = drops-none es; reads = runs.NoText }
 
@@ -110,7 +110,7 @@ module _ (rows : List TableRow) (reads : ReadsEscapes rows) (sc : Bool) (o : Aro
     reads = runs.NoText;
   }
 
-  nothing-law : (place : Place) → Law place Nothing
+  nothing-law : (place : PlainPlace) → Law place Nothing
   nothing-law InFlow = flow-nothing InFlow
   nothing-law (InLine in_link) = flow-nothing (InLine in_link)
   nothing-law InList = flow-nothing InList
@@ -121,7 +121,7 @@ module _ (rows : List TableRow) (reads : ReadsEscapes rows) (sc : Bool) (o : Aro
 
   -- TEXT
 
-  flow-text : (place : Place) (text : List ℕ) (rest : Trees) → is_plain_text text ≡ true → flow place rest → flow place (Text text rest)
+  flow-text : (place : PlainPlace) (text : List ℕ) (rest : Trees) → is_plain_text text ≡ true → flow place rest → flow place (Text text rest)
   unfolding written
   flow-text place text rest plain law b n top os last f es ok good fits =
       flow-both place b n top os last f (put_text f (Last n) text) es ok (escape text) rest fits (good-text f n text good) (text-more f n text good)
@@ -133,7 +133,7 @@ module _ (rows : List TableRow) (reads : ReadsEscapes rows) (sc : Bool) (o : Aro
       part-both p n os last f (put_text (put_text f (Last n) waiting) (Last n) text) es ok waiting (escape text) rest rooted below
       (text-part rows reads sc o head p n os last f es ok waiting text (texts-read text plain).0 good rooted waits white) law
 
-  text-law : (place : Place) (text : List ℕ) (rest : Trees) → is_plain_text text ≡ true → takes_text (text_kind place) text ≡ true → Law (behind_text place) rest → Law place (Text text rest)
+  text-law : (place : PlainPlace) (text : List ℕ) (rest : Trees) → is_plain_text text ≡ true → takes_text (text_kind place) text ≡ true → Law (behind_text place) rest → Law place (Text text rest)
   text-law InFlow text rest plain takes law = flow-text InFlow text rest plain law
   text-law (InLine in_link) text rest plain takes law = flow-text (InLine in_link) text rest plain law
   text-law InList text rest plain takes law = flow-text InList text rest plain law
@@ -150,7 +150,7 @@ module _ (rows : List TableRow) (reads : ReadsEscapes rows) (sc : Bool) (o : Aro
       flow-both InFlow b n top os last f (put_new f (Last n) (comment_node text)) es ok (written_comment text) rest fits (good-comment f n text good) (comment-more f n text good)
       (comment-flows rows reads sc o head InFlow b n top os last f es ok text plain good fits) law
 
-  comment-law : (place : Place) (text : List ℕ) (rest : Trees) → takes_comments place ≡ true → is_plain_comment text ≡ true → Law place rest → Law place (Comment text rest)
+  comment-law : (place : PlainPlace) (text : List ℕ) (rest : Trees) → takes_comments place ≡ true → is_plain_comment text ≡ true → Law place rest → Law place (Comment text rest)
   comment-law InFlow text rest takes plain law = flow-comment text rest plain law
   comment-law place text rest takes plain law = absurd (cc)
 
@@ -159,7 +159,7 @@ module _ (rows : List TableRow) (reads : ReadsEscapes rows) (sc : Bool) (o : Aro
   around-shape : (a b c d : List ℕ) → a ++ (b ++ (c ++ d)) ≡ (a ++ (b ++ c)) ++ d
   around-shape a b c d = simp append_assoc
 
-  element-shape : (place : Place) (k : PlainElement) (attrs : List Attribute) (kids rest : Trees) → IsPlain (inside place k) false kids
+  element-shape : (place : PlainPlace) (k : PlainElement) (attrs : List Attribute) (kids rest : Trees) → IsPlain (inside place k) false kids
       → text_of sc (Element (html_name (spelled k)) attrs false kids rest) ≡ element_text k attrs (text_of sc kids) ++ text_of sc rest
   element-shape place Break attrs kids rest is =
       ap (λ kids. text_of sc (Element (html_name (spelled Break)) attrs false kids rest)) (nothing-in_break false kids is) ∙ break-written sc attrs rest
@@ -167,7 +167,7 @@ module _ (rows : List TableRow) (reads : ReadsEscapes rows) (sc : Bool) (o : Aro
       element-written k refl sc attrs kids rest ∙ around-shape (start_tag (spelled k) attrs) (text_of sc kids) (end_tag (spelled k)) (text_of sc rest)
 
   -- an element, and what follows it
-  flow-first : (place : Place) (k : PlainElement) (attrs : List Attribute) (kids rest : Trees) → IsPlain (inside place k) false kids → IsReadInFlow rows sc o head place k attrs kids → flow place rest → flow place (Element (html_name (spelled k)) attrs false kids rest)
+  flow-first : (place : PlainPlace) (k : PlainElement) (attrs : List Attribute) (kids rest : Trees) → IsPlain (inside place k) false kids → IsReadInFlow rows sc o head place k attrs kids → flow place rest → flow place (Element (html_name (spelled k)) attrs false kids rest)
   flow-first place k attrs kids rest is there law b n top os last f es ok good fits =
       let can = plain-plantable (inside place k) false kids is in
       let g = put_new f (Last n) (element_node k attrs) in
@@ -180,7 +180,7 @@ module _ (rows : List TableRow) (reads : ReadsEscapes rows) (sc : Bool) (o : Aro
       let both = flow-both place b n top os last f (planted kids m g) es ok t rest fits (good-planted kids m n g false can inner around_it.parent) (omega arith) (there b n top os last f es ok good fits) law in
       rw (element-shape place k attrs kids rest is) both
 
-  part-first : (p : Part) (place : Place) (k : PlainElement) (attrs : List Attribute) (kids rest : Trees) → IsPlain (inside place k) false kids → IsReadInPart rows sc o head p k attrs kids → part p rest → part p (Element (html_name (spelled k)) attrs false kids rest)
+  part-first : (p : Part) (place : PlainPlace) (k : PlainElement) (attrs : List Attribute) (kids rest : Trees) → IsPlain (inside place k) false kids → IsReadInPart rows sc o head p k attrs kids → part p rest → part p (Element (html_name (spelled k)) attrs false kids rest)
   part-first p place k attrs kids rest is there law n os last f es ok waiting good rooted below white =
       let can = plain-plantable (inside place k) false kids is in
       let f' = put_text f (Last n) waiting in
@@ -197,7 +197,7 @@ module _ (rows : List TableRow) (reads : ReadsEscapes rows) (sc : Bool) (o : Aro
       let both = part-both p n os last f (planted kids m g) es ok waiting t rest rooted below first law in
       rw (element-shape place k attrs kids rest is) both
 
-  element-law : (place : Place) (k : PlainElement) (attrs : List Attribute) (kids rest : Trees) → IsPlain (inside place k) false kids → IsRead rows sc o head place k attrs kids → Law (behind_element place) rest → Law place (Element (html_name (spelled k)) attrs false kids rest)
+  element-law : (place : PlainPlace) (k : PlainElement) (attrs : List Attribute) (kids rest : Trees) → IsPlain (inside place k) false kids → IsRead rows sc o head place k attrs kids → Law (behind_element place) rest → Law place (Element (html_name (spelled k)) attrs false kids rest)
   element-law InFlow k attrs kids rest is there more = flow-first InFlow k attrs kids rest is there more
   element-law (InLine in_link) k attrs kids rest is there more = flow-first (InLine in_link) k attrs kids rest is there more
   element-law InList k attrs kids rest is there more = flow-first InList k attrs kids rest is there more
@@ -208,7 +208,7 @@ module _ (rows : List TableRow) (reads : ReadsEscapes rows) (sc : Bool) (o : Aro
 
   -- THE INDUCTION
 
-  pub law : (trees : Trees) (place : Place) (after_text : Bool) → IsPlain place after_text trees → Law place trees
+  pub law : (trees : Trees) (place : PlainPlace) (after_text : Bool) → IsPlain place after_text trees → Law place trees
   law Nothing place after_text h = nothing-law place
   law (Text text rest) place after_text h = text-law place text rest h.1 h.2 (law rest (behind_text place) true h.3)
   law (Comment text rest) place after_text h = comment-law place text rest h.0 h.1 (law rest place false h.2)

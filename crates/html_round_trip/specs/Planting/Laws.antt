@@ -6,7 +6,7 @@ use Rattle.markup.specs.TreeLaws.{LeavesErrors}
 use Rattle.markup.specs.Trees.{Trees, trees_of}
 use Rattle.html_plain.specs.Grammar.{IsPlain, IsPlainDocument, is_plain_forest}
 use Rattle.html_plain.specs.Laws.{text_of}
-use Rattle.html_plain.specs.declared.place.Place.{Place}
+use Rattle.html_plain.specs.declared.place.PlainPlace.{PlainPlace}
 use Rattle.html_round_trip.specs.Planting.Planted.{ArePlantable, EndsInNoText, HasNoTemplates, IsPlanted, Shows, planted}
 
 -- planted trees are there, and nothing else changed
@@ -27,7 +27,7 @@ AreShownTreesWalked = (low : ℕ) (f : Forest) (ns : List ℕ) (trees : Trees) �
 
 -- the trees of the plain grammar can be planted
 abbrev pub ArePlainTreesPlantable : Type 0
-ArePlainTreesPlantable = (place : Place) (after_text : Bool) (trees : Trees) → IsPlain place after_text trees → ArePlantable after_text trees
+ArePlainTreesPlantable = (place : PlainPlace) (after_text : Bool) (trees : Trees) → IsPlain place after_text trees → ArePlantable after_text trees
 
 -- a plain document that is planted in a new forest is what is walked of it, and so what is written and what is judged
 pub record ArePlainDocumentsPlanted : Type 0 where

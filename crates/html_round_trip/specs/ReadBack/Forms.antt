@@ -17,8 +17,8 @@ use Rattle.html_plain.specs.declared.elements.Level.{Level}
 use Rattle.html_plain.specs.declared.elements.ListKind.{ListKind}
 use Rattle.html_plain.specs.declared.elements.PlainElement.{PlainElement}
 use Rattle.html_plain.specs.declared.elements.PlainElement.TheVariants as element
-use Rattle.html_plain.specs.declared.place.Place.{Place}
-use Rattle.html_plain.specs.declared.place.Place.TheVariants.{InFlow, InLine, InList, InRow, InTable, InTableBody, InTitle}
+use Rattle.html_plain.specs.declared.place.PlainPlace.{PlainPlace}
+use Rattle.html_plain.specs.declared.place.PlainPlace.TheVariants.{InFlow, InLine, InList, InRow, InTable, InTableBody, InTitle}
 use Rattle.html_round_trip.specs.Planting.Planted.{planted}
 use Rattle.html_rules.specs.State.{Entry, Open}
 use Rattle.html_rules.specs.declared.insertion_mode.InsertionMode.TheVariants as mode
@@ -32,13 +32,13 @@ use Rattle.html_round_trip.specs.ReadBack.States.{Around, Home, Part, OfTable, O
 -- TREES AND ELEMENTS, BY THEIR PLACE
 
 -- trees in flow: the rules are left with just these trees planted in the current node
-abbrev pub AreReadInFlow : List Row → Bool → Around → Option ℕ → Place → Trees → Type 0
+abbrev pub AreReadInFlow : List Row → Bool → Around → Option ℕ → PlainPlace → Trees → Type 0
 AreReadInFlow rows sc o head place trees =
     (b : Home) (n : ℕ) (top : PlainElement) (os : List Open) (last : Option (List ℕ)) (f : Forest) (es : List Entry) (ok : Bool) → IsGood f n → Fits place b f (opened n top ∷ os) es
     → ReadsInFlow rows o head b n top os last f es ok (text_of sc trees) (planted trees n f)
 
 -- an element in flow
-abbrev pub IsReadInFlow : List Row → Bool → Around → Option ℕ → Place → PlainElement → List Attribute → Trees → Type 0
+abbrev pub IsReadInFlow : List Row → Bool → Around → Option ℕ → PlainPlace → PlainElement → List Attribute → Trees → Type 0
 IsReadInFlow rows sc o head place k attrs kids =
     (b : Home) (n : ℕ) (top : PlainElement) (os : List Open) (last : Option (List ℕ)) (f : Forest) (es : List Entry) (ok : Bool) → IsGood f n → Fits place b f (opened n top ∷ os) es
     → ReadsInFlow rows o head b n top os last f es ok (element_text k attrs (text_of sc kids)) (planted kids (node_count f) (put_new f (Last n) (element_node k attrs)))
@@ -57,7 +57,7 @@ IsReadInPart rows sc o head part k attrs kids =
     ReadsElementInPart rows o head part n os last f es ok waiting (element_text k attrs (text_of sc kids)) (planted kids (node_count g) (put_new g (Last n) (element_node k attrs)))
 
 -- trees in a place; those of the frame have laws of their own
-abbrev pub AreRead : List Row → Bool → Around → Option ℕ → Place → Trees → Type 0
+abbrev pub AreRead : List Row → Bool → Around → Option ℕ → PlainPlace → Trees → Type 0
 AreRead rows sc o head InFlow trees = AreReadInFlow rows sc o head InFlow trees
 AreRead rows sc o head (InLine in_link) trees = AreReadInFlow rows sc o head (InLine in_link) trees
 AreRead rows sc o head InList trees = AreReadInFlow rows sc o head InList trees
@@ -66,7 +66,7 @@ AreRead rows sc o head InTableBody trees = AreReadInPart rows sc o head OfBodies
 AreRead rows sc o head InRow trees = AreReadInPart rows sc o head OfRow trees
 AreRead rows sc o head place trees = Unit {0}
 
-abbrev pub IsRead : List Row → Bool → Around → Option ℕ → Place → PlainElement → List Attribute → Trees → Type 0
+abbrev pub IsRead : List Row → Bool → Around → Option ℕ → PlainPlace → PlainElement → List Attribute → Trees → Type 0
 IsRead rows sc o head InFlow k attrs kids = IsReadInFlow rows sc o head InFlow k attrs kids
 IsRead rows sc o head (InLine in_link) k attrs kids = IsReadInFlow rows sc o head (InLine in_link) k attrs kids
 IsRead rows sc o head InList k attrs kids = IsReadInFlow rows sc o head InList k attrs kids
@@ -78,7 +78,7 @@ IsRead rows sc o head place k attrs kids = Unit {0}
 -- THE FORMS
 
 -- an element of this form is read in such a place, if its children are
-abbrev pub IsFormRead : List Row → Place → PlainElement → Type 0
+abbrev pub IsFormRead : List Row → PlainPlace → PlainElement → Type 0
 IsFormRead rows place k =
     (sc : Bool) (o : Around) (head : Option ℕ) (attrs : List Attribute) (kids : Trees) → are_plain_attributes attrs ≡ true → IsPlain (inside place k) false kids → AreRead rows sc o head (inside place k) kids
     → IsRead rows sc o head place k attrs kids
@@ -106,7 +106,7 @@ pub record AreTablesRead (rows : List Row) : Type 0 where
 
 pub record AreTextsRead (rows : List Row) : Type 0 where
   -- in flow a text goes into the current node
-  pub flow : (o : Around) (head : Option ℕ) (place : Place) (b : Home) (n : ℕ) (top : PlainElement) (os : List Open) (last : Option (List ℕ)) (f : Forest) (es : List Entry) (ok : Bool) (text : List ℕ)
+  pub flow : (o : Around) (head : Option ℕ) (place : PlainPlace) (b : Home) (n : ℕ) (top : PlainElement) (os : List Open) (last : Option (List ℕ)) (f : Forest) (es : List Entry) (ok : Bool) (text : List ℕ)
       → has_no_null text ≡ true → IsGood f n → Fits place b f (opened n top ∷ os) es
       → ReadsInFlow rows o head b n top os last f es ok (escape text) (put_text f (Last n) text)
   -- beside the elements of a table white space waits for the next one
@@ -171,4 +171,4 @@ AreFramesRead = OfEachTable (λ rows. (o : Around) (f : Forest) (n m : ℕ) → 
 
 -- plain trees are read in their place
 abbrev pub ArePlainTreesRead : Type 0
-ArePlainTreesRead = OfEachTable (λ rows. (sc : Bool) (o : Around) (head : Option ℕ) (trees : Trees) (place : Place) (after_text : Bool) → IsPlain place after_text trees → AreRead rows sc o head place trees)
+ArePlainTreesRead = OfEachTable (λ rows. (sc : Bool) (o : Around) (head : Option ℕ) (trees : Trees) (place : PlainPlace) (after_text : Bool) → IsPlain place after_text trees → AreRead rows sc o head place trees)

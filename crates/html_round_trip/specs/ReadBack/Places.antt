@@ -2,8 +2,8 @@
 use Rattle.std.specs.Prelude.{◌≡◌, ℕ, ◌<◌, Bool, true, false, List, [], ◌∷◌, None, is_some, codes, ◌⊎◌}
 use Rattle.markup.specs.Forest.{Forest, IsParent, node_count}
 use Rattle.markup.specs.Named.{IsTree}
-use Rattle.html_plain.specs.declared.place.Place.{Place}
-use Rattle.html_plain.specs.declared.place.Place.TheVariants.{InFlow, InLine, InList}
+use Rattle.html_plain.specs.declared.place.PlainPlace.{PlainPlace}
+use Rattle.html_plain.specs.declared.place.PlainPlace.TheVariants.{InFlow, InLine, InList}
 use Rattle.html_rules.specs.Formatting.{last_named}
 use Rattle.html_rules.specs.Reset.{mode_of_open}
 use Rattle.html_rules.specs.Shape.{has_root}
@@ -72,18 +72,18 @@ pub record TakesBlocks (b : Home) (stack : List Open) : Type 0 where
   pub back : (s : State) → mode_of_open s stack ≡ mode_in b
   pub no_paragraph : in_scope set.ButtonScope (is_in set.P) stack ≡ false
 
-abbrev pub TakesThere : Place → Home → List Open → Type 0
+abbrev pub TakesThere : PlainPlace → Home → List Open → Type 0
 TakesThere InFlow b stack = TakesBlocks b stack × (current_is (is_in set.HeadingTag) stack ≡ false)
 TakesThere InList b stack = TakesBlocks b stack × (item_name set.Li stack ≡ None)
 TakesThere place b stack = Unit {0}
 
-abbrev pub ListsThere : Place → List Entry → Type 0
+abbrev pub ListsThere : PlainPlace → List Entry → Type 0
 ListsThere (InLine true) entries = Unit {0}
 ListsThere (InLine false) entries = HasNoLink entries
 ListsThere place entries = IsBare entries
 
 -- a state's parts are those of a place in flow
-pub record Fits (place : Place) (b : Home) (f : Forest) (stack : List Open) (entries : List Entry) : Type 0 where
+pub record Fits (place : PlainPlace) (b : Home) (f : Forest) (stack : List Open) (entries : List Entry) : Type 0 where
   pub home : IsHome b stack
   pub takes : TakesThere place b stack
   pub below : AreBelow (node_count f) entries

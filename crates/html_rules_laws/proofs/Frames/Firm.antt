@@ -15,7 +15,7 @@ use Rattle.html_rules_laws.proofs.TreePreserved.Standing.{IsPart, gone, kept, no
 use Rattle.html_rules_laws.proofs.Bools.{both, not_true}
 
 -- an element that is neither the root, nor a head, nor a template
-pub record IsPlain (x : Open) : Type 0 where
+pub record IsOrdinary (x : Open) : Type 0 where
   pub root : is_in set.Html x ≡ false
   pub head : is_in set.Head x ≡ false
   pub template : is_in set.Template x ≡ false
@@ -181,10 +181,10 @@ firm-part xs ys part = record {
 
 -- a plain element comes
 
-pub general-plain : (x : Open) (xs : List Open) → IsPlain x → are_general xs ≡ true → are_general (x ∷ xs) ≡ true
+pub general-plain : (x : Open) (xs : List Open) → IsOrdinary x → are_general xs ≡ true → are_general (x ∷ xs) ≡ true
 general-plain x xs is h =
     let parts = and_parts (not (is_in_head xs)) (stand_well xs) h in
     rw (is.head, is.root, parts.0, parts.1) refl
 
-pub firm-plain : (x : Open) (xs : List Open) → IsPlain x → IsFirm xs (x ∷ xs)
+pub firm-plain : (x : Open) (xs : List Open) → IsOrdinary x → IsFirm xs (x ∷ xs)
 firm-plain x xs is = record { fewer = rw is.template (omega arith); html = λ h. rw is.root at h; firm = λ h. inl (general-plain x xs is h) }

@@ -12,13 +12,13 @@ use Rattle.html_rules.specs.State.{Open, is_in}
 use Rattle.html_rules.specs.declared.tag_set.TagSet.TheVariants as set
 use Rattle.html_rules_laws.specs.Placing.{are_general, is_in_head, may_stand_over, stand_well}
 use Rattle.html_rules_laws.proofs.TreePreserved.AdoptionPlace.{special-is, split, split-part, none-some, part-behind}
-use Rattle.html_rules_laws.proofs.Frames.Firm.{IsFirm, IsPlain, firm-after, firm-part, general-plain, over-plain}
+use Rattle.html_rules_laws.proofs.Frames.Firm.{IsFirm, IsOrdinary, firm-after, firm-part, general-plain, over-plain}
 use Rattle.html_rules_laws.proofs.TreePreserved.Standing.{IsPart, gone, kept, none}
 use Rattle.html_rules_laws.proofs.Bools.{both, not_true}
 
 abbrev pub ArePlain : List Open → Type 0
 ArePlain [] = Unit {0}
-ArePlain (x ∷ xs) = IsPlain x × ArePlain xs
+ArePlain (x ∷ xs) = IsOrdinary x × ArePlain xs
 
 pub plain-append : (xs ys : List Open) → ArePlain xs → ArePlain ys → ArePlain (xs ++ ys)
 plain-append [] ys h k = k
@@ -132,7 +132,7 @@ exchanged (a ∷ ls) old new is w =
 
 -- behind the block: the formatting element, which is no template, gives way to copies
 
-taken-over : (new block x : Open) (copies es : List Open) → IsPlain new → ArePlain copies → stand_well (block ∷ x ∷ es) ≡ true → is_in set.Template x ≡ false → IsExchange (block ∷ x ∷ es) (new ∷ block ∷ (copies ++ es))
+taken-over : (new block x : Open) (copies es : List Open) → IsOrdinary new → ArePlain copies → stand_well (block ∷ x ∷ es) ≡ true → is_in set.Template x ≡ false → IsExchange (block ∷ x ∷ es) (new ∷ block ∷ (copies ++ es))
 taken-over new block x copies es plain all w t =
     let outer = and_parts (may_stand_over block (x ∷ es)) (stand_well (x ∷ es)) w in
     let inner = and_parts (may_stand_over x es) (stand_well es) outer.1 in
@@ -180,7 +180,7 @@ taken-over new block x copies es plain all w t =
     over-block true e o i r same g = rw (r, e, same, no-html e o i r) refl
     over-block false e o i r same g = rw (r, e, g) refl
 
-pub adopted-firm : (xs ls es : List Open) (block x new : Open) (copies : List Open) → IsPart (ls ++ block ∷ x ∷ es) xs → IsPlain new → ArePlain copies → IsFirm xs ((ls ++ new ∷ block ∷ copies) ++ es)
+pub adopted-firm : (xs ls es : List Open) (block x new : Open) (copies : List Open) → IsPart (ls ++ block ∷ x ∷ es) xs → IsOrdinary new → ArePlain copies → IsFirm xs ((ls ++ new ∷ block ∷ copies) ++ es)
 adopted-firm xs ls es block x new copies part plain all =
     firm-after xs (ls ++ block ∷ x ∷ es) ((ls ++ new ∷ block ∷ copies) ++ es) (firm-part xs (ls ++ block ∷ x ∷ es) part)
     (subst (λ zs. IsFirm (ls ++ block ∷ x ∷ es) zs) (sym (append_assoc ls (new ∷ block ∷ copies) es)) (record { fewer = fewer; html = html-behind ls (block ∷ x ∷ es) (new ∷ block ∷ (copies ++ es)) (λ h. html-up (is_in set.Html block) (is_in set.Html x) (rw (plain.root, html-plain copies es all) at h)); firm = λ h. by (is_in set.Template x) refl (and_parts (not (is_in_head (ls ++ block ∷ x ∷ es))) _ h) }))

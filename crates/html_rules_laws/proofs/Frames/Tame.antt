@@ -21,7 +21,7 @@ use Rattle.html_rules.specs.Tokens.{is_white}
 use Rattle.html_rules.specs.declared.tag_set.TagSet.{TagSet}
 use Rattle.html_rules.specs.declared.tag_set.TagSet.TheVariants as set
 use Rattle.html_rules_laws.specs.Ready.{are_formatting}
-use Rattle.html_rules_laws.proofs.Frames.Firm.{IsFirm, IsPlain, firm-after, firm-part, firm-plain, firm-same}
+use Rattle.html_rules_laws.proofs.Frames.Firm.{IsFirm, IsOrdinary, firm-after, firm-part, firm-plain, firm-same}
 use Rattle.html_rules_laws.proofs.Frames.FirmAdoption.{ArePlain, adopted-firm, found, plain-append}
 use Rattle.html_rules_laws.proofs.Names.{disjoint}
 use Rattle.html_rules_laws.proofs.TreePreserved.Standing.{IsPart, part-below, part-current, part-from, part-number, part-same}
@@ -117,7 +117,7 @@ put_element-tame namespace name attributes dup s l = part-tame s _ (part-same s.
 
 -- elements come
 
-pub insert_element-tame : (namespace : Namespace) (name : List ℕ) (attributes : List Attribute) (dup : Bool) → ((n : ℕ) → IsPlain (record { number = n; namespace = namespace; name = name })) → Tames (insert_element namespace name attributes dup)
+pub insert_element-tame : (namespace : Namespace) (name : List ℕ) (attributes : List Attribute) (dup : Bool) → ((n : ℕ) → IsOrdinary (record { number = n; namespace = namespace; name = name })) → Tames (insert_element namespace name attributes dup)
 unfolding insert_element
 insert_element-tame namespace name attributes dup plain s l = record { firm = firm-plain _ s.open_elems (plain (node_count s.forest)); listed = l }
 
@@ -130,17 +130,17 @@ three false true c h = absurd (true≢false h)
 three false false true h = absurd (true≢false h)
 three false false false h = (refl, (refl, refl))
 
-pub plain-name : (name : List ℕ) → is_among name special_names ≡ false → (n : ℕ) → IsPlain (record { number = n; namespace = Html; name = name })
+pub plain-name : (name : List ℕ) → is_among name special_names ≡ false → (n : ℕ) → IsOrdinary (record { number = n; namespace = Html; name = name })
 unfolding names_of
 plain-name name h n =
     let parts = three (bytes_eq name (codes "html")) (bytes_eq name (codes "head")) (bytes_eq name (codes "template")) h in
     record { root = parts.0; head = parts.1.0; template = parts.1.1 }
 
-pub plain-formatting : (tag : Tag) → is_among tag.name (names_of set.FormattingEnd) ≡ true → (n : ℕ) → IsPlain (record { number = n; namespace = Html; name = tag.name })
+pub plain-formatting : (tag : Tag) → is_among tag.name (names_of set.FormattingEnd) ≡ true → (n : ℕ) → IsOrdinary (record { number = n; namespace = Html; name = tag.name })
 unfolding names_of
 plain-formatting tag h n = plain-name tag.name (disjoint tag.name (names_of set.FormattingEnd) special_names refl h) n
 
-pub plain-foreign : (namespace : Namespace) (name : List ℕ) → is_html namespace ≡ false → (n : ℕ) → IsPlain (record { number = n; namespace = namespace; name = name })
+pub plain-foreign : (namespace : Namespace) (name : List ℕ) → is_html namespace ≡ false → (n : ℕ) → IsOrdinary (record { number = n; namespace = namespace; name = name })
 unfolding names_of mathml_names_of svg_names_of
 plain-foreign Html name h n = absurd (true≢false h)
 plain-foreign MathMl name h n = record { root = refl; head = refl; template = refl }

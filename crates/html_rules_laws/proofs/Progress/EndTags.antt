@@ -12,7 +12,7 @@ use Rattle.html_tokens.specs.Characters.{all_lowered, begins, ends_attribute_nam
 use Rattle.html_tokens.specs.Comments.{bogus_comment_after, comment_at}
 use Rattle.html_tokens.specs.Doctypes.{doctype_at as doctype_item}
 use Rattle.html_tokens.specs.Fault.{Fault}
-use Rattle.html_tokens.specs.Item.{Place, InData, InRaw, InPlaintext, InCdata, InTag, Stand, moved, null_by, reference_item}
+use Rattle.html_tokens.specs.Item.{TextPlace, InData, InRaw, InPlaintext, InCdata, InTag, Stand, moved, null_by, reference_item}
 use Rattle.html_tokens.specs.Items as Begins
 use Rattle.html_tokens.specs.Items.{cdata_by, data_by, declaration_by, end_at, end_by, item, item_in, open_at, open_by}
 use Rattle.html_tokens.specs.RawText.{ends_at_tag, has_references, is_fitting_end, raw_at, raw_by}
@@ -25,7 +25,7 @@ use Rattle.html_rules_laws.specs.Joint.{is_raw_place}
 use Rattle.html_rules_laws.proofs.Bools.{no}
 
 -- what may come there, where the name of the last start tag is this one
-abbrev pub MayTell : Option Token → Place → Type 0
+abbrev pub MayTell : Option Token → TextPlace → Type 0
 MayTell None p = is_raw_place p ≡ true
 MayTell (Some (CharacterTokens cs)) p = is_raw_place p ≡ true
 MayTell (Some (TagToken tag)) p = is_end_tag tag.kind ≡ true
@@ -106,7 +106,7 @@ raw-fits rows st kind c t h = by (nat_eq c 60 && ends_at_tag kind && is_fitting_
 -- the item there
 pub item-fits : (rows : List Row) (cdata : Bool) (st : Stand) (c : ℕ) (t : List ℕ) → is_raw_place st.place ≡ true → Holds (Fits st.last_start_tag) (item rows cdata st c t)
 item-fits rows cdata st c t h = by st.place refl h where
-  by : (p : Place) → st.place ≡ p → is_raw_place p ≡ true → Holds (Fits st.last_start_tag) (item_in p rows cdata st c t)
+  by : (p : TextPlace) → st.place ≡ p → is_raw_place p ≡ true → Holds (Fits st.last_start_tag) (item_in p rows cdata st c t)
   by (InRaw kind) e h = raw-fits rows st kind c t (rw e h)
   by (InTag tag) e h = part-fits (part c) rows st tag c t h
   by InData e h = no h
@@ -187,7 +187,7 @@ raw-leaves false false rows st kind c t = tt
 
 pub item-leaves : (rows : List Row) (cdata : Bool) (st : Stand) (c : ℕ) (t : List ℕ) → Holds LeavesName (item rows cdata st c t)
 item-leaves rows cdata st c t = by st.place where
-  by : (p : Place) → Holds LeavesName (item_in p rows cdata st c t)
+  by : (p : TextPlace) → Holds LeavesName (item_in p rows cdata st c t)
   by InData = data-leaves _ _ rows cdata st c t
   by (InRaw kind) = raw-leaves _ _ rows st kind c t
   by InPlaintext = tt

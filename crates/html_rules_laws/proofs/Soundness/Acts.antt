@@ -23,7 +23,7 @@ use Rattle.html_rules_laws.proofs.Frames.Aside.{Asides, after, aside_kept, other
 use Rattle.html_rules_laws.proofs.Names.{disjoint, shares_name}
 use Rattle.html_rules_laws.proofs.SetFacts.{all_among, among-all}
 use Rattle.html_rules_laws.proofs.Termination.Kinds.{Kind, Starts, StartsBut, Ends, EndsBut, is_of}
-use Rattle.html_rules_laws.proofs.Frames.Firm.{IsPlain}
+use Rattle.html_rules_laws.proofs.Frames.Firm.{IsOrdinary}
 use Rattle.html_rules_laws.proofs.TreePreserved.Standing.{part-but_root, part-same}
 use Rattle.html_rules_laws.proofs.TreePreserved.StandingActions.{foreign_end-part}
 use Rattle.html_rules_laws.proofs.Frames.Tame.{Tames, after-tame, agency-tame, append_text-tame, behind-listed, body-tame, check-tame, close_by-tame, close_item-tame, close_p-tame, either-tame, enter-tame, except-tame, expect_to_close-tame, formatting-tame, generic-tame, implied-tame, insert_element-tame, misnested-tame, parse_error-tame, part-tame, plain-name, pop_until-tame, pop_until_current-tame, put_element-tame, reconstruct-tame, remove_if-tame, same-tame, special_names, tell-tame, unopened-tame}
@@ -52,7 +52,7 @@ out_of name names h k = by (is_among name special_names) refl where
   by true e = absurd (true≢false (sym (among-all name special_names names h e) ∙ k))
   by false e = e
 
-pub plain-of : (kind : Kind) (tag : Tag) → plain_kind kind ≡ true → is_of kind (TagToken tag) ≡ true → (n : ℕ) → IsPlain (record { number = n; namespace = Html; name = tag.name })
+pub plain-of : (kind : Kind) (tag : Tag) → plain_kind kind ≡ true → is_of kind (TagToken tag) ≡ true → (n : ℕ) → IsOrdinary (record { number = n; namespace = Html; name = tag.name })
 plain-of (Starts names) tag h k n = plain-name tag.name (disjoint tag.name names special_names (not_true _ h) (and_parts (is_start_tag tag.kind) _ k).1) n
 plain-of (Ends names) tag h k n = plain-name tag.name (disjoint tag.name names special_names (not_true _ h) (and_parts (is_end_tag tag.kind) _ k).1) n
 plain-of (StartsBut names) tag h k n = plain-name tag.name (out_of tag.name names h (not_true _ (and_parts (is_start_tag tag.kind) _ k).1)) n

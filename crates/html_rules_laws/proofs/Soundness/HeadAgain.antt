@@ -26,7 +26,7 @@ use Rattle.html_rules_laws.specs.Placing.{are_general, stand_well}
 use Rattle.html_rules_laws.specs.Ready.{are_formatting}
 use Rattle.html_rules_laws.specs.Sound.{is_later, is_own}
 use Rattle.html_rules_laws.proofs.Frames.Aside.{after, aside_kept}
-use Rattle.html_rules_laws.proofs.Frames.Firm.{IsPlain}
+use Rattle.html_rules_laws.proofs.Frames.Firm.{IsOrdinary}
 use Rattle.html_rules_laws.proofs.Termination.Kinds.{Kind, Starts, is_of}
 use Rattle.html_rules_laws.proofs.Soundness.Acts.{act-aside, act-tame, plain-of}
 use Rattle.html_rules_laws.proofs.Soundness.Moves.{held-some, not_html-template, still-tame, template-general, template-topped}
@@ -179,7 +179,7 @@ some-void kind InsertVoid h t f n q is =
     (after q r (remove_from_stack n r) (after q s r (push_head-keeps aside_kept (Some n) q) (act-aside kind InsertVoid refl t s)) (unopened-keeps aside_kept (Some n) r))
 some-void kind a h t f n q is = no h
 
-plain-own : (n : ℕ) (name : List ℕ) → IsPlain (record { number = n; namespace = Html; name = name }) → is_own (record { number = n; namespace = Html; name = name }) ≡ true
+plain-own : (n : ℕ) (name : List ℕ) → IsOrdinary (record { number = n; namespace = Html; name = name }) → is_own (record { number = n; namespace = Html; name = name }) ≡ true
 plain-own n name is = rw (is.root, is.template) refl
 
 some-raw : (kind : Kind) (a : Action) → raw_text_only a ≡ true → starts_plain kind ≡ true → (t : Token) → is_of kind t ≡ true → (n : ℕ) (q : State) → q.mode ≡ mode.AfterHead → Held q → Held (remove_from_stack n (act a t (push_head (Some n) q)))

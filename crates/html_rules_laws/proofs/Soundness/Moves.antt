@@ -25,7 +25,7 @@ use Rattle.html_rules_laws.specs.Ready.{are_formatting}
 use Rattle.html_rules_laws.specs.Settled.{are_template_modes, is_template_mode}
 use Rattle.html_rules_laws.specs.Sound.{are_placed, are_placed_in, asks_root, comes_from_table, has_its_head, is_later, is_later_original, is_own}
 use Rattle.html_rules_laws.proofs.Frames.Aside.{IsAside, first-modes}
-use Rattle.html_rules_laws.proofs.Frames.Firm.{IsPlain, html_head, over-plain, part-html}
+use Rattle.html_rules_laws.proofs.Frames.Firm.{IsOrdinary, html_head, over-plain, part-html}
 use Rattle.html_rules_laws.proofs.SetFacts.{in-apart}
 use Rattle.html_rules_laws.proofs.TreePreserved.Standing.{part-below}
 use Rattle.html_rules_laws.proofs.Frames.Tame.{IsTame}
@@ -163,10 +163,10 @@ mode-placed mode.InTableText h o xs = absurd (true≢false h)
 mode-placed m h o xs = refl
 
 -- an own element comes over what is open, and its text is read
-own-plain : (x : Open) → IsPlain x → is_html_element x ≡ true → is_own x ≡ true
+own-plain : (x : Open) → IsOrdinary x → is_html_element x ≡ true → is_own x ≡ true
 own-plain x plain html = rw (html, plain.root, plain.template) refl
 
-pub text-held : (s : State) (tag : Tag) → ((n : ℕ) → IsPlain (record { number = n; namespace = Html; name = tag.name })) → is_text_mode s.mode ≡ false → is_later s.mode ≡ true → Held s → Held (set_mode mode.Text (save_mode (insert_element_for tag s)))
+pub text-held : (s : State) (tag : Tag) → ((n : ℕ) → IsOrdinary (record { number = n; namespace = Html; name = tag.name })) → is_text_mode s.mode ≡ false → is_later s.mode ≡ true → Held s → Held (set_mode mode.Text (save_mode (insert_element_for tag s)))
 unfolding set_mode save_mode insert_element
 text-held s tag plain text later h =
     let x : Open = record { number = node_count s.forest; namespace = Html; name = tag.name } in

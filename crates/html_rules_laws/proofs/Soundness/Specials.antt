@@ -29,7 +29,7 @@ use Rattle.html_rules_laws.specs.Held.{Held}
 use Rattle.html_rules_laws.specs.Placing.{are_general, is_in_head, may_stand_over, stand_well}
 use Rattle.html_rules_laws.specs.Sound.{are_placed, are_placed_in, are_placed_under, asks_root, comes_from_table, has_its_head, is_later, is_later_original, is_over_head_element, is_own, is_table_mode}
 use Rattle.html_rules_laws.proofs.Frames.Aside.{aside_kept}
-use Rattle.html_rules_laws.proofs.Frames.Firm.{IsPlain, firm-part, over-plain, part-html}
+use Rattle.html_rules_laws.proofs.Frames.Firm.{IsOrdinary, firm-part, over-plain, part-html}
 use Rattle.html_rules_laws.proofs.SetFacts.{all_among, among-all, in-apart}
 use Rattle.html_rules_laws.proofs.Termination.Kinds.{Kind, Starts, is_of}
 use Rattle.html_rules_laws.proofs.Soundness.Acts.{act-aside, act-tame, plain-of, tame_in}
@@ -179,7 +179,7 @@ some-later m s l h = rw l h
 later-at : (s : State) (m : InsertionMode) → s.mode ≡ m → is_later m ≡ true → is_later s.mode ≡ true
 later-at s m e l = ap is_later e ∙ l
 
-noscript-held : (tag : Tag) → ((n : ℕ) → IsPlain (record { number = n; namespace = Html; name = tag.name })) → (s : State) → s.mode ≡ mode.InHead → Held s → Held (set_mode mode.InHeadNoscript (insert_element_for tag s))
+noscript-held : (tag : Tag) → ((n : ℕ) → IsOrdinary (record { number = n; namespace = Html; name = tag.name })) → (s : State) → s.mode ≡ mode.InHead → Held s → Held (set_mode mode.InHeadNoscript (insert_element_for tag s))
 unfolding set_mode insert_element
 noscript-held tag plain s e h =
     let is = plain (node_count s.forest) in

@@ -19,7 +19,7 @@ use Rattle.html_tokens.specs.Sink.{◌>>=◌, SinkLaws}
 use Rattle.html_tokens.proofs.CleanComments.{begun-by, end-mark, end-none}
 use Rattle.html_tokenizer.specs.declared.tokenizer.Tokenizer.{Tokenizer}
 use Rattle.html_tokenizer.specs.Rest.{rows_of, standing, held_at}
-use Rattle.html_tokenizer.specs.Steps.{owed_for, Owed, IsAt, more, Falls, Told, Took, Keeps, nothing_owed, a_fault, reads, plays}
+use Rattle.html_tokenizer.specs.Steps.{owed_for, Owed, IsAt, more, Falls, Emitted, Took, Keeps, nothing_owed, a_fault, reads, plays}
 use Rattle.html_tokenizer.proofs.Steps.Lawful.{slight-absorbed}
 use Rattle.html_tokenizer.proofs.Steps.Readings.{play-is, play-odd}
 use Rattle.html_tokenizer.proofs.Steps.TokenEnds.{EndSays, end-says, emitted-took, emitted-failed, same-text, behind-one, item-absorbs}
@@ -140,7 +140,7 @@ module _ {K H : Type 0} (Sink : Ghosts K H) (laws : SinkLaws Sink.is_sound Sink.
   end_bang-says old b s h t = comment-says (Some Grave) old b s h old.comment t (45 ∷ 45 ∷ 33 ∷ 62 ∷ t) 4 _ refl refl refl
 
   -- The comment was told, or could not be told.
-  pub comment-took : {owed : Owed} (old new : Tokenizer K) (c : ℕ) (st : State) (front : List ℕ) → c ≡ 62 → IsAt old st → Sink.is_sound (Sink.view old.sink) → Told Sink owed (CommentToken front) (emitted old) new → CommentSays st old owed front → Took Sink old new c flow.Continue
+  pub comment-took : {owed : Owed} (old new : Tokenizer K) (c : ℕ) (st : State) (front : List ℕ) → c ≡ 62 → IsAt old st → Sink.is_sound (Sink.view old.sink) → Emitted Sink owed (CommentToken front) (emitted old) new → CommentSays st old owed front → Took Sink old new c flow.Continue
   comment-took old new c st front e from ok told says = emitted-took Sink laws old (emitted old) new c st (CommentToken front) e from ok refl refl (record { state = refl; fresh = from.fresh }) told says
 
   pub comment-failed : (owed : Owed) (old new : Tokenizer K) (c : ℕ) (st : State) (front : List ℕ) (result : Result (ProcessResult H) ParseFault) (fault : ParseFault) → c ≡ 62 → IsAt old st → Sink.is_sound (Sink.view old.sink) → IsErrAnd result (λ y. y ≡ fault)

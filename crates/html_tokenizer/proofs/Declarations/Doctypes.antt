@@ -22,7 +22,7 @@ use Rattle.html_tokens.specs.Sink.{◌>>=◌, SinkLaws}
 use Rattle.html_tokenizer_parts.specs.declared.error_code.ErrorCode.{ErrorCode}
 use Rattle.html_tokenizer.specs.declared.tokenizer.Tokenizer.{Tokenizer}
 use Rattle.html_tokenizer.specs.Rest.{rows_of, standing, with_identifier, held_at, is_quote, quoted_state}
-use Rattle.html_tokenizer.specs.Steps.{owed_for, IsAt, more, Falls, Told, Took, Keeps, reads, plays}
+use Rattle.html_tokenizer.specs.Steps.{owed_for, IsAt, more, Falls, Emitted, Took, Keeps, reads, plays}
 use Rattle.html_tokenizer.proofs.Steps.TokenEnds.{EndSays, end-says, emitted-took, emitted-failed, behind-any, item-absorbs}
 use Rattle.html_tokenizer.proofs.Errors.RefusedErrors.{tells-less}
 use Rattle.html_tokenizer.proofs.Steps.Keeping.{Absorbs, at, took, took_odd, keeps_odd, keeps_silent, state-absorbs}
@@ -197,7 +197,7 @@ module _ {K H : Type 0} (Sink : Ghosts K H) (laws : SinkLaws Sink.is_sound Sink.
   DoctypeSays st old cs odd d = EndSays Sink laws st old (emitted old cs) (owed_for (and_slight_if odd (grave_if d.force_quirks))) (DoctypeToken d)
 
   -- The doctype was told, or could not be told.
-  pub doctype-took : (old new : Tokenizer K) (c : ℕ) (st : State) (cs : List ℕ) (odd : Bool) (d : Doctype) → c ≡ 62 → IsAt old st → Sink.is_sound (Sink.view old.sink) → Told Sink (owed_for (grave_if d.force_quirks)) (DoctypeToken d) (emitted old cs) new → DoctypeSays st old cs odd d → Took Sink old new c flow.Continue
+  pub doctype-took : (old new : Tokenizer K) (c : ℕ) (st : State) (cs : List ℕ) (odd : Bool) (d : Doctype) → c ≡ 62 → IsAt old st → Sink.is_sound (Sink.view old.sink) → Emitted Sink (owed_for (grave_if d.force_quirks)) (DoctypeToken d) (emitted old cs) new → DoctypeSays st old cs odd d → Took Sink old new c flow.Continue
   doctype-took old new c st cs odd d e from ok told says = emitted-took Sink laws old (emitted old cs) new c st (DoctypeToken d) e from ok refl refl (record { state = refl; fresh = from.fresh })
       (tells-less Sink laws (owed_for (grave_if d.force_quirks)) (owed_for (and_slight_if odd (grave_if d.force_quirks))) (emitted old cs) new (DoctypeToken d) (Ok tt) (slighted-no-more odd (grave_if d.force_quirks)) told) says
 

@@ -12,7 +12,7 @@ use Rattle.html_tokens.specs.Reading.{◌>>=◌, line_number, erred_by}
 use Rattle.html_tokenizer.specs.Calls.{at_end, Closes}
 use Rattle.html_tokenizer_parts.specs.declared.held_reference.Ampersand.{Ampersand}
 use Rattle.html_tokenizer.specs.declared.tokenizer.Tokenizer.{Tokenizer}
-use Rattle.html_tokenizer.specs.Steps.{Owed, IsAt, more, Tells, Errs, now, nothing_owed, Told, owed_for, and_heard, together}
+use Rattle.html_tokenizer.specs.Steps.{Owed, IsAt, more, Tells, Errs, now, nothing_owed, Emitted, owed_for, and_heard, together}
 use Rattle.html_tokenizer.proofs.Steps.Keeping.{at, now-at, bind-err, token-fails, told-next, stays-then, fell-behind, fails-along, fails-before, sound_erred}
 use Rattle.html_tokenizer.proofs.Errors.Rises.{IsNoMore, more-more, rises-then, rises-less}
 use Rattle.html_tokenizer.proofs.Steps.Lawful.{erred-more}
@@ -96,7 +96,7 @@ module _ {K H : Type 0} (Sink : Ghosts K H) where
             (now-at Sink old st old.stream.breaks (Sink.view old.sink, notes) [] from ∙ law old.stream.breaks (Sink.view old.sink, notes) ok),
       )
 
-  behind : (fault : Option Fault) (told owed : Owed) (old mid new : Tokenizer K) (token : Token) (result : Result (Unit {0}) ParseFault) → IsNoMore (owed_for fault) told → Told Sink nothing_owed token old mid → Errs Sink told mid new result
+  behind : (fault : Option Fault) (told owed : Owed) (old mid new : Tokenizer K) (token : Token) (result : Result (Unit {0}) ParseFault) → IsNoMore (owed_for fault) told → Emitted Sink nothing_owed token old mid → Errs Sink told mid new result
       → ((notes : Notes ℕ) → now Sink old old.stream.breaks (Sink.view old.sink, notes) [] ≡ at_end Sink old.stream.breaks (Sink.view mid.sink, more (owed_for fault) (more owed notes))) → owed ≡ and_heard (Sink.is_quiet (Sink.view old.sink) token) nothing_owed → Closes Sink old new result
   behind fault told owed old mid new token (Ok x) less first h law is = record {
     owed = together (owed_for fault) owed;
@@ -120,7 +120,7 @@ module _ {K H : Type 0} (Sink : Ghosts K H) where
 
   -- The token was told, and then the error of the end, or that error could not be told.
   pub closes_then : (fault : Option Fault) (told : Owed) (old mid new : Tokenizer K) (st : State) (token : Token) (result : Result (Unit {0}) ParseFault) → IsNoMore (owed_for fault) told → IsAt old st → Sink.is_sound (Sink.view old.sink) → TellsThen fault st old token
-      → Told Sink nothing_owed token old mid → Errs Sink told mid new result → Closes Sink old new result
+      → Emitted Sink nothing_owed token old mid → Errs Sink told mid new result → Closes Sink old new result
   closes_then fault told old mid new st token result less from ok law first errs =
       let owed = and_heard (Sink.is_quiet (Sink.view old.sink) token) nothing_owed in
       let ends-behind : (notes : Notes ℕ) → now Sink old old.stream.breaks (Sink.view old.sink, notes) [] ≡ at_end Sink old.stream.breaks (Sink.view mid.sink, more (owed_for fault) (more owed notes)) =

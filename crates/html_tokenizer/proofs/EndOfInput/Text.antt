@@ -22,7 +22,7 @@ use Rattle.html_tokenizer.specs.EndText.{is_told_text, is_escaped}
 use Rattle.html_tokenizer.specs.declared.tokenizer.Tokenizer.{Tokenizer}
 use Rattle.html_tokenizer.specs.Rest.{rows_of, standing, held_at}
 use Rattle.html_tokenizer_parts.specs.Words.{kind_after}
-use Rattle.html_tokenizer.specs.Steps.{IsAt, Told, Tells, Errs, owed_for, nothing_owed, a_fault, reads}
+use Rattle.html_tokenizer.specs.Steps.{IsAt, Emitted, Tells, Errs, owed_for, nothing_owed, a_fault, reads}
 use Rattle.html_tokenizer.proofs.EndOfInput.Keeping.{OnlyEnds, TellsLast, TellsThen, closes_told, closes_errs, closes_untold, closes_then}
 use Rattle.html_tokenizer.proofs.Steps.Lawful.{noting-lawful}
 use Rattle.html_tokenizer_parts.proofs.RawKinds.{and-none, double_escaped, letter-no_end, kind_after-letters}
@@ -194,7 +194,7 @@ module _ {K H : Type 0} (Sink : Ghosts K H) (laws : SinkLaws Sink.is_sound Sink.
   raw_open-last k (raw.ScriptDataEscaped script.DoubleEscaped) e b s h = absurd cc
 
   -- "<" was text
-  pub raw_open-closes : (old mid new : Tokenizer K) (kind : RawKind) (result : Result (Unit {0}) ParseFault) → IsAt old (state.RawLessThanSign kind) → Sink.is_sound (Sink.view old.sink) → ends_at_tag kind ≡ true → Told Sink nothing_owed (CharacterTokens (60 ∷ [])) old mid → Errs Sink (owed_for (grave_if (is_escaped mid.state))) mid new result → Closes Sink old new result
+  pub raw_open-closes : (old mid new : Tokenizer K) (kind : RawKind) (result : Result (Unit {0}) ParseFault) → IsAt old (state.RawLessThanSign kind) → Sink.is_sound (Sink.view old.sink) → ends_at_tag kind ≡ true → Emitted Sink nothing_owed (CharacterTokens (60 ∷ [])) old mid → Errs Sink (owed_for (grave_if (is_escaped mid.state))) mid new result → Closes Sink old new result
   raw_open-closes old mid new kind result from ok e told errs = closes_then Sink (slight_if (is_escaped_kind kind)) (owed_for (grave_if (is_escaped mid.state))) old mid new (state.RawLessThanSign kind) (CharacterTokens (60 ∷ [])) result (escaped-less old mid (state.RawLessThanSign kind) from told.changed) from ok (raw_open-last old kind e) told errs
 
   pub raw_open-untold : (old new : Tokenizer K) (kind : RawKind) (told : ParseFault) (result : Result (Unit {0}) ParseFault) → IsAt old (state.RawLessThanSign kind) → Sink.is_sound (Sink.view old.sink) → ends_at_tag kind ≡ true → Tells Sink nothing_owed (CharacterTokens (60 ∷ [])) old new (Err told) → IsErrAnd result (λ y. y ≡ told) → Closes Sink old new result
@@ -219,13 +219,13 @@ module _ {K H : Type 0} (Sink : Ghosts K H) (laws : SinkLaws Sink.is_sound Sink.
   raw_name-last k kind w b s h = raw_name-read k kind k.raw_end.letters b s h w
 
   -- they were text
-  pub raw_end_open-closes : (old mid new : Tokenizer K) (kind : RawKind) (result : Result (Unit {0}) ParseFault) → IsAt old (state.RawEndTagOpen kind) → Sink.is_sound (Sink.view old.sink) → Told Sink nothing_owed (CharacterTokens (60 ∷ 47 ∷ [])) old mid → Errs Sink (owed_for (grave_if (is_escaped mid.state))) mid new result → Closes Sink old new result
+  pub raw_end_open-closes : (old mid new : Tokenizer K) (kind : RawKind) (result : Result (Unit {0}) ParseFault) → IsAt old (state.RawEndTagOpen kind) → Sink.is_sound (Sink.view old.sink) → Emitted Sink nothing_owed (CharacterTokens (60 ∷ 47 ∷ [])) old mid → Errs Sink (owed_for (grave_if (is_escaped mid.state))) mid new result → Closes Sink old new result
   raw_end_open-closes old mid new kind result from ok told errs = closes_then Sink (slight_if (is_escaped_kind kind)) (owed_for (grave_if (is_escaped mid.state))) old mid new (state.RawEndTagOpen kind) (CharacterTokens (60 ∷ 47 ∷ [])) result (escaped-less old mid (state.RawEndTagOpen kind) from told.changed) from ok (raw_end_open-last old kind) told errs
 
   pub raw_end_open-untold : (old new : Tokenizer K) (kind : RawKind) (told : ParseFault) (result : Result (Unit {0}) ParseFault) → IsAt old (state.RawEndTagOpen kind) → Sink.is_sound (Sink.view old.sink) → Tells Sink nothing_owed (CharacterTokens (60 ∷ 47 ∷ [])) old new (Err told) → IsErrAnd result (λ y. y ≡ told) → Closes Sink old new result
   raw_end_open-untold old new kind told result from ok fails is = closes_untold Sink (slight_if (is_escaped_kind kind)) old new (state.RawEndTagOpen kind) (CharacterTokens (60 ∷ 47 ∷ [])) told result from ok (raw_end_open-last old kind) fails is
 
-  pub raw_name-closes : (old mid new : Tokenizer K) (kind : RawKind) (result : Result (Unit {0}) ParseFault) → IsAt old (state.RawEndTagName kind) → Sink.is_sound (Sink.view old.sink) → list_all is_ascii_alphabetic old.raw_end.letters ≡ true → Told Sink nothing_owed (CharacterTokens (60 ∷ 47 ∷ old.raw_end.letters)) old mid → Errs Sink (owed_for (grave_if (is_escaped mid.state))) mid new result → Closes Sink old new result
+  pub raw_name-closes : (old mid new : Tokenizer K) (kind : RawKind) (result : Result (Unit {0}) ParseFault) → IsAt old (state.RawEndTagName kind) → Sink.is_sound (Sink.view old.sink) → list_all is_ascii_alphabetic old.raw_end.letters ≡ true → Emitted Sink nothing_owed (CharacterTokens (60 ∷ 47 ∷ old.raw_end.letters)) old mid → Errs Sink (owed_for (grave_if (is_escaped mid.state))) mid new result → Closes Sink old new result
   raw_name-closes old mid new kind result from ok w told errs = closes_then Sink (slight_if (is_escaped_kind kind)) (owed_for (grave_if (is_escaped mid.state))) old mid new (state.RawEndTagName kind) (CharacterTokens (60 ∷ 47 ∷ old.raw_end.letters)) result (escaped-less old mid (state.RawEndTagName kind) from told.changed) from ok (raw_name-last old kind w) told errs
 
   pub raw_name-untold : (old new : Tokenizer K) (kind : RawKind) (told : ParseFault) (result : Result (Unit {0}) ParseFault) → IsAt old (state.RawEndTagName kind) → Sink.is_sound (Sink.view old.sink) → list_all is_ascii_alphabetic old.raw_end.letters ≡ true → Tells Sink nothing_owed (CharacterTokens (60 ∷ 47 ∷ old.raw_end.letters)) old new (Err told) → IsErrAnd result (λ y. y ≡ told) → Closes Sink old new result
@@ -245,14 +245,14 @@ module _ {K H : Type 0} (Sink : Ghosts K H) (laws : SinkLaws Sink.is_sound Sink.
       reading-two (λ p. Sink.is_sound p.0) (listening Sink) (rows_of k) (noting-lawful Sink.is_sound Sink.step Sink.ended Sink.is_quiet laws) here here here b s h 93 93 [] (line_number b) refl refl (λ x. refl) (λ x. refl)
 
   -- the "]" behind which a section does not end was text, and that it does not is an error
-  pub bracket-closes : (old mid new : Tokenizer K) (result : Result (Unit {0}) ParseFault) → IsAt old state.CdataSectionBracket → Sink.is_sound (Sink.view old.sink) → Told Sink nothing_owed (CharacterTokens (93 ∷ [])) old mid → Errs Sink a_fault mid new result → Closes Sink old new result
+  pub bracket-closes : (old mid new : Tokenizer K) (result : Result (Unit {0}) ParseFault) → IsAt old state.CdataSectionBracket → Sink.is_sound (Sink.view old.sink) → Emitted Sink nothing_owed (CharacterTokens (93 ∷ [])) old mid → Errs Sink a_fault mid new result → Closes Sink old new result
   bracket-closes old mid new result from ok told errs = closes_then Sink (Some Grave) a_fault old mid new state.CdataSectionBracket (CharacterTokens (93 ∷ [])) result (no-more-same a_fault) from ok (bracket-last old) told errs
 
   pub bracket-untold : (old new : Tokenizer K) (told : ParseFault) (result : Result (Unit {0}) ParseFault) → IsAt old state.CdataSectionBracket → Sink.is_sound (Sink.view old.sink) → Tells Sink nothing_owed (CharacterTokens (93 ∷ [])) old new (Err told) → IsErrAnd result (λ y. y ≡ told) → Closes Sink old new result
   bracket-untold old new told result from ok fails is = closes_untold Sink (Some Grave) old new state.CdataSectionBracket (CharacterTokens (93 ∷ [])) told result from ok (bracket-last old) fails is
 
   -- the same of "]]"
-  pub brackets-closes : (old mid new : Tokenizer K) (result : Result (Unit {0}) ParseFault) → IsAt old state.CdataSectionEnd → Sink.is_sound (Sink.view old.sink) → Told Sink nothing_owed (CharacterTokens (93 ∷ 93 ∷ [])) old mid → Errs Sink a_fault mid new result → Closes Sink old new result
+  pub brackets-closes : (old mid new : Tokenizer K) (result : Result (Unit {0}) ParseFault) → IsAt old state.CdataSectionEnd → Sink.is_sound (Sink.view old.sink) → Emitted Sink nothing_owed (CharacterTokens (93 ∷ 93 ∷ [])) old mid → Errs Sink a_fault mid new result → Closes Sink old new result
   brackets-closes old mid new result from ok told errs = closes_then Sink (Some Grave) a_fault old mid new state.CdataSectionEnd (CharacterTokens (93 ∷ 93 ∷ [])) result (no-more-same a_fault) from ok (brackets-last old) told errs
 
   pub brackets-untold : (old new : Tokenizer K) (told : ParseFault) (result : Result (Unit {0}) ParseFault) → IsAt old state.CdataSectionEnd → Sink.is_sound (Sink.view old.sink) → Tells Sink nothing_owed (CharacterTokens (93 ∷ 93 ∷ [])) old new (Err told) → IsErrAnd result (λ y. y ≡ told) → Closes Sink old new result

@@ -12,7 +12,7 @@ use Rattle.html_tokens.specs.Sink.{Reply, Gives, OnRefused, Counts, IsIdle, IsRe
 use Rattle.html_tokens.specs.declared.replies.TokenSinkResult.TheVariants as reply
 use Rattle.html_tokens.specs.declared.sink.TokenSink.{Ghosts}
 use Rattle.html_tokenizer.specs.declared.tokenizer.Tokenizer.{Tokenizer}
-use Rattle.html_tokenizer.specs.Steps.{IsNoTag, Owed, FailsAmong, Fails, Falls, Fell, Stays, IsOfText, Told, TellsAmong, Tells, Erred, Errs, nothing_owed, Rises, and_heard}
+use Rattle.html_tokenizer.specs.Steps.{IsNoTag, Owed, FailsAmong, Fails, Falls, Fell, Stays, IsOfText, Emitted, TellsAmong, Tells, Erred, Errs, nothing_owed, Rises, and_heard}
 use Rattle.html_tokenizer.proofs.Steps.Keeping.{stays-then, fell-behind, fails-before}
 use Rattle.html_tokenizer.proofs.Errors.Rises.{IsNoMore, no-more-heard, rises-heard, rises-less, rises-told}
 use Rattle.html_tokenizer.proofs.Steps.Lawful.{reply-to}
@@ -103,7 +103,7 @@ module _ {K H : Type 0} (Sink : Ghosts K H) (laws : SinkLaws Sink.is_sound Sink.
 
   -- a token that is neither a tag nor an error was told
   pub told-alone : (old : Tokenizer K) (sink : K) (token : Token) (line : ℕ) (answer : TokenSinkResult H) → IsNoTag token → Sink.is_sound (Sink.view old.sink) → line ≡ line_number old.stream.breaks → Gives Sink.number (Sink.step (Sink.view old.sink) token line) (Ok answer) (Sink.view sink) → Sink.is_sound (Sink.view sink) → Sink.has_failed sink ≡ false → Sink.references sink ≡ Sink.references old.sink
-      → Counts (Sink.is_quiet (Sink.view old.sink) token) token (Ok answer) (Sink.errors old.sink) (Sink.errors sink) → Told Sink nothing_owed token old (record old { sink = sink })
+      → Counts (Sink.is_quiet (Sink.view old.sink) token) token (Ok answer) (Sink.errors old.sink) (Sink.errors sink) → Emitted Sink nothing_owed token old (record old { sink = sink })
   told-alone old sink token line answer none ok here given kept works loans counts = record {
     gives = λ l e. ap (Sink.step (Sink.view old.sink) token) (e ∙ sym here) ∙ goes-on (Sink.view old.sink) ok token none line (Sink.view sink) (numbered Sink.number answer) given;
     changed = refl;

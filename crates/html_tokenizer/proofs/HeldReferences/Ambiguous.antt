@@ -14,7 +14,7 @@ use Rattle.html_tokenizer.specs.Calls.{at_end, Closes}
 use Rattle.html_tokenizer_parts.specs.CharRefs.{may_hold}
 use Rattle.html_tokenizer_parts.specs.declared.held_reference.Ampersand.TheVariants.{Held, Unknown}
 use Rattle.html_tokenizer.specs.declared.tokenizer.Tokenizer.{Tokenizer}
-use Rattle.html_tokenizer.specs.Steps.{Owed, and_heard, and_more, together, owed_for, IsAt, more, Erred, Told, Took, Keeps, now}
+use Rattle.html_tokenizer.specs.Steps.{Owed, and_heard, and_more, together, owed_for, IsAt, more, Erred, Emitted, Took, Keeps, now}
 use Rattle.html_tokenizer.proofs.Steps.Keeping.{Absorbs, fails-along, keeps-behind, keeps_erred, now-at, stays-same}
 use Rattle.html_tokenizer.proofs.HeldReferences.Holding.{Resolves, held-other_reference, now-resolved}
 use Rattle.html_tokenizer.proofs.Errors.Rises.{more-more, rises-slight, rises-then}
@@ -81,7 +81,7 @@ module _ {K H : Type 0} (Sink : Ghosts K H) where
 
   -- What was held was told, and is an unknown name.
   pub keeps-resolved_unknown : {owed : Owed} (old mid new : Tokenizer K) (cs : List ℕ) (c : ℕ) (st : State) (token : Token) (result : Result (ProcessResult H) ParseFault) → IsAt old st → may_hold st ≡ true → Sink.is_sound (Sink.view old.sink)
-      → owed.is_quiet ≡ false → Told Sink owed token old mid → Resolves Sink st old cs c owed token
+      → owed.is_quiet ≡ false → Emitted Sink owed token old mid → Resolves Sink st old cs c owed token
       → Keeps Sink (record mid { char_ref = Some Unknown }) new c result → Keeps Sink (record old { char_ref = Some (Held cs) }) new c result
   keeps-resolved_unknown {owed} old mid new cs c st token result from fits ok wrong told law h =
       let heard = and_heard (Sink.is_quiet (Sink.view old.sink) token) owed in

@@ -23,7 +23,7 @@ use Rattle.html_tokens.specs.Sink.{SinkLaws}
 use Rattle.html_tokenizer_parts.specs.CharRefs.{is_held, may_hold}
 use Rattle.html_tokenizer_parts.specs.declared.held_reference.Ampersand.TheVariants.{Unknown}
 use Rattle.html_tokenizer.specs.declared.tokenizer.Tokenizer.{Tokenizer}
-use Rattle.html_tokenizer.specs.Steps.{Owed, nothing_owed, owed_for, IsAt, Falls, Told, Took, Keeps}
+use Rattle.html_tokenizer.specs.Steps.{Owed, nothing_owed, owed_for, IsAt, Falls, Emitted, Took, Keeps}
 use Rattle.html_tokenizer.proofs.HeldReferences.Ambiguous.{keeps-unknown, took-unknown}
 use Rattle.html_tokenizer.proofs.Attributes.Values.{quoted-more, unquoted-more}
 use Rattle.html_tokenizer.proofs.Steps.Keeping.{Says, at, failed, took_told}
@@ -53,7 +53,7 @@ value-named front text c h is = is ∙ ap (λ x. front ++ x ∷ []) (sym (shown-
 
 module _ {K H : Type 0} (Sink : Ghosts K H) where
   -- it was told as text where the machine stays
-  told-unknown : {owed : Owed} (old mid : Tokenizer K) (c : ℕ) (st : State) (token : Token) → IsAt old st → may_hold st ≡ true → Sink.is_sound (Sink.view old.sink) → Told Sink owed token old mid
+  told-unknown : {owed : Owed} (old mid : Tokenizer K) (c : ℕ) (st : State) (token : Token) → IsAt old st → may_hold st ≡ true → Sink.is_sound (Sink.view old.sink) → Emitted Sink owed token old mid
       → Says Sink st old c owed token (λ b s t. at Sink st old (b + line_break (nat_eq c 10)) s t)
       → Took Sink (record old { char_ref = Some Unknown }) (record mid { char_ref = Some Unknown }) c flow.Continue
   told-unknown old mid c st token from fits ok told law =
@@ -85,7 +85,7 @@ module _ {K H : Type 0} (Sink : Ghosts K H) (laws : SinkLaws Sink.is_sound Sink.
   data-named old c named = let held = named-held c named in data-char Sink laws old c (held-no_open c held) (held-no_reference c held) (held-no_null c held)
 
   -- in data
-  pub data-unknown : (old mid : Tokenizer K) (c : ℕ) → IsAt old state.Data → Sink.is_sound (Sink.view old.sink) → is_ascii_alphanumeric c ≡ true → Told Sink nothing_owed (CharacterTokens (c ∷ [])) old mid
+  pub data-unknown : (old mid : Tokenizer K) (c : ℕ) → IsAt old state.Data → Sink.is_sound (Sink.view old.sink) → is_ascii_alphanumeric c ≡ true → Emitted Sink nothing_owed (CharacterTokens (c ∷ [])) old mid
       → Took Sink (record old { char_ref = Some Unknown }) (record mid { char_ref = Some Unknown }) c flow.Continue
   data-unknown old mid c from ok named told = told-unknown Sink old mid c state.Data (CharacterTokens (c ∷ [])) from refl ok told (data-named old c named)
 
@@ -98,7 +98,7 @@ module _ {K H : Type 0} (Sink : Ghosts K H) (laws : SinkLaws Sink.is_sound Sink.
   rcdata-named old c named = let held = named-held c named in shown-says Sink laws old raw.Rcdata c (held-no_open c held) (held-no_reference c held) (named-no_dash c named)
 
   -- in text with references that only its end tag ends
-  pub rcdata-unknown : (old mid : Tokenizer K) (c : ℕ) → IsAt old (state.RawData raw.Rcdata) → Sink.is_sound (Sink.view old.sink) → is_ascii_alphanumeric c ≡ true → Told Sink (owed_for (grave_if (nat_eq c 0))) (CharacterTokens (shown c ∷ [])) old mid
+  pub rcdata-unknown : (old mid : Tokenizer K) (c : ℕ) → IsAt old (state.RawData raw.Rcdata) → Sink.is_sound (Sink.view old.sink) → is_ascii_alphanumeric c ≡ true → Emitted Sink (owed_for (grave_if (nat_eq c 0))) (CharacterTokens (shown c ∷ [])) old mid
       → Took Sink (record old { char_ref = Some Unknown }) (record mid { char_ref = Some Unknown }) c flow.Continue
   rcdata-unknown old mid c from ok named told = told-unknown Sink old mid c (state.RawData raw.Rcdata) (CharacterTokens (shown c ∷ [])) from refl ok told (rcdata-named old c named)
 

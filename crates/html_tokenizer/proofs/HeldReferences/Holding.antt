@@ -21,7 +21,7 @@ use Rattle.html_tokenizer_parts.specs.declared.held_reference.Ampersand.TheVaria
 use Rattle.html_tokenizer.specs.declared.tokenizer.Tokenizer.{Tokenizer}
 use Rattle.std.specs.Prelude.{◌&&◌}
 use Rattle.html_tokenizer.specs.Rest.{held_at, rows_of}
-use Rattle.html_tokenizer.specs.Steps.{Owed, and_heard, IsAt, more as more_noted, Falls, Told, Took, Keeps, now, nothing_owed}
+use Rattle.html_tokenizer.specs.Steps.{Owed, and_heard, IsAt, more as more_noted, Falls, Emitted, Took, Keeps, now, nothing_owed}
 use Rattle.html_tokenizer.proofs.Steps.Keeping.{at, keeps-behind, no-break, now-target, token-fails, told-next, stays-same}
 use Rattle.html_tokenizer.proofs.HeldReferences.Readings.{held-unbroken}
 use Rattle.html_tokenizer.proofs.Errors.Rises.{rises-same}
@@ -78,7 +78,7 @@ module _ {K H : Type 0} (Sink : Ghosts K H) where
 
   -- what is to come where what was held was told
   pub now-resolved : {owed : Owed} (old mid : Tokenizer K) (cs : List ℕ) (c : ℕ) (st : State) (token : Token) → IsAt old st → may_hold st ≡ true → Sink.is_sound (Sink.view old.sink)
-      → Told Sink owed token old mid → Resolves st old cs c owed token → (notes : Notes ℕ) (t : List ℕ)
+      → Emitted Sink owed token old mid → Resolves st old cs c owed token → (notes : Notes ℕ) (t : List ℕ)
       → now Sink (record old { char_ref = Some (Held cs) }) old.stream.breaks (Sink.view old.sink, notes) (c ∷ t) ≡ now Sink mid old.stream.breaks (Sink.view mid.sink, more_noted (and_heard (Sink.is_quiet (Sink.view old.sink) token) owed) notes) (c ∷ t)
   now-resolved {owed} old mid cs c st token from fits ok told law notes t =
       let heard = and_heard (Sink.is_quiet (Sink.view old.sink) token) owed in
@@ -89,7 +89,7 @@ module _ {K H : Type 0} (Sink : Ghosts K H) where
       ∙ sym (ap (λ k. now Sink k old.stream.breaks (Sink.view mid.sink, more_noted heard notes) (c ∷ t)) told.changed)
 
   pub keeps-resolved : {owed : Owed} (old mid new : Tokenizer K) (cs : List ℕ) (c : ℕ) (st : State) (token : Token) (result : Result (ProcessResult H) ParseFault) → IsAt old st → may_hold st ≡ true → Sink.is_sound (Sink.view old.sink)
-      → Told Sink owed token old mid → Resolves st old cs c owed token
+      → Emitted Sink owed token old mid → Resolves st old cs c owed token
       → Keeps Sink mid new c result → Keeps Sink (record old { char_ref = Some (Held cs) }) new c result
   keeps-resolved {owed} old mid new cs c st token result from fits ok told law h =
       keeps-behind Sink (and_heard (Sink.is_quiet (Sink.view old.sink) token) owed) (record old { char_ref = Some (Held cs) }) mid new c result (ap (λ k. k.stream) told.changed) told.stays told.rises (now-resolved old mid cs c st token from fits ok told law) h

@@ -17,7 +17,7 @@ use Rattle.html_tokenizer_parts.specs.CharRefs.{IsDecided, decided, is_faulty, i
 use Rattle.html_tokenizer_parts.specs.declared.held_reference.Ampersand.TheVariants.{Held, Unknown}
 use Rattle.html_tokenizer.specs.declared.tokenizer.Tokenizer.{Tokenizer}
 use Rattle.html_tokenizer.specs.Rest.{rows_of, standing, held_at}
-use Rattle.html_tokenizer.specs.Steps.{owed_for, IsAt, more, Falls, Told, Tells, Keeps, reads}
+use Rattle.html_tokenizer.specs.Steps.{owed_for, IsAt, more, Falls, Emitted, Tells, Keeps, reads}
 use Rattle.html_tokenizer_parts.proofs.CharRefs.{unknown-slight}
 use Rattle.html_tokenizer.proofs.HeldReferences.Faults.{fault-within}
 use Rattle.html_tokenizer.proofs.HeldReferences.Ambiguous.{keeps-resolved_unknown}
@@ -74,13 +74,13 @@ module _ {K H : Type 0} (Sink : Ghosts K H) (laws : SinkLaws Sink.is_sound Sink.
       ∙ ap (λ q. noting Sink.step Sink.is_quiet q (CharacterTokens (resolved false (rows_of old) cs false)) (line_number b) >>= λ p. reads Sink (rows_of old) (standing old (InRaw raw.Rcdata)) b p.0 []) (erred-more (fault_of_reference (rows_of old) cs) s)
 
   pub data-ended : (old mid new : Tokenizer K) (cs : List ℕ) (c : ℕ) (result : Result (ProcessResult H) ParseFault) → IsAt old state.Data → Sink.is_sound (Sink.view old.sink) → IsDecided (rows_of old) cs c
-      → Told Sink (owed_for (fault_of_reference (rows_of old) cs)) (CharacterTokens (resolved false (rows_of old) cs false)) old mid
+      → Emitted Sink (owed_for (fault_of_reference (rows_of old) cs)) (CharacterTokens (resolved false (rows_of old) cs false)) old mid
       → Keeps Sink mid new c result → Keeps Sink (record old { char_ref = Some (Held cs) }) new c result
   data-ended old mid new cs c result from ok d told h = keeps-resolved Sink old mid new cs c state.Data (CharacterTokens (resolved false (rows_of old) cs false)) result from refl ok told (data-resolves old cs c d) h
 
   -- the same of an unknown name
   pub data-ended_unknown : (old mid new : Tokenizer K) (cs : List ℕ) (c : ℕ) (result : Result (ProcessResult H) ParseFault) → IsAt old state.Data → Sink.is_sound (Sink.view old.sink) → IsDecided (rows_of old) cs c → is_unknown (rows_of old) cs c ≡ true
-      → Told Sink (owed_for (fault_of_reference (rows_of old) cs)) (CharacterTokens (resolved false (rows_of old) cs false)) old mid
+      → Emitted Sink (owed_for (fault_of_reference (rows_of old) cs)) (CharacterTokens (resolved false (rows_of old) cs false)) old mid
       → Keeps Sink (record mid { char_ref = Some Unknown }) new c result → Keeps Sink (record old { char_ref = Some (Held cs) }) new c result
   data-ended_unknown old mid new cs c result from ok d unknown told h =
       keeps-resolved_unknown Sink old mid new cs c state.Data (CharacterTokens (resolved false (rows_of old) cs false)) result from refl ok (ap (λ fault. (owed_for fault).is_quiet) (unknown-slight (rows_of old) cs c unknown)) told (data-resolves old cs c d) h
@@ -91,12 +91,12 @@ module _ {K H : Type 0} (Sink : Ghosts K H) (laws : SinkLaws Sink.is_sound Sink.
   data-failed old new cs c result fault from ok d is fails = not-resolved Sink (owed_for (fault_of_reference (rows_of old) cs)) old new cs c state.Data (CharacterTokens (resolved false (rows_of old) cs false)) result fault from refl ok is fails (data-resolves old cs c d)
 
   pub rcdata-ended : (old mid new : Tokenizer K) (cs : List ℕ) (c : ℕ) (result : Result (ProcessResult H) ParseFault) → IsAt old (state.RawData raw.Rcdata) → Sink.is_sound (Sink.view old.sink) → IsDecided (rows_of old) cs c
-      → Told Sink (owed_for (fault_of_reference (rows_of old) cs)) (CharacterTokens (resolved false (rows_of old) cs false)) old mid
+      → Emitted Sink (owed_for (fault_of_reference (rows_of old) cs)) (CharacterTokens (resolved false (rows_of old) cs false)) old mid
       → Keeps Sink mid new c result → Keeps Sink (record old { char_ref = Some (Held cs) }) new c result
   rcdata-ended old mid new cs c result from ok d told h = keeps-resolved Sink old mid new cs c (state.RawData raw.Rcdata) (CharacterTokens (resolved false (rows_of old) cs false)) result from refl ok told (rcdata-resolves old cs c d) h
 
   pub rcdata-ended_unknown : (old mid new : Tokenizer K) (cs : List ℕ) (c : ℕ) (result : Result (ProcessResult H) ParseFault) → IsAt old (state.RawData raw.Rcdata) → Sink.is_sound (Sink.view old.sink) → IsDecided (rows_of old) cs c → is_unknown (rows_of old) cs c ≡ true
-      → Told Sink (owed_for (fault_of_reference (rows_of old) cs)) (CharacterTokens (resolved false (rows_of old) cs false)) old mid
+      → Emitted Sink (owed_for (fault_of_reference (rows_of old) cs)) (CharacterTokens (resolved false (rows_of old) cs false)) old mid
       → Keeps Sink (record mid { char_ref = Some Unknown }) new c result → Keeps Sink (record old { char_ref = Some (Held cs) }) new c result
   rcdata-ended_unknown old mid new cs c result from ok d unknown told h =
       keeps-resolved_unknown Sink old mid new cs c (state.RawData raw.Rcdata) (CharacterTokens (resolved false (rows_of old) cs false)) result from refl ok (ap (λ fault. (owed_for fault).is_quiet) (unknown-slight (rows_of old) cs c unknown)) told (rcdata-resolves old cs c d) h

@@ -20,7 +20,7 @@ use Rattle.html_tokens.specs.Reading.{◌>>=◌, line_number, line_break}
 use Rattle.html_tokens.specs.Sink.{SinkLaws}
 use Rattle.html_tokenizer.specs.declared.tokenizer.Tokenizer.{Tokenizer}
 use Rattle.html_tokenizer.specs.Rest.{rows_of, standing, held_at}
-use Rattle.html_tokenizer.specs.Steps.{IsAt, Falls, Told, TakesAs, Took, Keeps, nothing_owed}
+use Rattle.html_tokenizer.specs.Steps.{IsAt, Falls, Emitted, TakesAs, Took, Keeps, nothing_owed}
 use Rattle.html_tokenizer_parts.specs.Words.{FittingEnd, may_escape, kind_after}
 use Rattle.html_tokenizer.proofs.Steps.Lawful.{noting-lawful}
 use Rattle.html_tokenizer.proofs.Steps.Readings.{sum-zero}
@@ -59,7 +59,7 @@ module _ {K H : Type 0} (Sink : Ghosts K H) (laws : SinkLaws Sink.is_sound Sink.
       ∙ ap (λ k. noting Sink.step Sink.is_quiet s (CharacterTokens (60 ∷ [])) (line_number b) >>= λ p. raw_text Sink old k b p.0 (c ∷ t)) (kind-open kind c t p)
 
   pub less-kept : (old mid new : Tokenizer K) (kind : RawKind) (c : ℕ) (result : Result (ProcessResult H) ParseFault) → IsAt old (state.RawLessThanSign kind) → Sink.is_sound (Sink.view old.sink) → ends_at_tag kind ≡ true → may_escape kind c ≡ false → (c ≡ 47 → ⊥)
-      → Told Sink nothing_owed (CharacterTokens (60 ∷ [])) (record old { state = state.RawData kind }) mid → Keeps Sink mid new c result → Keeps Sink old new c result
+      → Emitted Sink nothing_owed (CharacterTokens (60 ∷ [])) (record old { state = state.RawData kind }) mid → Keeps Sink mid new c result → Keeps Sink old new c result
   less-kept old mid new kind c result from ok e p f told h = keeps_then Sink old (record old { state = state.RawData kind }) mid new c (state.RawLessThanSign kind) (state.RawData kind) (CharacterTokens (60 ∷ [])) result from (record { state = refl; fresh = from.fresh }) refl refl ok told (less-says old kind c e p (ne_eqb c 47 f)) h
 
   pub less-failed : (old new : Tokenizer K) (kind : RawKind) (c : ℕ) (result : Result (ProcessResult H) ParseFault) (fault : ParseFault) → IsAt old (state.RawLessThanSign kind) → Sink.is_sound (Sink.view old.sink) → ends_at_tag kind ≡ true → may_escape kind c ≡ false → (c ≡ 47 → ⊥) → IsErrAnd result (λ y. y ≡ fault)
@@ -122,7 +122,7 @@ module _ {K H : Type 0} (Sink : Ghosts K H) (laws : SinkLaws Sink.is_sound Sink.
       ∙ ap (λ k. noting Sink.step Sink.is_quiet s (CharacterTokens (60 ∷ 47 ∷ [])) (line_number b) >>= λ p. raw_text Sink old k b p.0 (c ∷ t)) (kind-same kind 47 (c ∷ t) refl refl)
 
   pub no_name-kept : (old mid new : Tokenizer K) (kind : RawKind) (c : ℕ) (result : Result (ProcessResult H) ParseFault) → IsAt old (state.RawEndTagOpen kind) → Sink.is_sound (Sink.view old.sink) → ((t : List ℕ) → is_fitting_end old.raw_end.name (47 ∷ c ∷ t) ≡ false) → (is_ascii_alphabetic c ≡ false) ⊎ (ends_at_tag kind ≡ true)
-      → Told Sink nothing_owed (CharacterTokens (60 ∷ 47 ∷ [])) (record old { state = state.RawData kind }) mid → Keeps Sink mid new c result → Keeps Sink old new c result
+      → Emitted Sink nothing_owed (CharacterTokens (60 ∷ 47 ∷ [])) (record old { state = state.RawData kind }) mid → Keeps Sink mid new c result → Keeps Sink old new c result
   no_name-kept old mid new kind c result from ok f l told h = keeps_then Sink old (record old { state = state.RawData kind }) mid new c (state.RawEndTagOpen kind) (state.RawData kind) (CharacterTokens (60 ∷ 47 ∷ [])) result from (record { state = refl; fresh = from.fresh }) refl refl ok told (no_name-says old kind c f l) h
 
   pub no_name-failed : (old new : Tokenizer K) (kind : RawKind) (c : ℕ) (result : Result (ProcessResult H) ParseFault) (fault : ParseFault) → IsAt old (state.RawEndTagOpen kind) → Sink.is_sound (Sink.view old.sink) → ((t : List ℕ) → is_fitting_end old.raw_end.name (47 ∷ c ∷ t) ≡ false) → (is_ascii_alphabetic c ≡ false) ⊎ (ends_at_tag kind ≡ true) → IsErrAnd result (λ y. y ≡ fault)

@@ -21,7 +21,7 @@ use Rattle.html_tokens.specs.Reading.{◌>>=◌, line_number, line_break}
 use Rattle.html_tokens.specs.Sink.{SinkLaws}
 use Rattle.html_tokenizer.specs.declared.tokenizer.Tokenizer.{Tokenizer}
 use Rattle.html_tokenizer.specs.Rest.{rows_of, standing, held_at}
-use Rattle.html_tokenizer.specs.Steps.{IsAt, Falls, Told, Took, Keeps, nothing_owed}
+use Rattle.html_tokenizer.specs.Steps.{IsAt, Falls, Emitted, Took, Keeps, nothing_owed}
 use Rattle.html_tokenizer_parts.specs.Words.{FittingEnd, ends_raw_text, kind_after}
 use Rattle.html_tokenizer.proofs.Steps.Lawful.{noting-lawful}
 use Rattle.html_tokenizer.proofs.Steps.Runs.{reading-text, told-more}
@@ -74,7 +74,7 @@ module _ {K H : Type 0} (Sink : Ghosts K H) (laws : SinkLaws Sink.is_sound Sink.
       ∙ ap (λ k. noting Sink.step Sink.is_quiet s (CharacterTokens (60 ∷ 47 ∷ old.raw_end.letters)) (line_number b) >>= λ p. raw_text Sink old k b p.0 (c ∷ t)) (kind-same kind 47 (old.raw_end.letters ++ c ∷ t) refl refl)
 
   pub unfit-kept : (old mid new : Tokenizer K) (kind : RawKind) (c : ℕ) (result : Result (ProcessResult H) ParseFault) → IsAt old (state.RawEndTagName kind) → Sink.is_sound (Sink.view old.sink) → list_all is_ascii_alphabetic old.raw_end.letters ≡ true → (ends_raw_text old.raw_end.name old.raw_end.letters c ≡ false → (t : List ℕ) → is_fitting_end old.raw_end.name (47 ∷ (old.raw_end.letters ++ c ∷ t)) ≡ false) → ends_at_tag kind ≡ true → ends_raw_text old.raw_end.name old.raw_end.letters c ≡ false
-      → Told Sink nothing_owed (CharacterTokens (60 ∷ 47 ∷ old.raw_end.letters)) (record old { state = state.RawData kind }) mid → Keeps Sink mid new c result → Keeps Sink old new c result
+      → Emitted Sink nothing_owed (CharacterTokens (60 ∷ 47 ∷ old.raw_end.letters)) (record old { state = state.RawData kind }) mid → Keeps Sink mid new c result → Keeps Sink old new c result
   unfit-kept old mid new kind c result from ok w l e f told h = keeps_then Sink old (record old { state = state.RawData kind }) mid new c (state.RawEndTagName kind) (state.RawData kind) (CharacterTokens (60 ∷ 47 ∷ old.raw_end.letters)) result from (record { state = refl; fresh = from.fresh }) refl refl ok told (unfit-says old kind c w (l f) e) h
 
   pub unfit-failed : (old new : Tokenizer K) (kind : RawKind) (c : ℕ) (result : Result (ProcessResult H) ParseFault) (fault : ParseFault) → IsAt old (state.RawEndTagName kind) → Sink.is_sound (Sink.view old.sink) → list_all is_ascii_alphabetic old.raw_end.letters ≡ true → (ends_raw_text old.raw_end.name old.raw_end.letters c ≡ false → (t : List ℕ) → is_fitting_end old.raw_end.name (47 ∷ (old.raw_end.letters ++ c ∷ t)) ≡ false) → ends_at_tag kind ≡ true → ends_raw_text old.raw_end.name old.raw_end.letters c ≡ false → IsErrAnd result (λ y. y ≡ fault)
@@ -97,7 +97,7 @@ module _ {K H : Type 0} (Sink : Ghosts K H) (laws : SinkLaws Sink.is_sound Sink.
   deep_open-says old word c e b s h t = rw e (deep-run old [] c b s h t refl)
 
   pub deep_open-kept : (old mid new : Tokenizer K) (word : List ℕ) (kind : RawKind) (c : ℕ) (result : Result (ProcessResult H) ParseFault) → IsAt old (state.RawEndTagOpen kind) → Sink.is_sound (Sink.view old.sink) → word ≡ [] → ends_at_tag kind ≡ false
-      → Told Sink nothing_owed (CharacterTokens (60 ∷ 47 ∷ [])) (record old { word = word; state = state.ScriptDataDoubleEscapeEnd }) mid → Keeps Sink mid new c result → Keeps Sink old new c result
+      → Emitted Sink nothing_owed (CharacterTokens (60 ∷ 47 ∷ [])) (record old { word = word; state = state.ScriptDataDoubleEscapeEnd }) mid → Keeps Sink mid new c result → Keeps Sink old new c result
   deep_open-kept old mid new word kind c result from ok w e told h =
       keeps_then Sink old (record old { word = word; state = state.ScriptDataDoubleEscapeEnd }) mid new c (state.RawEndTagOpen (raw.ScriptDataEscaped script.DoubleEscaped)) state.ScriptDataDoubleEscapeEnd (CharacterTokens (60 ∷ 47 ∷ [])) result (rw (double_escaped kind e) at from) (record { state = refl; fresh = from.fresh }) refl refl ok told (deep_open-says old word c w) h
 
@@ -112,7 +112,7 @@ module _ {K H : Type 0} (Sink : Ghosts K H) (laws : SinkLaws Sink.is_sound Sink.
   deep-says old word c w e b s h t = rw e (deep-run old old.raw_end.letters c b s h t w)
 
   pub deep_end-kept : (old mid new : Tokenizer K) (word : List ℕ) (kind : RawKind) (c : ℕ) (result : Result (ProcessResult H) ParseFault) → IsAt old (state.RawEndTagName kind) → Sink.is_sound (Sink.view old.sink) → list_all is_ascii_alphabetic old.raw_end.letters ≡ true → word ≡ old.raw_end.letters → ends_at_tag kind ≡ false
-      → Told Sink nothing_owed (CharacterTokens (60 ∷ 47 ∷ old.raw_end.letters)) (record old { word = word; state = state.ScriptDataDoubleEscapeEnd }) mid → Keeps Sink mid new c result → Keeps Sink old new c result
+      → Emitted Sink nothing_owed (CharacterTokens (60 ∷ 47 ∷ old.raw_end.letters)) (record old { word = word; state = state.ScriptDataDoubleEscapeEnd }) mid → Keeps Sink mid new c result → Keeps Sink old new c result
   deep_end-kept old mid new word kind c result from ok w is e told h =
       keeps_then Sink old (record old { word = word; state = state.ScriptDataDoubleEscapeEnd }) mid new c (state.RawEndTagName (raw.ScriptDataEscaped script.DoubleEscaped)) state.ScriptDataDoubleEscapeEnd (CharacterTokens (60 ∷ 47 ∷ old.raw_end.letters)) result (rw (double_escaped kind e) at from) (record { state = refl; fresh = from.fresh }) refl refl ok told (deep-says old word c w is) h
 

@@ -27,7 +27,7 @@ use Rattle.html_tokenizer.specs.declared.tokenizer.Tokenizer.{Tokenizer}
 use Rattle.html_tokenizer.specs.Rest.{rows_of, standing, fault_behind, pending, held_at}
 use Rattle.html_tokenizer.proofs.Steps.Lawful.{erred-more}
 use Rattle.html_tokenizer.proofs.Steps.Readings.{sum-zero}
-use Rattle.html_tokenizer.specs.Steps.{Owed, nothing_owed, owed_for, and_heard, together, owed_by, IsAt, paused_by, more, noted_by, Rises, now, Stays, Fell, FailsAmong, Fails, Falls, IsOfText, Told, Erred, Took, Keeps, EndsTag, reads}
+use Rattle.html_tokenizer.specs.Steps.{Owed, nothing_owed, owed_for, and_heard, together, owed_by, IsAt, paused_by, more, noted_by, Rises, now, Stays, Fell, FailsAmong, Fails, Falls, IsOfText, Emitted, Erred, Took, Keeps, EndsTag, reads}
 use Rattle.html_tokenizer.proofs.Errors.Rises.{more-more, heard-more, rises-slight, rises-then, rises-less}
 use Rattle.html_tokenizer.specs.Listeners.{Listener, listening}
 
@@ -218,7 +218,7 @@ module _ {K H : Type 0} (Sink : Ghosts K H) where
       )
 
   -- what is to come where a token was told behind what is owed
-  pub told-next : {owed : Owed} (owing : Owed) (old mid : Tokenizer K) (token : Token) (notes : Notes ℕ) (next : Sink.State × Notes ℕ → Result (Sink.State × Notes ℕ) (Refusal × ℕ)) → Told Sink owed token old mid
+  pub told-next : {owed : Owed} (owing : Owed) (old mid : Tokenizer K) (token : Token) (notes : Notes ℕ) (next : Sink.State × Notes ℕ → Result (Sink.State × Notes ℕ) (Refusal × ℕ)) → Emitted Sink owed token old mid
       → (noting Sink.step Sink.is_quiet (Sink.view old.sink, more owing notes) token (line_number old.stream.breaks) >>= λ p. next p.0) ≡ next (Sink.view mid.sink, more (and_heard (Sink.is_quiet (Sink.view old.sink) token) owing) notes)
   told-next owing old mid token notes next told =
       ap (λ r. noted (heard (Sink.is_quiet (Sink.view old.sink) token) (more owing notes)) r >>= λ p. next p.0) (told.gives (line_number old.stream.breaks) refl)
@@ -229,7 +229,7 @@ module _ {K H : Type 0} (Sink : Ghosts K H) where
   now-target k sink st b s t h = held-other (listening Sink) k.state k sink k.stream b (erred_by noting_error (fault_behind k.char_ref) s) (pending k.char_ref ++ t) refl ∙ now-at Sink k st b s t h
 
   -- A token was told, and the machine stands in st'. The target is the machine as it was, with the fields that changed.
-  pub took_told : {owed : Owed} (old mid new target : Tokenizer K) (c : ℕ) (st st' : State) (token : Token) → IsAt old st → Sink.is_sound (Sink.view old.sink) → Told Sink owed token old mid
+  pub took_told : {owed : Owed} (old mid new target : Tokenizer K) (c : ℕ) (st st' : State) (token : Token) → IsAt old st → Sink.is_sound (Sink.view old.sink) → Emitted Sink owed token old mid
       → new ≡ record target { sink = mid.sink } → IsAt target st' → target.stream ≡ old.stream
       → Says st old c owed token (λ b s t. at Sink st' target (b + line_break (nat_eq c 10)) s t)
       → Took Sink old new c flow.Continue
@@ -250,11 +250,11 @@ module _ {K H : Type 0} (Sink : Ghosts K H) where
 
   -- A token was told by the machine with other fields, where it stays.
   pub took_emitted : {owed : Owed} (old source new : Tokenizer K) (c : ℕ) (st st' : State) (token : Token) → IsAt old st → Sink.is_sound (Sink.view old.sink) → source.sink ≡ old.sink → source.stream ≡ old.stream → IsAt source st'
-      → Told Sink owed token source new
+      → Emitted Sink owed token source new
       → Says st old c owed token (λ b s t. at Sink st' source (b + line_break (nat_eq c 10)) s t)
       → Took Sink old new c flow.Continue
   took_emitted {owed} old source new c st st' token from ok same stream to told law =
-      let told' : Told Sink owed token (record source { sink = old.sink; stream = old.stream }) new = rw (← same, ← stream) told in
+      let told' : Emitted Sink owed token (record source { sink = old.sink; stream = old.stream }) new = rw (← same, ← stream) told in
       let source' : Tokenizer K = record source { sink = old.sink; stream = old.stream } in
       let is : source' ≡ source = rw (← same, ← stream) refl in
       record {
@@ -330,7 +330,7 @@ module _ {K H : Type 0} (Sink : Ghosts K H) where
   keeps_silent old mid new c st st' result from to stream same law h = keeps_odd false old mid new c st st' result from to stream same law h
 
   -- A token was told, and then the character is taken by another state.
-  pub keeps_told : {owed : Owed} (old mid on new target : Tokenizer K) (c : ℕ) (st st' : State) (token : Token) (result : Result (ProcessResult H) ParseFault) → IsAt old st → Sink.is_sound (Sink.view old.sink) → Told Sink owed token old mid
+  pub keeps_told : {owed : Owed} (old mid on new target : Tokenizer K) (c : ℕ) (st st' : State) (token : Token) (result : Result (ProcessResult H) ParseFault) → IsAt old st → Sink.is_sound (Sink.view old.sink) → Emitted Sink owed token old mid
       → on ≡ record target { sink = mid.sink } → IsAt target st' → target.stream ≡ old.stream
       → Says st old c owed token (λ b s t. at Sink st' target b s (c ∷ t))
       → Keeps Sink on new c result → Keeps Sink old new c result

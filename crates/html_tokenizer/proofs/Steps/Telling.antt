@@ -15,14 +15,14 @@ use Rattle.html_tokenizer_parts.specs.CharRefs.{fits_in, may_hold}
 use Rattle.html_tokenizer_parts.specs.declared.held_reference.Ampersand.TheVariants.{Held}
 use Rattle.html_tokenizer.specs.declared.tokenizer.Tokenizer.{Tokenizer}
 use Rattle.html_tokenizer.specs.Rest.{fault_behind, pending, held_at, rows_of}
-use Rattle.html_tokenizer.specs.Steps.{Owed, IsAt, more, Falls, Told, TakesAs, Took, Keeps, now, nothing_owed}
+use Rattle.html_tokenizer.specs.Steps.{Owed, IsAt, more, Falls, Emitted, TakesAs, Took, Keeps, now, nothing_owed}
 use Rattle.html_tokenizer.proofs.Errors.Rises.{rises-same}
 use Rattle.html_tokenizer.proofs.Steps.Keeping.{at, now-at, Says, took_told, keeps_told, token-fails, stays-same, no-break}
 use Rattle.html_tokenizer.specs.Listeners.{listening}
 
 module _ {K H : Type 0} (Sink : Ghosts K H) where
   -- where only the state and what is held were set before a token was told
-  told-from : {owed : Owed} (old target new : Tokenizer K) (token : Token) → target.sink ≡ old.sink → target.stream ≡ old.stream → Told Sink owed token target new → Told Sink owed token old (record old { sink = new.sink })
+  told-from : {owed : Owed} (old target new : Tokenizer K) (token : Token) → target.sink ≡ old.sink → target.stream ≡ old.stream → Emitted Sink owed token target new → Emitted Sink owed token old (record old { sink = new.sink })
   told-from old target new token same stream told = record {
     gives = λ line e. ap (λ k. Sink.step (Sink.view k) token line) (sym same) ∙ told.gives line (e ∙ ap (λ x. line_number x.breaks) (sym stream));
     changed = refl;
@@ -61,7 +61,7 @@ module _ {K H : Type 0} (Sink : Ghosts K H) where
 
   -- The state was set, a token told, and then the character is taken by that state.
   pub keeps_then : {owed : Owed} (old target mid new : Tokenizer K) (c : ℕ) (st st' : State) (token : Token) (result : Result (ProcessResult H) ParseFault) → IsAt old st → IsAt target st' → target.sink ≡ old.sink → target.stream ≡ old.stream → Sink.is_sound (Sink.view old.sink)
-      → Told Sink owed token target mid
+      → Emitted Sink owed token target mid
       → Says Sink st old c owed token (λ b s t. at Sink st' target b s (c ∷ t))
       → Keeps Sink mid new c result → Keeps Sink old new c result
   keeps_then old target mid new c st st' token result from to same stream ok told law h =

@@ -15,7 +15,7 @@ use Rattle.html_tokens.specs.Reading.{line_number, line_break, line_breaks}
 use Rattle.html_tokens.specs.Sink.{◌>>=◌, SinkLaws}
 use Rattle.html_tokenizer.specs.declared.tokenizer.Tokenizer.{Tokenizer}
 use Rattle.html_tokenizer.specs.Rest.{rows_of, standing}
-use Rattle.html_tokenizer.specs.Steps.{owed_for, Owed, IsAt, more, IsNoTag, Falls, Told, Took, Keeps, reads, plays}
+use Rattle.html_tokenizer.specs.Steps.{owed_for, Owed, IsAt, more, IsNoTag, Falls, Emitted, Took, Keeps, reads, plays}
 use Rattle.html_tokenizer.proofs.Steps.Lawful.{noting-lawful, erred-sound, erred-more, slight-absorbed}
 use Rattle.html_tokenizer.proofs.Steps.Readings.{play-is, play-end, sum-zero, play-absorbs}
 use Rattle.html_tokenizer.proofs.Steps.Keeping.{Says, at, took_emitted, failed, no-break}
@@ -37,7 +37,7 @@ module _ {K H : Type 0} (Sink : Ghosts K H) (laws : SinkLaws Sink.is_sound Sink.
 
   -- The token was told, or could not be told.
   pub emitted-took : {owed : Owed} (old source new : Tokenizer K) (c : ℕ) (st : State) (token : Token) → c ≡ 62 → IsAt old st → Sink.is_sound (Sink.view old.sink) → source.sink ≡ old.sink → source.stream ≡ old.stream → IsAt source state.Data
-      → Told Sink owed token source new → EndSays st old source owed token → Took Sink old new c flow.Continue
+      → Emitted Sink owed token source new → EndSays st old source owed token → Took Sink old new c flow.Continue
   emitted-took old source new c st token e from ok same stream to told says = rw e (took_emitted Sink old source new 62 st state.Data token from ok same stream to told says)
 
   pub emitted-failed : (owed : Owed) (old source new : Tokenizer K) (c : ℕ) (st : State) (token : Token) (result : Result (ProcessResult H) ParseFault) (fault : ParseFault) → c ≡ 62 → IsAt old st → Sink.is_sound (Sink.view old.sink) → IsErrAnd result (λ y. y ≡ fault)

@@ -20,7 +20,7 @@ use Rattle.html_tokens.specs.Tags.{named, name_after}
 use Rattle.html_tokenizer_parts.specs.declared.error_code.ErrorCode.{ErrorCode}
 use Rattle.html_tokenizer.specs.declared.tokenizer.Tokenizer.{Tokenizer}
 use Rattle.html_tokenizer.specs.Rest.{rows_of, standing, held_at}
-use Rattle.html_tokenizer.specs.Steps.{IsAt, FallsAll, Falls, Told, Took, Keeps, Erred, owed_for, a_fault, reads, plays}
+use Rattle.html_tokenizer.specs.Steps.{IsAt, FallsAll, Falls, Emitted, Took, Keeps, Erred, owed_for, a_fault, reads, plays}
 use Rattle.html_tokenizer.proofs.Steps.Lawful.{noting-lawful}
 use Rattle.html_tokenizer.proofs.Steps.Readings.{reading-is, reading-char_as, sum-zero}
 use Rattle.html_tokenizer.proofs.Steps.TokenEnds.{behind-one}
@@ -132,7 +132,7 @@ module _ {K H : Type 0} (Sink : Ghosts K H) (laws : SinkLaws Sink.is_sound Sink.
   pub is-text : (c : ℕ) → is_ascii_alphabetic c ≡ false → nat_eq c 47 ≡ false → nat_eq c 33 ≡ false → nat_eq c 63 ≡ false → IsText (opening c)
   is-text c l a b d = text-by c (nat_eq c 62) refl l a b d
 
-  pub open-text_kept : (old mid new : Tokenizer K) (c : ℕ) (result : Result (ProcessResult H) ParseFault) → IsAt old state.TagOpen → Sink.is_sound (Sink.view old.sink) → IsText (opening c) → Told Sink (owed_for (Some Slight)) (CharacterTokens (60 ∷ [])) old mid
+  pub open-text_kept : (old mid new : Tokenizer K) (c : ℕ) (result : Result (ProcessResult H) ParseFault) → IsAt old state.TagOpen → Sink.is_sound (Sink.view old.sink) → IsText (opening c) → Emitted Sink (owed_for (Some Slight)) (CharacterTokens (60 ∷ [])) old mid
       → Keeps Sink (record mid { state = state.Data }) new c result → Keeps Sink old new c result
   open-text_kept old mid new c result from ok e told keeps =
       keeps_told Sink old mid (record mid { state = state.Data }) new (record old { state = state.Data }) c state.TagOpen state.Data (CharacterTokens (60 ∷ [])) result from ok told

@@ -4,7 +4,7 @@ use Rattle.std.specs.Prelude.{codes, ◌||◌}
 use Rattle.html_tokens.specs.declared.tags.Tag.{Tag}
 use Rattle.html_tokens.specs.declared.token.Token.TheVariants.{TagToken}
 use Rattle.html_tokens.specs.Characters.{is_white_space, ends_tag_name, ends_attribute_name, lowered, all_lowered, run, white, begins, is_null, has_null}
-use Rattle.html_tokens.specs.Item.{Place, InTag, Stand, moved, behind, behind_all, silent, told_as, grave_if, Slight, slight_if, marked}
+use Rattle.html_tokens.specs.Item.{TextPlace, InTag, Stand, moved, behind, behind_all, silent, told_as, grave_if, Slight, slight_if, marked}
 use Rattle.html_tokens.specs.Reading.{◌>>=◌, next_stand, line_number, line_break, erred_by}
 use Rattle.html_tokens.specs.Table.{Row}
 use Rattle.html_tokens.specs.Tags.{name_after, attribute_after, behind_tag, Opening, Quote, Close, Other, opening, opened_by, opened_at, equals_by, is_faulty_tag, is_odd_in_name, is_odd_first}
@@ -13,22 +13,22 @@ use Rattle.std.specs.List.{list_any}
 use Rattle.html_tokenizer.specs.Listeners.{Listener, told_text, told_item}
 
 -- Where an attribute's reading stands does not matter, but for the last start tag.
-opened_by-moved : (o : Opening) (rows : List Row) (st : Stand) (p : Place) (tag : Tag) (name : List ℕ) (c : ℕ) (t : List ℕ) → opened_by o rows (moved st p) tag name c t ≡ opened_by o rows st tag name c t
+opened_by-moved : (o : Opening) (rows : List Row) (st : Stand) (p : TextPlace) (tag : Tag) (name : List ℕ) (c : ℕ) (t : List ℕ) → opened_by o rows (moved st p) tag name c t ≡ opened_by o rows st tag name c t
 opened_by-moved Quote rows st p tag name c t = refl
 opened_by-moved Close rows st p tag name c t = refl
 opened_by-moved Other rows st p tag name c t = refl
 
-opened_at-moved : (rows : List Row) (st : Stand) (p : Place) (tag : Tag) (name t : List ℕ) → opened_at rows (moved st p) tag name t ≡ opened_at rows st tag name t
+opened_at-moved : (rows : List Row) (st : Stand) (p : TextPlace) (tag : Tag) (name t : List ℕ) → opened_at rows (moved st p) tag name t ≡ opened_at rows st tag name t
 opened_at-moved rows st p tag name [] = refl
 opened_at-moved rows st p tag name (c ∷ t) = opened_by-moved (opening c) rows st p tag name c t
 
-equals_by-moved : (equals : Bool) (rows : List Row) (st : Stand) (p : Place) (tag : Tag) (name t : List ℕ) → equals_by equals rows (moved st p) tag name t ≡ equals_by equals rows st tag name t
+equals_by-moved : (equals : Bool) (rows : List Row) (st : Stand) (p : TextPlace) (tag : Tag) (name t : List ℕ) → equals_by equals rows (moved st p) tag name t ≡ equals_by equals rows st tag name t
 equals_by-moved true rows st p tag name t =
     let u = drop (suc (white t)) t in
     ap (λ i. behind_all (suc (white t)) (behind_all (white u) i)) (opened_at-moved rows st p tag name (drop (white u) u))
 equals_by-moved false rows st p tag name t = refl
 
-attribute_after-moved : (rows : List Row) (st : Stand) (p : Place) (tag : Tag) (front t : List ℕ) → attribute_after rows (moved st p) tag front t ≡ attribute_after rows st tag front t
+attribute_after-moved : (rows : List Row) (st : Stand) (p : TextPlace) (tag : Tag) (front t : List ℕ) → attribute_after rows (moved st p) tag front t ≡ attribute_after rows st tag front t
 attribute_after-moved rows st p tag front t =
     let n = run ends_attribute_name t in
     let u = drop n t in

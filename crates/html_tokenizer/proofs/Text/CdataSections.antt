@@ -15,7 +15,7 @@ use Rattle.html_tokens.specs.Sink.{SinkLaws}
 use Rattle.html_tokens.proofs.Readings.{reading-item}
 use Rattle.html_tokenizer.specs.declared.tokenizer.Tokenizer.{Tokenizer}
 use Rattle.html_tokenizer.specs.Rest.{rows_of, standing, held_at}
-use Rattle.html_tokenizer.specs.Steps.{IsAt, Falls, Told, TakesAs, Took, Keeps, nothing_owed, a_fault, reads}
+use Rattle.html_tokenizer.specs.Steps.{IsAt, Falls, Emitted, TakesAs, Took, Keeps, nothing_owed, a_fault, reads}
 use Rattle.html_tokenizer.proofs.Steps.Lawful.{noting-lawful}
 use Rattle.html_tokenizer.proofs.Steps.Readings.{reading-char, sum-zero}
 use Rattle.html_tokenizer.proofs.Steps.Runs.{reading-token, reading-text, reading-two}
@@ -62,7 +62,7 @@ module _ {K H : Type 0} (Sink : Ghosts K H) (laws : SinkLaws Sink.is_sound Sink.
       let here = standing old InCdata in
       reading-text (λ p. Sink.is_sound p.0) (listening Sink) (rows_of old) (noting-lawful Sink.is_sound Sink.step Sink.ended Sink.is_quiet laws) here here b s h 93 (c ∷ t) (line_number b) refl (rw f refl)
 
-  pub bracket-kept : (old mid new : Tokenizer K) (c : ℕ) (result : Result (ProcessResult H) ParseFault) → IsAt old state.CdataSectionBracket → Sink.is_sound (Sink.view old.sink) → (c ≡ 93 → ⊥) → Told Sink nothing_owed (CharacterTokens (93 ∷ [])) (record old { state = state.CdataSection }) mid
+  pub bracket-kept : (old mid new : Tokenizer K) (c : ℕ) (result : Result (ProcessResult H) ParseFault) → IsAt old state.CdataSectionBracket → Sink.is_sound (Sink.view old.sink) → (c ≡ 93 → ⊥) → Emitted Sink nothing_owed (CharacterTokens (93 ∷ [])) (record old { state = state.CdataSection }) mid
       → Keeps Sink mid new c result → Keeps Sink old new c result
   bracket-kept old mid new c result from ok f told h = keeps_then Sink old (record old { state = state.CdataSection }) mid new c state.CdataSectionBracket state.CdataSection (CharacterTokens (93 ∷ [])) result from (record { state = refl; fresh = from.fresh }) refl refl ok told (bracket-says old c (ne_eqb 93 c (λ e. f (sym e)))) h
 
@@ -77,7 +77,7 @@ module _ {K H : Type 0} (Sink : Ghosts K H) (laws : SinkLaws Sink.is_sound Sink.
       let here = standing old InCdata in
       reading-two (λ p. Sink.is_sound p.0) (listening Sink) (rows_of old) (noting-lawful Sink.is_sound Sink.step Sink.ended Sink.is_quiet laws) here here here b s h 93 93 (c ∷ t) (line_number b) refl refl (λ x. rw g refl) (λ x. rw f refl)
 
-  pub brackets-kept : (old mid new : Tokenizer K) (c : ℕ) (result : Result (ProcessResult H) ParseFault) → IsAt old state.CdataSectionEnd → Sink.is_sound (Sink.view old.sink) → (c ≡ 93 → ⊥) → (c ≡ 62 → ⊥) → Told Sink nothing_owed (CharacterTokens (93 ∷ 93 ∷ [])) (record old { state = state.CdataSection }) mid
+  pub brackets-kept : (old mid new : Tokenizer K) (c : ℕ) (result : Result (ProcessResult H) ParseFault) → IsAt old state.CdataSectionEnd → Sink.is_sound (Sink.view old.sink) → (c ≡ 93 → ⊥) → (c ≡ 62 → ⊥) → Emitted Sink nothing_owed (CharacterTokens (93 ∷ 93 ∷ [])) (record old { state = state.CdataSection }) mid
       → Keeps Sink mid new c result → Keeps Sink old new c result
   brackets-kept old mid new c result from ok f g told h = keeps_then Sink old (record old { state = state.CdataSection }) mid new c state.CdataSectionEnd state.CdataSection (CharacterTokens (93 ∷ 93 ∷ [])) result from (record { state = refl; fresh = from.fresh }) refl refl ok told (brackets-says old c (ne_eqb 93 c (λ e. f (sym e))) (ne_eqb 62 c (λ e. g (sym e)))) h
 

@@ -21,7 +21,7 @@ use Rattle.html_tokens.specs.declared.states.State.TheVariants as state
 use Rattle.html_tokens.specs.declared.token.Token.TheVariants.{CharacterTokens}
 use Rattle.html_tokens.specs.declared.sink.TokenSink.{Ghosts}
 use Rattle.html_tokens.specs.Characters.{ends_attribute_name, ends_word, lowered, shown}
-use Rattle.html_tokens.specs.Item.{Place, InData, InPlaintext, InRaw, Stand, character}
+use Rattle.html_tokens.specs.Item.{TextPlace, InData, InPlaintext, InRaw, Stand, character}
 use Rattle.html_tokens.specs.Items.{item}
 use Rattle.html_tokens.specs.Notes.{Notes, noting}
 use Rattle.html_tokens.specs.RawText.{has_references, kind_behind}
@@ -341,7 +341,7 @@ module _ {K H : Type 0} (Sink : Ghosts K H) (laws : SinkLaws Sink.is_sound Sink.
       (comment-run old old.state run from.0 is ok runs.stops from.1 runs.lacking)
 
   -- A run of text is told as one.
-  place-says : (old : Tokenizer K) (place : Place) (bits : ℕ) (run : List ℕ) → has bits 10 ≡ true → 0 < length run → All (λ c. has bits c ≡ false) run
+  place-says : (old : Tokenizer K) (place : TextPlace) (bits : ℕ) (run : List ℕ) → has bits 10 ≡ true → 0 < length run → All (λ c. has bits c ≡ false) run
       → ((c : ℕ) → has bits c ≡ false → (x : Bool) (t : List ℕ) → item (rows_of old) x (standing old place) c t ≡ character c (standing old place))
       → (b : ℕ) (s : Sink.State × Notes ℕ) → Sink.is_sound s.0 → (t : List ℕ)
       → reads Sink (rows_of old) (standing old place) b s (run ++ t) ≡ (noting Sink.step Sink.is_quiet s (CharacterTokens run) (line_number b) >>= λ p. reads Sink (rows_of old) (standing old place) b p.0 t)

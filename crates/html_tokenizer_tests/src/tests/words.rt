@@ -1,6 +1,6 @@
 //! What a list was told, in words.
 
-use html_tokenizer::{Doctype, Listed, Tag, TagKind, Token, Told};
+use html_tokenizer::{Doctype, Listed, ListedToken, Tag, TagKind, Token};
 use markup::{Attribute, Text};
 use std::alloc::{AllocError, Global};
 
@@ -71,12 +71,12 @@ fn write_text(out: &mut String, text: &Text) -> Result<(), AllocError> {
     write_all(out, &["text \"", text.as_str(), "\"; "])
 }
 
-fn write_told(out: &mut String, told: &Told) -> Result<(), AllocError> {
+fn write_told(out: &mut String, told: &ListedToken) -> Result<(), AllocError> {
     write_text(out, &told.text)?;
     write_token(out, &told.token)
 }
 
-fn write_list(out: &mut String, list: &[Told]) -> Result<(), AllocError> {
+fn write_list(out: &mut String, list: &[ListedToken]) -> Result<(), AllocError> {
     for (place, told) in list.iter().enumerate() {
         write_if(out, place > 0, "; ")?;
         write_told(out, told)?;

@@ -11,7 +11,7 @@ ghost use Rattle.html_tree_builder.specs.Told.{IsTold, token_of};
 
 use crate::construction::Construction;
 use crate::errors;
-use crate::told::Told;
+use crate::told::NamedToken;
 use html_modes::Action;
 use html_rules::TagSet;
 use markup::{ParseFault, QuirksMode, TreeSink};
@@ -20,7 +20,7 @@ impl<Sink: TreeSink> Construction<Sink> {
     /// The sink is told that a token was not expected.
     #[tactic(auto, unfolding(html_rules::specs::Stack::parse_error))]
     #[inline(never)]
-    fn report_unexpected(&self, sink: &mut Sink, told: &Told<'_>)
+    fn report_unexpected(&self, sink: &mut Sink, told: &NamedToken<'_>)
         ensures { Performs parse_error self.now self.now (Sink.forest sink.old) (Sink.forest sink.new) }
     {
         let message = errors::of_token(self.alloc, told, self.mode, self.opts.exact_errors);
@@ -32,7 +32,7 @@ impl<Sink: TreeSink> Construction<Sink> {
         &mut self,
         sink: &mut Sink,
         action: &Action,
-        told: &Told<'_>,
+        told: &NamedToken<'_>,
     ) -> Result<(), ParseFault>
         requires told { IsTold told.now }
         requires stands { Stands (Sink.forest sink.old) self.old }
@@ -218,7 +218,7 @@ impl<Sink: TreeSink> Construction<Sink> {
         sink: &mut Sink,
         first: &Action,
         more: &Action,
-        told: &Told<'_>,
+        told: &NamedToken<'_>,
     ) -> Result<(), ParseFault>
         requires told { IsTold told.now }
         requires stands { Stands (Sink.forest sink.old) self.old }
@@ -239,7 +239,7 @@ impl<Sink: TreeSink> Construction<Sink> {
         &mut self,
         sink: &mut Sink,
         action: &Action,
-        told: &Told<'_>,
+        told: &NamedToken<'_>,
     ) -> Result<(), ParseFault>
         requires told { IsTold told.now }
         requires stands { Stands (Sink.forest sink.old) self.old }
@@ -267,7 +267,7 @@ impl<Sink: TreeSink> Construction<Sink> {
         &mut self,
         sink: &mut Sink,
         action: &Action,
-        told: &Told<'_>,
+        told: &NamedToken<'_>,
     ) -> Result<(), ParseFault>
         requires told { IsTold told.now }
         requires stands { Stands (Sink.forest sink.old) self.old }

@@ -14,7 +14,7 @@ ghost use Rattle.html_tree_builder.specs.States.{Stands, Performs};
 ghost use Rattle.html_tree_builder.specs.Told.{IsTold, token_of};
 
 use crate::construction::Construction;
-use crate::told::{Content, Told};
+use crate::told::{Content, NamedToken};
 use html_modes::Implied;
 use html_names::ElementClass;
 use html_rules::TagSet;
@@ -29,7 +29,7 @@ impl<Sink: TreeSink> Construction<Sink> {
     pub(crate) fn insert_element(
         &mut self,
         sink: &mut Sink,
-        told: &Told<'_>,
+        told: &NamedToken<'_>,
     ) -> Result<(), ParseFault>
         requires told { IsTold told.now }
         requires stands { Stands (Sink.forest sink.old) self.old }
@@ -52,7 +52,11 @@ impl<Sink: TreeSink> Construction<Sink> {
 
     /// An element is inserted for a tag, and popped at once.
     #[inline(never)]
-    pub(crate) fn insert_void(&mut self, sink: &mut Sink, told: &Told<'_>) -> Result<(), ParseFault>
+    pub(crate) fn insert_void(
+        &mut self,
+        sink: &mut Sink,
+        told: &NamedToken<'_>,
+    ) -> Result<(), ParseFault>
         requires told { IsTold told.now }
         requires stands { Stands (Sink.forest sink.old) self.old }
         ensures ok { OnOk result (Performs (for_tag insert_and_pop_element_for (token_of told.now.content)) self.old self.new (Sink.forest sink.old) (Sink.forest sink.new)) }
@@ -77,7 +81,7 @@ impl<Sink: TreeSink> Construction<Sink> {
     pub(crate) fn insert_formatting(
         &mut self,
         sink: &mut Sink,
-        told: &Told<'_>,
+        told: &NamedToken<'_>,
     ) -> Result<(), ParseFault>
         requires told { IsTold told.now }
         requires stands { Stands (Sink.forest sink.old) self.old }
@@ -108,7 +112,11 @@ impl<Sink: TreeSink> Construction<Sink> {
 
     /// The root is made, and opened.
     #[inline(never)]
-    pub(crate) fn create_root(&mut self, sink: &mut Sink, told: &Told<'_>) -> Result<(), ParseFault>
+    pub(crate) fn create_root(
+        &mut self,
+        sink: &mut Sink,
+        told: &NamedToken<'_>,
+    ) -> Result<(), ParseFault>
         requires stands { Stands (Sink.forest sink.old) self.old }
         ensures ok { OnOk result (Performs (create_root (attributes_of (token_of told.now.content))) self.old self.new (Sink.forest sink.old) (Sink.forest sink.new)) }
         ensures fault { IfErr result (λ fault. fault ≡ Memory) }
@@ -192,7 +200,7 @@ impl<Sink: TreeSink> Construction<Sink> {
     pub(crate) fn add_attributes_to_root(
         &mut self,
         sink: &mut Sink,
-        told: &Told<'_>,
+        told: &NamedToken<'_>,
     ) -> Result<(), ParseFault>
         requires stands { Stands (Sink.forest sink.old) self.old }
         ensures ok { OnOk result (Performs (add_attributes_to_root (attributes_of (token_of told.now.content))) self.old self.new (Sink.forest sink.old) (Sink.forest sink.new)) }
@@ -208,7 +216,7 @@ impl<Sink: TreeSink> Construction<Sink> {
     pub(crate) fn add_attributes_to_body(
         &mut self,
         sink: &mut Sink,
-        told: &Told<'_>,
+        told: &NamedToken<'_>,
     ) -> Result<(), ParseFault>
         requires stands { Stands (Sink.forest sink.old) self.old }
         ensures ok { OnOk result (Performs (add_attributes_to_body (attributes_of (token_of told.now.content))) self.old self.new (Sink.forest sink.old) (Sink.forest sink.new)) }

@@ -13,7 +13,7 @@ ghost use Rattle.html_tree_builder.specs.States.{Stands, built, state_of, Perfor
 ghost use Rattle.html_tree_builder.specs.Told.{IsTold, token_of};
 
 use crate::construction::{Construction, lent};
-use crate::told::{Content, Told};
+use crate::told::{Content, NamedToken};
 use html_modes::Foreign;
 use html_stack::TokenShape;
 use html_tokens::TagKind;
@@ -30,7 +30,7 @@ fn own_namespace(namespace: Foreign) -> Namespace
     }
 }
 
-impl<'a> Told<'a> {
+impl<'a> NamedToken<'a> {
     /// What decides which rules take it.
     fn shape(&self) -> TokenShape<'a>
         requires { IsTold self.now }
@@ -52,7 +52,7 @@ impl<'a> Told<'a> {
 
 impl<Sink: TreeSink> Construction<Sink> {
     /// Whether the rules of foreign content hold for a token.
-    pub(crate) fn is_foreign(&self, sink: &Sink, told: &Told<'_>) -> bool
+    pub(crate) fn is_foreign(&self, sink: &Sink, told: &NamedToken<'_>) -> bool
         requires told { IsTold told.now }
         requires stands { Stands (Sink.forest sink.now) self.now }
         ensures { result ≡ is_foreign (built Sink.TreeSink self.now (Sink.forest sink.now)) (token_of told.now.content) }
@@ -66,7 +66,7 @@ impl<Sink: TreeSink> Construction<Sink> {
     pub(crate) fn insert_template(
         &mut self,
         sink: &mut Sink,
-        told: &Told<'_>,
+        told: &NamedToken<'_>,
     ) -> Result<(), ParseFault>
         requires told { IsTold told.now }
         requires stands { Stands (Sink.forest sink.old) self.old }
@@ -101,7 +101,7 @@ impl<Sink: TreeSink> Construction<Sink> {
         &mut self,
         sink: &mut Sink,
         namespace: Foreign,
-        told: &Told<'_>,
+        told: &NamedToken<'_>,
     ) -> Result<(), ParseFault>
         requires stands { Stands (Sink.forest sink.old) self.old }
         ensures ok { OnOk result (Performs (for_tag (enter_foreign (namespace_of namespace)) (token_of told.now.content)) self.old self.new (Sink.forest sink.old) (Sink.forest sink.new)) }
@@ -126,7 +126,7 @@ impl<Sink: TreeSink> Construction<Sink> {
     pub(crate) fn insert_foreign(
         &mut self,
         sink: &mut Sink,
-        told: &Told<'_>,
+        told: &NamedToken<'_>,
     ) -> Result<(), ParseFault>
         requires stands { Stands (Sink.forest sink.old) self.old }
         ensures ok { OnOk result (Performs (for_tag foreign_start (token_of told.now.content)) self.old self.new (Sink.forest sink.old) (Sink.forest sink.new)) }

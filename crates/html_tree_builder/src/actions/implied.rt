@@ -10,7 +10,7 @@ ghost use Rattle.html_tree_builder.specs.States.{Stands, Performs};
 ghost use Rattle.html_tree_builder.specs.Told.{token_of};
 
 use crate::construction::Construction;
-use crate::told::{Content, Told};
+use crate::told::{Content, NamedToken};
 use html_modes::Implied;
 use html_names::ElementClass;
 use html_tokens::{Tag, TagKind};
@@ -39,7 +39,7 @@ impl<Sink: TreeSink> Construction<Sink> {
         &mut self,
         sink: &mut Sink,
         name: Implied,
-        told: &Told<'_>,
+        told: &NamedToken<'_>,
     ) -> Result<(), ParseFault>
         requires stands { Stands (Sink.forest sink.old) self.old }
         ensures ok { OnOk result (Performs (for_tag (λ tag. insert_and_pop_element_for (record tag { name = spelled name })) (token_of told.now.content)) self.old self.new (Sink.forest sink.old) (Sink.forest sink.new)) }

@@ -8,7 +8,7 @@ ghost use Rattle.html_tree_builder.specs.States.{Stands, state_of, Performs};
 ghost use Rattle.html_tree_builder.specs.Told.{IsTold, token_of};
 
 use crate::construction::Construction;
-use crate::told::{Content, Told};
+use crate::told::{Content, NamedToken};
 use html_modes::Implied;
 use html_names::ElementName;
 use html_stack::OpenElement;
@@ -76,7 +76,7 @@ impl<Sink: TreeSink> Construction<Sink> {
     pub(crate) fn insert_form_void(
         &mut self,
         sink: &mut Sink,
-        told: &Told<'_>,
+        told: &NamedToken<'_>,
     ) -> Result<(), ParseFault>
         requires told { IsTold told.now }
         requires stands { Stands (Sink.forest sink.old) self.old }

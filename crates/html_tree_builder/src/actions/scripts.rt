@@ -8,14 +8,18 @@ ghost use Rattle.html_tree_builder.specs.States.{Stands, Performs};
 ghost use Rattle.html_tree_builder.specs.Told.{IsTold, cuts_off_text, token_of};
 
 use crate::construction::Construction;
-use crate::told::{Content, Told};
+use crate::told::{Content, NamedToken};
 use html_rules::{InsertionMode, TagSet};
 use markup::{ParseFault, TreeSink};
 
 impl<Sink: TreeSink> Construction<Sink> {
     /// The script of a tag is inserted, and the sink is told before that it has started.
     #[inline(never)]
-    fn insert_started_script(&mut self, sink: &mut Sink, told: &Told<'_>) -> Result<(), ParseFault>
+    fn insert_started_script(
+        &mut self,
+        sink: &mut Sink,
+        told: &NamedToken<'_>,
+    ) -> Result<(), ParseFault>
         requires told { IsTold told.now }
         requires stands { Stands (Sink.forest sink.old) self.old }
         ensures ok { OnOk result (Performs (for_tag insert_element_for (token_of told.now.content)) self.old self.new (Sink.forest sink.old) (Sink.forest sink.new)) }
@@ -34,7 +38,7 @@ impl<Sink: TreeSink> Construction<Sink> {
     pub(crate) fn insert_element_or_script(
         &mut self,
         sink: &mut Sink,
-        told: &Told<'_>,
+        told: &NamedToken<'_>,
     ) -> Result<(), ParseFault>
         requires told { IsTold told.now }
         requires stands { Stands (Sink.forest sink.old) self.old }
@@ -48,14 +52,14 @@ impl<Sink: TreeSink> Construction<Sink> {
     }
 
     /// Whether the input ends within the text of an element.
-    fn cuts_off_text(&self, told: &Told<'_>) -> bool
+    fn cuts_off_text(&self, told: &NamedToken<'_>) -> bool
         ensures { result ≡ cuts_off_text (token_of told.now.content) self.now.mode }
     {
         matches!(told.content, Content::EndOfFile) && matches!(self.mode, InsertionMode::Text)
     }
 
     /// Tells the sink of a script that the end of the input cuts off.
-    fn report_cut_off_script(&self, sink: &mut Sink, told: &Told<'_>)
+    fn report_cut_off_script(&self, sink: &mut Sink, told: &NamedToken<'_>)
         requires stands { Stands (Sink.forest sink.old) self.now }
         ensures { Sink.forest sink.new ≡ Sink.forest sink.old }
     {
@@ -67,7 +71,7 @@ impl<Sink: TreeSink> Construction<Sink> {
     /// The current node is popped, unless it is the root. Where it is a script that the end of the input cuts off, the sink is told before that
     /// it has started.
     #[inline(never)]
-    pub(crate) fn pop_told(&mut self, sink: &mut Sink, told: &Told<'_>)
+    pub(crate) fn pop_told(&mut self, sink: &mut Sink, told: &NamedToken<'_>)
         requires stands { Stands (Sink.forest sink.old) self.old }
         ensures { Performs pop_but_root self.old self.new (Sink.forest sink.old) (Sink.forest sink.new) }
     {

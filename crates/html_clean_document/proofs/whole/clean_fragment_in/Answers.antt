@@ -3,7 +3,7 @@ use Rattle.std.proofs.lemmas.Result.{err_from_is_err_and}
 use Rattle.markup.specs.declared.serializer.TraversalScope.TheVariants.{ChildrenOnly}
 use Rattle.html_clean.specs.declared.counts.Cleaned.{Cleaned}
 use Rattle.html_forest.specs.Walk.{walked}
-use Rattle.html_serialize.specs.Puts.{Told}
+use Rattle.html_serialize.specs.Puts.{WriterView}
 use Rattle.html_clean_document.specs.Clean.{IsFragmentOf}
 use Rattle.html_clean_document.proofs.Meanings.{fragment-walked, reads-counted, was-cleaned, write-counted, write-failed}
 use Rattle.html_clean_document.proofs.whole.clean_fragment_in.Goals as goal
@@ -43,4 +43,4 @@ pub returns-clause-write_failures : goal.returns-clause-write_failures
 returns-clause-write_failures g c =
     let given = c.get_document-document in
     let wrote = c.in_ok-write_clean.ensures.text (walked given.new.self c.root.result (ChildrenOnly None)) refl in
-    ap (λ (t : Told). t.failures) wrote.writes
+    ap (λ (t : WriterView). t.failures) wrote.writes

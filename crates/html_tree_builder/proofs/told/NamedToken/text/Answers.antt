@@ -1,6 +1,6 @@
 use Rattle.std.proofs.Common.{refl, codes}
 use Rattle.markup.proofs.Plain.{chars-plain}
-use Rattle.html_tree_builder.proofs.told.Told.text.Goals as goal
+use Rattle.html_tree_builder.proofs.told.NamedToken.text.Goals as goal
 
 pub returns-in-Tag : goal.returns-in-Tag
 returns-in-Tag c = rw c.in-Tag.is (chars-plain (codes "") refl)
