@@ -101,7 +101,7 @@ fn texts_grow_at_their_end(rt: HostRuntime) {
     }
 }
 
-// What is added behind `X`, and what of it stands there.
+// What is added after `X`, and what of it stands there.
 const LOWERED: &[(&str, &str)] = &[
     ("", "X"),
     ("div", "Xdiv"),
@@ -180,7 +180,7 @@ const NUMBERED: &[&str] = &[
     "a28", "a29", "a30", "a31", "a32", "a33", "a34", "a35", "a36", "a37", "a38", "a39",
 ];
 
-// Attributes of these names, with this value, are put behind others.
+// Attributes of these names, with this value, are put after others.
 fn push_named(
     alloc: Global,
     list: &mut Attributes,
@@ -193,7 +193,7 @@ fn push_named(
     Ok(())
 }
 
-// So many attributes `a0`, `a1` and so on, with this value, are put behind others.
+// So many attributes `a0`, `a1` and so on, with this value, are put after others.
 fn push_numbered(
     alloc: Global,
     list: &mut Attributes,

@@ -60,7 +60,7 @@ fn text_of(alloc: Global, list: &[char]) -> Result<String, AllocError> {
     Ok(text)
 }
 
-/// What is left of a list behind so many characters.
+/// What is left of a list after so many characters.
 fn behind(list: &[char], taken: usize) -> &[char] {
     match list.split_at_checked(taken) {
         Some((_, rest)) => rest,
@@ -88,7 +88,7 @@ fn gives(queue: &mut BufferQueue, list: &[char]) -> bool {
     queue.is_empty() && queue.peek().is_none() && queue.next().is_none()
 }
 
-/// Whether a queue gives the characters of both lists, one list behind the other.
+/// Whether a queue gives the characters of both lists, one list after the other.
 fn gives_both(
     alloc: Global,
     queue: &mut BufferQueue,
@@ -149,7 +149,7 @@ fn pops(alloc: Global, begun: Begun) -> Result<bool, ParseFault> {
     }
 }
 
-/// Whether a text that is put behind what waits comes behind it.
+/// Whether a text that is put after what waits comes after it.
 fn puts_behind(alloc: Global, begun: Begun, other: &[char]) -> Result<bool, ParseFault> {
     let mut queue = queue_behind(alloc, begun.0, begun.1)?;
     queue.push_back(text_of(alloc, other)?)?;

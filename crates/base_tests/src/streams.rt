@@ -78,7 +78,7 @@ fn reads_once_a_call(rt: HostRuntime) {
     assert!(rt; five_are_not_read(rt.alloc()));
 }
 
-// The call that fails, whether the reading comes to it, and what the calls behind it give: as if it had not been made.
+// The call that fails, whether the reading comes to it, and what the calls after it give: as if it had not been made.
 const FAILED: &[(Option<u64>, bool, &str)] = &[
     (Some(1), true, "abcde"),
     (Some(2), true, "cde"),
@@ -121,7 +121,7 @@ fn reads_fail_once_or_never(rt: HostRuntime) {
 enum Asked {
     /// That three writes of "abc" answer this.
     Thrice(&'static [Result<usize, DeviceFault>]),
-    /// That a write of nothing answers this, that nothing is then written in whole, and "a" behind it, or not.
+    /// That a write of nothing answers this, that nothing is then written in whole, and "a" after it, or not.
     Nothing(Result<usize, DeviceFault>, bool),
     /// That "abcde" is written in whole, or is not.
     Whole(bool),

@@ -35,7 +35,7 @@ still-told owed m n h k = omega arith
 pub begun : (table : List Row) (page : List ℕ) (k : Tokenizer Counts) → Begins table k → HasRead table page k page
 begun table page k begins = record { owed = steps.nothing_owed; told = omega arith; same = sym (begins.same page); takes = begins.takes }
 
--- behind a text that a tokenizer read, what follows that text is the rest of the page
+-- after a text that a tokenizer read, what follows that text is the rest of the page
 read-on : (table : List Row) (page text behind : List ℕ) (old new : Tokenizer Counts) → HasRead table page old (text ++ behind) → Reads old new text → HasRead table page new behind
 read-on table page text behind old new read reads = record {
   owed = owed_behind reads.owed read.owed;

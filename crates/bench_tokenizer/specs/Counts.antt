@@ -78,7 +78,7 @@ abbrev pub error_counted : Token → ℕ → ℕ
 error_counted (ParseError _) errors = one_more errors
 error_counted _ errors = errors
 
--- behind a start tag of a script stands its text, and its end tag pauses in a hostile text
+-- after a start tag of a script stands its text, and its end tag pauses in a hostile text
 abbrev pub reply_to_script : Bool → TagKind → Reply
 reply_to_script is_hostile StartTag = RawData ScriptData
 reply_to_script true EndTag = Script 0

@@ -30,11 +30,11 @@ pub record IsCounted (table : List Row) (page : List ℕ) (counts : Counts) : Ty
 abbrev pub noted : Owed → Notes ℕ
 noted owed = record { pauses = []; errors = owed.faults; is_quiet = owed.is_quiet }
 
--- what is owed, behind what was owed before
+-- what is owed, after what was owed before
 abbrev pub owed_behind : Owed → Owed → Owed
 owed_behind owed before = record { faults = and_more owed.faults before.faults; is_quiet = owed.is_quiet && before.is_quiet }
 
--- what a further text makes of the numbers, behind what was owed
+-- what a further text makes of the numbers, after what was owed
 abbrev pub to_come : Tokenizer Counts → Owed → List ℕ → Result (Counted × Notes ℕ) (Refusal × ℕ)
 to_come k owed t = calls.to_come counting k (noted owed) t
 

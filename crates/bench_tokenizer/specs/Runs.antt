@@ -2,7 +2,7 @@
 use Rattle.std.specs.Prelude.{ℕ, ◌+◌, Bool, true, ◌||◌, if◌then◌else◌, List, [], ◌∷◌}
 use Rattle.html_queue.specs.Set.{has}
 
--- whether a character is the last of a run or a member of the set, where these characters stand behind it
+-- whether a character is the last of a run or a member of the set, where these characters stand after it
 abbrev pub is_last : ℕ → ℕ → List ℕ → Bool
 is_last bits c [] = true
 is_last bits c (d ∷ ds) = has bits c || has bits d

@@ -101,7 +101,7 @@ impl Counts {
     }
 }
 
-// Behind the start tag of a script stands its text; its end tag pauses in a hostile text.
+// After the start tag of a script stands its text; its end tag pauses in a hostile text.
 fn reply_to(is_hostile: bool, token: &Token) -> TokenSinkResult<()>
     ensures { numbered number result ≡ reply_to is_hostile token.now }
 {

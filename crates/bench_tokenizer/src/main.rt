@@ -33,7 +33,7 @@ const HOSTILE_BYTES: usize = 1_000;
 /// The file with the Standard's table, which lies where the program runs.
 const TABLE_FILE: &str = "named_references.table";
 
-/// What the words behind the program's name ask for:
+/// What the words after the program's name ask for:
 ///
 /// - `BYTES`: reads a page that it makes, of so many bytes, with the five names of references that a written text needs.
 /// - `PAGE TABLE`: reads the page in a file, with the table of references in another.

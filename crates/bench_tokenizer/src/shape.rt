@@ -3,7 +3,7 @@
 use std::alloc::{AllocError, Global};
 use std::fmt::Write;
 
-/// What stands behind the front of a text.
+/// What stands after the front of a text.
 #[derive(Clone, Copy)]
 enum Rest {
     /// One piece, over and over.
@@ -136,7 +136,7 @@ pub(crate) fn text_of(alloc: Global, shape: Shape, bytes: usize) -> Result<Strin
     Ok(text)
 }
 
-// Puts behind a front what follows it.
+// Puts after a front what follows it.
 fn push_rest(text: &mut String, shape: Shape, bytes: usize) -> Result<(), AllocError> {
     match shape.rest {
         Rest::Repeated => push_repeated(text, shape.piece, bytes),
@@ -145,7 +145,7 @@ fn push_rest(text: &mut String, shape: Shape, bytes: usize) -> Result<(), AllocE
     }
 }
 
-// Puts a piece behind a text until that has so many bytes.
+// Puts a piece after a text until that has so many bytes.
 fn push_repeated(text: &mut String, piece: &str, bytes: usize) -> Result<(), AllocError> {
     for _piece in 0..bytes {
         if text.len() >= bytes {
@@ -167,7 +167,7 @@ fn push_attributes(text: &mut String, piece: &str, bytes: usize) -> Result<(), A
     text.push_str(">")
 }
 
-// Makes of a front a start tag of half so many bytes, and puts end tags behind it.
+// Makes of a front a start tag of half so many bytes, and puts end tags after it.
 fn push_tags(text: &mut String, piece: &str, bytes: usize) -> Result<(), AllocError> {
     push_repeated(text, piece, bytes / 2)?;
     text.push_str(">")?;

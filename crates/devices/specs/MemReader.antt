@@ -20,18 +20,18 @@ given r room = min (min r.piece room) (length r.left)
 abbrev pub read_answer : Reader → ℕ → Result ℕ DeviceFault
 read_answer r room = if fails_next r.fails_in then Err Device else Ok (given r room)
 
--- the reader behind a read that fails
+-- the reader after a read that fails
 abbrev pub failed_read : Reader → Reader
 failed_read r = record r { fails_in = behind_call r.fails_in; failures = one_more r.failures }
 
--- the reader behind a read that gave so many bytes
+-- the reader after a read that gave so many bytes
 abbrev pub given_read : Reader → ℕ → Reader
 given_read r n = record r { left = drop n r.left; fails_in = behind_call r.fails_in }
 
--- the reader behind a read into a buffer of so many bytes
+-- the reader after a read into a buffer of so many bytes
 abbrev pub after_read : Reader → ℕ → Reader
 after_read r room = if fails_next r.fails_in then failed_read r else given_read r (given r room)
 
--- the buffer behind a read
+-- the buffer after a read
 abbrev pub filled : Reader → List ℕ → List ℕ
 filled r buffer = if fails_next r.fails_in then buffer else take (given r (length buffer)) r.left ++ drop (given r (length buffer)) buffer

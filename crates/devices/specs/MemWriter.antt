@@ -28,7 +28,7 @@ plain_answer w count = if (w.room == 0) && not (count == 0) then Err Device else
 abbrev pub write_answer : Writer → ℕ → Result ℕ DeviceFault
 write_answer w count = if fails_next w.fails_in then failing_answer w else plain_answer w count
 
--- the writer behind a write of these bytes that was so answered
+-- the writer after a write of these bytes that was so answered
 abbrev pub answered_write : Writer → List ℕ → Result ℕ DeviceFault → Writer
 answered_write w bytes answer = record w {
   written = w.written ++ take (result_unwrap_or answer 0) bytes;
@@ -37,6 +37,6 @@ answered_write w bytes answer = record w {
   failures = if write_failed bytes answer then one_more w.failures else w.failures;
 }
 
--- the writer behind a write of these bytes
+-- the writer after a write of these bytes
 abbrev pub after_write : Writer → List ℕ → Writer
 after_write w bytes = answered_write w bytes (write_answer w (length bytes))

@@ -7,6 +7,6 @@ abbrev pub fails_next : Option ℕ → Bool
 fails_next None = false
 fails_next (Some n) = n == 1
 
--- the number of the call that fails, counted from behind the next call; 0 is no call's number
+-- the number of the call that fails, counted from after the next call; 0 is no call's number
 abbrev pub behind_call : Option ℕ → Option ℕ
 behind_call fails_in = option_map (λ n. n - 1) fails_in

@@ -7,7 +7,7 @@ pub record Growing : Type 0 where
   pub written : List ℕ
   pub failures : ℕ
 
--- the writer behind a write of these bytes that was so answered: all are taken, or none
+-- the writer after a write of these bytes that was so answered: all are taken, or none
 abbrev pub grown : {E : Type 0} → Growing → List ℕ → Result ℕ E → Growing
 grown w bytes (Ok _) = record w { written = w.written ++ bytes }
 grown w bytes (Err _) = record w { failures = one_more w.failures }

@@ -7,7 +7,7 @@ use super::{DeviceFault, Target};
 
 /// Writes all the bytes, by as many writes as it takes, up to the first one that fails.
 ///
-/// A write of something that answers 0 has failed too, and none is made behind a failure: it is not
+/// A write of something that answers 0 has failed too, and none is made after a failure: it is not
 /// tried again. Where one failed, a beginning of the bytes was written.
 pub fn write_whole<T: Target>(target: &mut T, bytes: &[u8]) -> Result<(), DeviceFault>
     ensures ok { OnOk result (T.written target.new ≡ append_known (T.written target.old) bytes.now) }

@@ -32,7 +32,7 @@ impl Model for MemReader {
 impl MemReader {
     /// A source of these bytes that gives at most `piece` bytes a call.
     ///
-    /// The call number `fail_at`, counted from 1, fails; the ones behind it go on as if it had not been
+    /// The call number `fail_at`, counted from 1, fails; the ones after it go on as if it had not been
     /// made. No other call fails. Takes no memory.
     pub fn new(bytes: Vec<u8>, piece: usize, fail_at: Option<u64>) -> MemReader
         requires { 0 < piece }

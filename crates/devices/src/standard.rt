@@ -52,7 +52,7 @@ impl<R: Read> Source for StdSource<R> {
 /// A writer of the standard library as a target, that tells neither bytes nor failures.
 ///
 /// A call is one write. Any error of the writer is a fault, an interrupted write too. What a writer with
-/// a buffer of its own still holds is passed on by `flush`, which has to be called behind the last write.
+/// a buffer of its own still holds is passed on by `flush`, which has to be called after the last write.
 #[derive(Drop)]
 pub struct StdTarget<W> {
     inner: W,
@@ -81,7 +81,7 @@ impl<W> StdTarget<W> {
 }
 
 impl<W: Write> StdTarget<W> {
-    /// Has the writer pass on what it holds in a buffer of its own. Behind a fault some of it may still
+    /// Has the writer pass on what it holds in a buffer of its own. After a fault some of it may still
     /// be held.
     pub fn flush(&mut self) -> Result<(), DeviceFault>
         ensures { Keeps (W.contents self.old) (W.contents self.new) }

@@ -64,7 +64,7 @@ trees-filtered policy (Element name attributes template kids next) stack s calls
 
 -- IN FRONT OF ALL
 
--- what is passed on in front of all else, of a call that is passed on behind something
+-- what is passed on in front of all else, of a call that is passed on after something
 abbrev front_call : Bool → Call → Option Call
 front_call true (WriteText text) = text_passed false (without_marks text)
 front_call front call = Some call

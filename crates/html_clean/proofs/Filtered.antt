@@ -19,7 +19,7 @@ module _ {S : Type 0} (step : Step S) (refuses : Refuses S) where
   abbrev RanAll : Filtering S → List Call → Filtering S → Type 0
   RanAll f calls reached = Ran f calls (filtered f.policy f.stack f.front calls) (λ left. filtered f.policy f.stack f.front (calls ++ left)) reached
 
-  -- what is passed on for calls behind a call
+  -- what is passed on for calls after a call
   abbrev later_calls : Filtering S → Call → List Call → List Call
   later_calls f call calls = filtered f.policy (open_behind f.policy f.stack call) (front_behind f.front (passed_by f call)) calls
 

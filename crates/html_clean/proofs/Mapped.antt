@@ -6,7 +6,7 @@ use Rattle.std.proofs.lemmas.List.{at_drop_more, map-append, take_more}
 pub mapped-more : {A B : Type 0} (f : A → B) (xs : List A) (n : ℕ) (d : A) (y : B) → n < length xs → y ≡ f (get_or xs n d) → map f (take n xs) ++ y ∷ [] ≡ map f (take (n + 1) xs)
 mapped-more f xs n d y h e = ap (λ y. map f (take n xs) ++ y ∷ []) e ∙ sym (ap (map f) (take_more xs n d h) ∙ map-append f (take n xs) (get_or xs n d ∷ []))
 
--- the same behind others
+-- the same after others
 pub pushed-more : {A B C : Type 0} (g : C → B) (f : A → B) (items : List C) (front : List B) (xs : List A) (n : ℕ) (d : A) (y : C) → map g items ≡ front ++ map f (take n xs) → n < length xs → g y ≡ f (get_or xs n d)
     → map g (items ++ y ∷ []) ≡ front ++ map f (take (n + 1) xs)
 pushed-more g f items front xs n d y inv h e =

@@ -72,7 +72,7 @@ module _ {S H F : Type 0} (step : S → Token → ℕ → Result (S × TokenSink
   none : (last : Option (List ℕ)) (breaks : ℕ) (s : S) (t : List ℕ) → read (in_data last) breaks s t ≡ read (in_data last) (breaks + 0) s t
   none last breaks s t = let e : breaks ≡ breaks + 0 = omega arith in ap (λ n. read (in_data last) n s t) e
 
-  -- what is read behind pieces
+  -- what is read after pieces
   abbrev behind_pieces : Option (List ℕ) → ℕ → List ℕ → S → Result S F
   behind_pieces last breaks t told = read (in_data last) breaks told t
 

@@ -77,7 +77,7 @@ pub scheme-turn : (name : List ℕ) (c : ℕ) (rest : List ℕ) → scheme_behin
 scheme-turn [] c rest = behind-one c rest _ _ refl refl
 scheme-turn (d ∷ name) c rest = behind-more d name c rest (nat_eq c 58) (is_scheme_character c)
 
--- at the character that is n characters behind the front
+-- at the character that is n characters after the front
 pub scheme-at : (name cs : List ℕ) (n c : ℕ) → (n < length cs) × (c ≡ get_or cs n c) → scheme_behind name (drop n cs) ≡ scheme_by (step_of name c) name (scheme_behind (name ++ to_ascii_lowercase c ∷ []) (drop (n + 1) cs))
 scheme-at name cs n c h = at_drop_more (scheme_behind name) cs n c h.0 ∙ (ap (λ x. scheme_behind name (x ∷ drop (n + 1) cs)) (sym h.1) ∙ scheme-turn name c (drop (n + 1) cs))
 

@@ -53,7 +53,7 @@ passed policy stack front (EndElem name) = if_passed (passes stack) (EndElem nam
 passed policy stack front (WriteText text) = text_passed (hides stack) (text_at front text)
 passed policy stack front _ = None
 
--- whether nothing was passed on yet, behind a call for which this is
+-- whether nothing was passed on yet, after a call for which this is
 abbrev pub front_behind : Bool → Option Call → Bool
 front_behind front on = front && not (is_some on)
 

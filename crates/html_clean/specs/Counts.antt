@@ -17,7 +17,7 @@ use Rattle.html_clean.specs.declared.policy.Policy.{Policy}
 abbrev pub counted_up : ℕ → ℕ → ℕ
 counted_up count more = min (count + more) (2 ^ 64 - 1)
 
--- behind a start tag, which may be hidden, of an element that lost so many attributes
+-- after a start tag, which may be hidden, of an element that lost so many attributes
 abbrev pub start_counted : Bool → Fate → ℕ → Cleaned → Cleaned
 start_counted true fate lost counts = counts
 start_counted false Kept lost counts = record counts { attributes = counted_up counts.attributes lost }
@@ -32,14 +32,14 @@ comment_counted false counts = record counts { comments = counted_up counts.comm
 abbrev pub lost_attributes : Policy → List ℕ → List Attribute → ℕ
 lost_attributes policy element attributes = length attributes - length (kept_attributes policy element attributes)
 
--- behind a call
+-- after a call
 abbrev pub counted : Policy → List Opened → Cleaned → Call → Cleaned
 counted policy stack counts (StartElem name attributes) = start_counted (hides stack) (fate policy name) (lost_attributes policy name.local attributes) counts
 counted policy stack counts (WriteComment text) = comment_counted (hides stack) counts
 counted policy stack counts (WriteProcessingInstruction target text) = comment_counted (hides stack) counts
 counted policy stack counts _ = counts
 
--- behind calls, one after the other
+-- after calls, one after the other
 abbrev pub all_counted : Policy → List Opened → Cleaned → List Call → Cleaned
 all_counted policy stack counts [] = counts
 all_counted policy stack counts (call ∷ calls) = all_counted policy (open_behind policy stack call) (counted policy stack counts call) calls

@@ -42,7 +42,7 @@ Passes step refuses old on (Err fault) new = IsStopped refuses old on fault new
 abbrev pub passed_by : {S : Type 0} → Filtering S → Call → Option Call
 passed_by f call = passed f.policy f.stack f.front call
 
--- a filter behind a call, by what the serializer is behind it
+-- a filter after a call, by what the serializer is after it
 abbrev pub behind_call : {S : Type 0} → Filtering S → Call → S → Filtering S
 behind_call f call inner = record {
   policy = f.policy;

@@ -4,7 +4,7 @@ use Rattle.markup.specs.Trees.{is_among, void_names}
 use Rattle.html_round_trip.specs.Slices.Forms.{is_attribute_name}
 
 -- Elements of HTML (HTML Standard, section 4, and section 16.2 for those that are obsolete). These are not among them, and so never
--- kept: `script`, `style`, `xmp`, `iframe`, `noembed`, `noframes`, `plaintext`, `title`, `textarea` and `noscript`, behind whose start
+-- kept: `script`, `style`, `xmp`, `iframe`, `noembed`, `noframes`, `plaintext`, `title`, `textarea` and `noscript`, after whose start
 -- tags other text than data may come; `template`, which holds what it has apart; `svg` and `math`, in which other rules hold; `base`,
 -- `basefont`, `bgsound`, `link` and `meta`, which say something of the whole page; `image`, which is read as `img`; frames, `applet`,
 -- `keygen`, `listing` and names of one's own.

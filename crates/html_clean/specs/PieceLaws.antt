@@ -11,7 +11,7 @@ use Rattle.html_tokens.specs.Table.{Row}
 use Rattle.html_round_trip.specs.Slices.Forms.{end_token, has_no_return, start_token}
 use Rattle.html_clean.specs.Pieces.{Piece, are_read_pieces, last_behind, telling, written_pieces}
 
--- a sink that answers tags of these names by that data goes on behind them, in each sound state that takes the tag
+-- a sink that answers tags of these names by that data goes on after them, in each sound state that takes the tag
 pub record GoesOn {S H F : Type 0} (is_sound : S → Type 0) (step : S → Token → ℕ → Result (S × TokenSinkResult H) F) (named : List ℕ → Bool) : Type 0 where
   pub starts : (s : S) → is_sound s → (name : List ℕ) → named name ≡ true → (attributes : List Attribute) (line : ℕ) → IfOk (step s (start_token name attributes) line) (λ p. p.1 ≡ Continue)
   pub ends : (s : S) → is_sound s → (name : List ℕ) → named name ≡ true → (line : ℕ) → IfOk (step s (end_token name) line) (λ p. p.1 ≡ Continue)

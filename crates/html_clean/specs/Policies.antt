@@ -104,7 +104,7 @@ added_if false kept a = kept
 abbrev pub kept_with : Policy → List ℕ → List Attribute → Attribute → List Attribute
 kept_with policy element kept a = added_if (is_kept_attribute policy element (plain_attribute a) && not (has_local_name a.name.local kept)) kept (plain_attribute a)
 
--- those that are kept behind others: of those of one name the first
+-- those that are kept after others: of those of one name the first
 abbrev pub kept_behind : Policy → List ℕ → List Attribute → List Attribute → List Attribute
 kept_behind policy element kept [] = kept
 kept_behind policy element kept (a ∷ rest) = kept_behind policy element (kept_with policy element kept a) rest

@@ -58,7 +58,7 @@ url_kind value = let text = url_text value in kind_by (scheme_of text) (begins_w
 
 -- the same, for a reader that goes from the left
 
--- whether a character may stand in a scheme behind others
+-- whether a character may stand in a scheme after others
 abbrev pub may_follow : List ℕ → ℕ → Bool
 may_follow [] c = is_ascii_alphabetic c
 may_follow (d ∷ name) c = is_scheme_character c

@@ -25,7 +25,7 @@ fn counted_up(count: u64, more: u64) -> u64
 }
 
 impl Cleaned {
-    /// The same, behind the start tag of an element that lost so many attributes.
+    /// The same, after the start tag of an element that lost so many attributes.
     pub(crate) fn start_counted(self, hidden: bool, fate: Fate, lost: u64) -> Cleaned
         ensures { result ≡ start_counted hidden fate lost self }
     {
@@ -48,7 +48,7 @@ impl Cleaned {
         }
     }
 
-    /// The same, behind a comment or a processing instruction.
+    /// The same, after a comment or a processing instruction.
     pub(crate) fn comment_counted(self, hidden: bool) -> Cleaned
         ensures { result ≡ comment_counted hidden self }
     {

@@ -82,7 +82,7 @@ impl Open {
     }
 }
 
-/// What an element is behind its start tag.
+/// What an element is after its start tag.
 fn opened_by(hidden: bool, fate: Fate, void: bool) -> Opened
     ensures { result ≡ opened_by hidden fate void }
 {
@@ -214,7 +214,7 @@ impl<'a, S: Serializer> Filter<'a, S> {
     ghost use Rattle.std.specs.Prelude.{[], true};
     ghost use Rattle.html_clean.specs.Counts.{nothing_counted};
 
-    /// A filter behind which nothing has begun.
+    /// A filter after which nothing has begun.
     pub fn new(alloc: Global, policy: &'a Policy, serializer: &'a mut S) -> Filter<'a, S>
         ensures same_reference { result.serializer.ghost_name ≡ serializer.entry.ghost_name }
         ensures serializer { result.serializer.now ≡ serializer.old }

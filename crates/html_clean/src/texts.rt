@@ -91,7 +91,7 @@ pub(crate) fn first_two(text: &str) -> Option<(char, char)>
     Some((first, second))
 }
 
-/// Whether a character is put behind a text that is not to begin with U+FEFF.
+/// Whether a character is put after a text that is not to begin with U+FEFF.
 fn may_follow(made: &Text, c: char) -> bool
     ensures { result ≡ not (is_no_text made.now && is_mark c) }
 {

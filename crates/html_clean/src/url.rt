@@ -49,7 +49,7 @@ fn url_text(alloc: Global, value: &str) -> Result<Text, ParseFault>
     Ok(made)
 }
 
-/// What a character is behind the beginning of a scheme.
+/// What a character is after the beginning of a scheme.
 #[derive(Clone, Copy)]
 enum SchemeStep {
     /// Its end.
@@ -60,7 +60,7 @@ enum SchemeStep {
     Grows,
 }
 
-/// What a character is behind the beginning of a scheme.
+/// What a character is after the beginning of a scheme.
 fn step_of(name: &Text, c: char) -> SchemeStep
     ensures { result ≡ step_of name.now c }
 {
@@ -93,7 +93,7 @@ fn scheme_of(alloc: Global, text: &str) -> Result<Option<Text>, ParseFault>
     Ok(None)
 }
 
-/// Whether a character may stand in a scheme behind others.
+/// Whether a character may stand in a scheme after others.
 fn may_follow(name: &Text, c: char) -> bool
     ensures { result ≡ may_follow name.now c }
 {

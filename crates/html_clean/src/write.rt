@@ -49,7 +49,7 @@ pub fn serialize_clean<S: Serializer, T: Serialize>(
     with_counts(answer, counts)
 }
 
-/// A writer behind a walk, with the walk's answer.
+/// A writer after a walk, with the walk's answer.
 #[derive(Drop)]
 struct Walked<Wr> {
     writer: Wr,

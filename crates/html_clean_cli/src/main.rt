@@ -15,10 +15,10 @@ use std::fs::File;
 use std::io::{self, BufWriter, ErrorKind, Write};
 use std::process::ExitCode;
 
-/// What an option takes from the word behind it.
+/// What an option takes from the word after it.
 #[derive(Clone, Copy)]
 enum Takes {
-    /// An element, and behind a colon its attributes.
+    /// An element, and after a colon its attributes.
     Element,
     /// An attribute of all elements.
     Attribute,
@@ -37,7 +37,7 @@ struct Asked<'a> {
     files: Vec<&'a str>,
 }
 
-/// Why the words behind the program's name were not read: for want of memory, or since one of them is no text.
+/// Why the words after the program's name were not read: for want of memory, or since one of them is no text.
 fn words_fault(error: &io::Error) -> ProgramFault {
     match error.kind() {
         ErrorKind::OutOfMemory => ProgramFault::Normal(NormalFault::Memory),
@@ -45,7 +45,7 @@ fn words_fault(error: &io::Error) -> ProgramFault {
     }
 }
 
-/// The words behind the program's name.
+/// The words after the program's name.
 fn words(rt: &HostRuntime) -> Result<Vec<String>, ProgramFault> {
     let arguments = match env::args(rt) {
         Ok(arguments) => arguments,
@@ -60,7 +60,7 @@ fn words(rt: &HostRuntime) -> Result<Vec<String>, ProgramFault> {
     Ok(words)
 }
 
-/// Keeps an element with the attributes behind a colon, as in `img:src,alt`.
+/// Keeps an element with the attributes after a colon, as in `img:src,alt`.
 fn keep(alloc: Global, policy: &mut Policy, word: &str) -> Result<(), ParseFault> {
     let Some((element, list)) = word.split_once(':') else {
         return policy.keep(alloc, word, &[]);
@@ -84,7 +84,7 @@ fn allow(alloc: Global, policy: &mut Policy, word: &str) -> Result<(), ParseFaul
     Ok(())
 }
 
-/// Takes the word behind an option.
+/// Takes the word after an option.
 fn take<'a>(
     alloc: Global,
     asked: &mut Asked<'a>,

@@ -1,4 +1,4 @@
--- The rules go on with data behind tags of kept names.
+-- The rules go on with data after tags of kept names.
 use Rattle.std.proofs.Common.{◌≡◌, List, ℕ, false, true, ap}
 use Rattle.std.proofs.lemmas.Bool.{and_parts}
 use Rattle.std.specs.Prelude.{not}

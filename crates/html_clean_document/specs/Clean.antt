@@ -58,7 +58,7 @@ module _ (of : List ℕ → Trees → Type 0) (policy : Policy) where
     pub input : of whole trees
     pub left : IsLeft policy trees pieces
 
-  -- All of the input was read, such tags and texts were written behind what was written before, and what the policy takes away of the
+  -- All of the input was read, such tags and texts were written after what was written before, and what the policy takes away of the
   -- input's trees is counted.
   pub record IsCleaned (whole : List ℕ) (left old new : Option (List ℕ)) (counts : Cleaned) : Type 0 where
     pub pieces : List Piece

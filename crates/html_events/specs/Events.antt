@@ -1,4 +1,4 @@
--- A tree as bytes: the calls by which a serializer is told it, one behind the other.
+-- A tree as bytes: the calls by which a serializer is told it, one after the other.
 use Rattle.std.specs.Prelude.{ℕ, ◌/◌, ◌%◌, List, [], ◌∷◌, ◌++◌, length, encode_utf8_all, Ok}
 use Rattle.markup.specs.Calls.{Call, Step}
 use Rattle.markup.specs.Calls.Call.{StartElem, EndElem, WriteText, WriteComment, WriteDoctype, WriteProcessingInstruction}
@@ -8,7 +8,7 @@ use Rattle.markup.specs.declared.attributes.Attribute.{Attribute}
 unfoldable pub number_bytes : ℕ → List ℕ
 number_bytes n = n % 256 ∷ n / 256 % 256 ∷ n / 65536 % 256 ∷ n / 16777216 ∷ []
 
--- bytes behind their number
+-- bytes after their number
 abbrev pub counted_bytes : List ℕ → List ℕ
 counted_bytes bytes = number_bytes (length bytes) ++ bytes
 

@@ -30,7 +30,7 @@ fn push_number(bytes: &mut Vec<u8>, number: usize) -> Result<(), SerializeFault>
     Ok(())
 }
 
-// Adds bytes behind their number.
+// Adds bytes after their number.
 fn push_counted(bytes: &mut Vec<u8>, more: &[u8]) -> Result<(), SerializeFault>
     ensures ok { OnOk result (bytes.new.items ≡ bytes.old.items ++ counted_bytes more.now) }
     ensures fault { IfErr result (λ fault. fault ≡ Memory) }

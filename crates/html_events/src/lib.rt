@@ -1,4 +1,4 @@
-//! Trees as bytes: the calls by which a serializer is told a tree, one behind the other, for who builds a tree of their own elsewhere.
+//! Trees as bytes: the calls by which a serializer is told a tree, one after the other, for who builds a tree of their own elsewhere.
 #![tactic(auto)]
 
 mod events;

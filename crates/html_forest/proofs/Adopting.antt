@@ -1,4 +1,4 @@
--- The loop that gives nodes another parent, one behind the other.
+-- The loop that gives nodes another parent, one after the other.
 use Rattle.std.proofs.Common.{◌≡◌, ◌==◌, ◌<◌, ℕ, List, [], ◌∷◌, ◌++◌, Option, Some, None, cond, length, subst, sym, ap, ◌∙◌, refl, arith, append_assoc, append-nil, inl, inr}
 use Rattle.std.proofs.lemmas.Bool.{cases_eq, cases_Bool, eq-eqb, ne_eqb}
 use Rattle.html_forest.specs.declared.node.Node.{Node}
@@ -56,7 +56,7 @@ IsAdopting-next old first parent now new c at h next links entries len = record 
           | inr other ↦ rw (ne_eqb n c other) (h.links n)
         ]
 
--- behind the last one all have it
+-- after the last one all have it
 pub IsAdopting-end : (old : List Node) (first : Option ℕ) (parent : ℕ) (now : List Node) → IsAdopting old first parent now None → (n : ℕ) → link_at (links_of now) n ≡ adopted parent (walk_from old first) n (link_at (links_of old) n)
 IsAdopting-end old first parent now h n =
     h.links n ∙ ap (λ (ns : List ℕ). adopted parent ns n (link_at (links_of old) n)) (sym (h.all ∙ (ap (λ (ns : List ℕ). h.done ++ ns) (walk-none old) ∙ append-nil h.done)))

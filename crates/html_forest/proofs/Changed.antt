@@ -1,4 +1,4 @@
--- One node has another entry, in a store with more behind it.
+-- One node has another entry, in a store with more after it.
 use Rattle.std.proofs.Common.{◌≡◌, ◌∙◌, ◌<◌, ℕ, List, length, get_or, set, ap, sym, subst, arith, Result, Ok, Err}
 use Rattle.std.specs.Result.{OnErr, OnOk}
 use Rattle.std.proofs.lemmas.List.{length-map, map-set, set-get_or}

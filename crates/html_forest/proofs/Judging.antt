@@ -1,4 +1,4 @@
--- What is left to judge, behind a node.
+-- What is left to judge, after a node.
 use Rattle.std.proofs.Common.{◌≡◌, ◌∙◌, ◌+◌, ◌<◌, ℕ, suc, arith, length, Bool, true, false, List, [], ◌∷◌, ◌++◌, Option, Some, None, refl, sym, ap}
 use Rattle.std.specs.Prelude.{◌&&◌, reverse}
 use Rattle.std.proofs.lemmas.List.{reverse-append}
@@ -104,7 +104,7 @@ none-left [] h = refl
 none-left (level ∷ levels) h = absurd (omega (arith, h))
 
 module _ (f : Forest) (tree : IsTree f) where
-  -- what comes behind those that are judged, and whether what comes then is plain
+  -- what comes after those that are judged, and whether what comes then is plain
   abbrev behind_all : Walk → Trees
   behind_all w = trees_before f w.1 (trees_behind f (reverse w.2))
 
@@ -130,7 +130,7 @@ module _ (f : Forest) (tree : IsTree f) where
   went-on old new None goes_on g e k = rw g refl
   went-on old new (Some b) goes_on g e k = rw (g.1, g.0, e, k) refl
 
-  -- a node in which nothing stands, behind which it goes on or not
+  -- a node in which nothing stands, after which it goes on or not
   leaf-taken : (old new : Walk) (n : ℕ) (about : forest.NodeData) (behind : Option Stand) (goes_on : Bool) → data_of f n ≡ about → ((inner : Trees → Trees) (rest : Trees) → is_plain_at old.0 (node_before about inner rest) ≡ goes_on_at behind rest) → GoesOn behind new.0 goes_on → new.1 ≡ old.1 → new.2 ≡ old.2
       → IsTaken f n old new goes_on
   leaf-taken old new n about behind goes_on d h g e k = record {

@@ -40,7 +40,7 @@ get_or-push_default [] d (suc n) = refl
 get_or-push_default (x ∷ xs) d zero = refl
 get_or-push_default (x ∷ xs) d (suc n) = get_or-push_default xs d n
 
--- an item pushed behind what a function has
+-- an item pushed after what a function has
 get_or-pushed : {A : Type 0} (xs : List A) (d x : A) (f g : ℕ → A) (count : ℕ) → length xs ≡ count → ((n : ℕ) → get_or xs n d ≡ f n) → ((n : ℕ) → n < count → g n ≡ f n) → g count ≡ x → ((n : ℕ) → count < n → g n ≡ d) → (n : ℕ) → get_or (xs ++ x ∷ []) n d ≡ g n
 get_or-pushed xs d x f g count long are old new past n =
     elim (cases_lt n count) [

@@ -1,4 +1,4 @@
--- What nodes keep of their neighbours, when the children of one node move behind those of another one.
+-- What nodes keep of their neighbours, when the children of one node move after those of another one.
 use Rattle.std.proofs.Common.{◌≡◌, ◌≢◌, ◌==◌, ◌&&◌, ◌<◌, ℕ, List, [], ◌∷◌, ◌++◌, Option, Some, None, true, false, cond, is_none, length, sym, ap, ◌∙◌, refl, inl, inr, append-nil}
 use Rattle.std.proofs.lemmas.Bool.{cases_eq, cases_Bool, eq-eqb, ne_eqb}
 use Rattle.markup.specs.Forest.{Above, Forest, IsForest, IsParent, NodeData, children_of, is_among, last_of, node_count, parent_of, reparent_children}

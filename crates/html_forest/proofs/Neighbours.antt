@@ -6,7 +6,7 @@ use Rattle.markup.specs.Forest.{IsDistinct, is_among, last_of}
 use Rattle.markup.proofs.Children.{is_among-last}
 use Rattle.html_forest.specs.Links.{after_in, before_in, first_of, is_it}
 
--- the last number of a list that stands behind another number, or behind none
+-- the last number of a list that stands after another number, or after none
 abbrev pub last_from : Option ℕ → List ℕ → Option ℕ
 last_from behind [] = behind
 last_from behind (n ∷ ns) = last_from (Some n) ns
@@ -47,7 +47,7 @@ head-apart m n ns h = elim (cases_Bool (m == n)) [ inl same ↦ absurd (let foun
 pub tail-absent : (m n : ℕ) (ns : List ℕ) → is_among m (n ∷ ns) ≡ false → is_among m ns ≡ false
 tail-absent m n ns h = rw (head-apart m n ns h) at h
 
--- a number's neighbours in two lists, one behind the other, by which of them has it
+-- a number's neighbours in two lists, one after the other, by which of them has it
 
 pub after-right : (m : ℕ) (xs ys : List ℕ) → is_among m xs ≡ false → after_in m (xs ++ ys) ≡ after_in m ys
 after-right m [] ys absent = refl
@@ -88,7 +88,7 @@ after-here c xs ys absent = after-right c xs (c ∷ ys) absent ∙ rw (eq-eqb c 
 pub before-here : (c : ℕ) (xs ys : List ℕ) → is_among c xs ≡ false → before_in None c (xs ++ c ∷ ys) ≡ last_of xs
 before-here c xs ys absent = before-right None c xs (c ∷ ys) absent ∙ (rw (eq-eqb c c refl) (last_from-none xs))
 
--- distinct lists behind one another
+-- distinct lists after one another
 
 distinct-left : (xs ys : List ℕ) → IsDistinct (xs ++ ys) → IsDistinct xs
 distinct-left [] ys h = tt

@@ -1,4 +1,4 @@
--- What entries name is in a store that has more behind what it had, and is the same there.
+-- What entries name is in a store that has more after what it had, and is the same there.
 use Rattle.std.proofs.Common.{◌≡◌, ◌∙◌, ◌+◌, ◌-◌, ◌<◌, ◌≤◌, ℕ, zero, suc, List, [], ◌∷◌, ◌++◌, length, map, get_or, set, take, drop, ap, ap₂, sym, refl, subst, arith, inl, inr, append-nil, encode_utf8_all, Result, Ok, Err}
 use Rattle.std.specs.Result.{OnErr}
 use Rattle.std.specs.List.{slice_range}
@@ -54,7 +54,7 @@ boundary-longer xs ys n l u v h =
 range-stays : (xs ys : List ℕ) (at len : ℕ) → IsLonger xs ys → IsUtf8 ys → IsUtf8 xs → IsRange xs at len → IsRange ys at len
 range-stays xs ys at len l u v h = record { from = boundary-longer xs ys at l u v h.from; to = boundary-longer xs ys (at + len) l u v h.to }
 
--- characters behind others
+-- characters after others
 pub range-behind : (bs xs ys : List ℕ) (at : ℕ) → bs ≡ xs ++ ys → IsUtf8 ys → at ≡ length xs → IsRange bs at (length ys)
 range-behind bs xs ys at e u here = record {
   from = subst (λ n. IsCharBoundary bs n) (sym here) (IsCharBoundary-at_seam bs xs ys e u);
@@ -117,7 +117,7 @@ data_in-grown s t g (Element count template integration_point name at) h =
     ap₂ (λ n attributes. tree.NodeData.Element n attributes template integration_point) (get_or-longer _ _ no_name name g.names h.0) (range-longer _ _ at count g.attributes h.1)
 data_in-grown s t g (OwnElement template integration_point element) h = refl
 
--- a text that is the last of the store, with more behind it
+-- a text that is the last of the store, with more after it
 pub IsMade-joined : (s t : Store) (at len : ℕ) (bs cs : List ℕ) → IsRange (string_bytes s.texts) at len → at + len ≡ length (string_bytes s.texts) → string_bytes t.texts ≡ string_bytes s.texts ++ bs → IsUtf8 bs → chars bs ≡ cs → IsMade t (Text (len + length bs) at) (tree.NodeData.Text (text_in s at len ++ cs))
 IsMade-joined s t at len bs cs h last e v same = record {
   stored = joined-range _ _ bs at len e (IsUtf8-string_bytes s.texts) v (IsUtf8-string_bytes t.texts) h last;

@@ -47,7 +47,7 @@ inner-less f is contents name n ns next frames inner =
     let same : weight f next.rest ≡ weight f (inner_of f n) = ap (weight f) inner in
     omega arith
 
--- any other node is met: what stands behind it comes next
+-- any other node is met: what stands after it comes next
 pub leaf-next : (f : Forest) → IsForest f → HasContents f → (name : Option (Bor QualName)) (n : ℕ) (ns : List ℕ) (frames : List Frame)
     → holds_children (data_of f n) ≡ false → calls_left f (frame name (n ∷ ns)) frames ≡ first_calls (data_of f n) ++ calls_left f (frame name ns) frames
 leaf-next f is contents name n ns frames holds =
@@ -227,7 +227,7 @@ module _ {S : Type 0} (step : Step S) (refuses : Refuses S) (f : Forest) where
   pub walks-stopped : (old new : S) (calls : List Call) (fault : SerializeFault) (result : Result (Unit {0}) SerializeFault) → IsErrAnd result (λ y. y ≡ fault) → Stops step refuses old calls fault new → Walks step refuses old calls result new
   walks-stopped old new calls fault result err stops = let p = err_from_is_err_and result err in rw (p.1, p.2) stops
 
-  -- a walk behind calls that were made
+  -- a walk after calls that were made
   pub walks-behind : (old mid new : S) (calls left : List Call) (result : Result (Unit {0}) SerializeFault) → IsAhead step old calls left mid → Walks step refuses mid left result new → Walks step refuses old calls result new
   walks-behind old mid new calls left (Ok answer) before walks = ap (run step old) before.1.0 ∙ run-append step before.0 left old mid before.1.1 ∙ walks
   walks-behind old mid new calls left (Err fault) before walks = ahead-stopped old mid new calls left fault before walks

@@ -12,7 +12,7 @@ length-following zero links at = omega arith
 length-following (suc count) links None = omega arith
 length-following (suc count) links (Some n) = let h = length-following count links (link_at links n).next in omega arith
 
--- the first of the nodes that are left, and what is left behind it
+-- the first of the nodes that are left, and what is left after it
 pub record IsStep (links : List Links) (count n : ℕ) : Type 0 where
   pub there : n < length links
   pub goes : following count links (Some n) ≡ n ∷ following count links (link_at links n).next

@@ -77,12 +77,12 @@ pub record IsMade (store : Store) (entry : Entry) (about : tree.NodeData) : Type
   pub stored : IsStored store entry
   pub shown : data_in store entry ≡ about
 
--- a list is another one with more behind it
+-- a list is another one with more after it
 pub record IsLonger {A : Type 0} (old new : List A) : Type 0 where
   pub more : List A
   pub is : new ≡ old ++ more
 
--- a store has what it had, and more behind it
+-- a store has what it had, and more after it
 pub record IsGrown (old new : Store) : Type 0 where
   pub names : IsLonger old.names.items new.names.items
   pub attributes : IsLonger old.attributes.items new.attributes.items

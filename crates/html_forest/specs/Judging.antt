@@ -20,7 +20,7 @@ abbrev pub goes_on_at : Option Stand → Trees → Bool
 goes_on_at None trees = false
 goes_on_at (Some stand) trees = is_plain_at stand trees
 
--- trees in and behind an element, if it may stand there
+-- trees in and after an element, if it may stand there
 abbrev pub both_at : Option Around → Trees → Trees → Bool
 both_at None kids rest = false
 both_at (Some around) kids rest = is_plain_at around.inside kids && is_plain_at around.behind rest
@@ -37,32 +37,32 @@ takes_comment_here stand text = takes_comments stand.place && is_plain_comment t
 abbrev pub opens_here : Stand → List ℕ → List ℕ → List ℕ → Bool
 opens_here stand name public_id system_id = is_first stand.place && is_plain_doctype name public_id system_id
 
--- where it goes on behind a text
+-- where it goes on after a text
 abbrev pub IsBehindText : Stand → List ℕ → Option Stand → Type 0
 IsBehindText stand text behind = (rest : Trees) → is_plain_at stand (Text text rest) ≡ goes_on_at behind rest
 
--- and behind a comment
+-- and after a comment
 abbrev pub IsBehindComment : Stand → List ℕ → Option Stand → Type 0
 IsBehindComment stand text behind = (rest : Trees) → is_plain_at stand (Comment text rest) ≡ goes_on_at behind rest
 
--- and behind a doctype
+-- and after a doctype
 abbrev pub IsBehindDoctype : Stand → List ℕ → List ℕ → List ℕ → Option Stand → Type 0
 IsBehindDoctype stand name public_id system_id behind = (rest : Trees) → is_plain_at stand (Doctype name public_id system_id rest) ≡ goes_on_at behind rest
 
--- and in and behind an element that is no template
+-- and in and after an element that is no template
 abbrev pub IsAround : Stand → QualName → List Attribute → Option Around → Type 0
 IsAround stand name attributes around = (kids rest : Trees) → is_plain_at stand (Element name attributes false kids rest) ≡ both_at around kids rest
 
--- where nodes stand in and behind an element that may stand here
+-- where nodes stand in and after an element that may stand here
 abbrev pub around_of : Stand → PlainElement → Around
 around_of stand k = record { inside = record { place = inside stand.place k; after_text = false }; behind = record { place = behind_element stand.place; after_text = false } }
 
--- trees behind others, where no other place is given for them
+-- trees after others, where no other place is given for them
 abbrev pub trees_by : Forest → Option Stand → List ℕ → Trees → Trees
 trees_by f None rest behind = trees_before f rest behind
 trees_by f (Some stand) rest behind = Nothing
 
--- the trees that come behind those that are judged, up to where another place is given
+-- the trees that come after those that are judged, up to where another place is given
 abbrev pub trees_behind : Forest → List Level → Trees
 trees_behind f [] = Nothing
 trees_behind f (level ∷ levels) = trees_by f level.behind level.rest (trees_behind f levels)
@@ -80,7 +80,7 @@ are_levels_plain f (level ∷ levels) = plain_by f level.behind level.rest (tree
 abbrev pub is_left_plain : Forest → Stand → List ℕ → List Level → Bool
 is_left_plain f stand rest levels = is_plain_at stand (trees_before f rest (trees_behind f (reverse levels))) && are_levels_plain f (reverse levels)
 
--- from where some nodes end to where those that waited behind them begin, and whether the first may end there
+-- from where some nodes end to where those that waited after them begin, and whether the first may end there
 abbrev pub IsAscent : Option Stand → Stand → Stand → Bool → Type 0
 IsAscent None old new ends = (new ≡ old) × (ends ≡ true)
 IsAscent (Some behind) old new ends = (new ≡ behind) × (ends ≡ may_end old.place)
@@ -103,7 +103,7 @@ abbrev pub IsElementTaken : Forest → ℕ → QualName → List Attribute → W
 IsElementTaken f n name attributes old new false = IsAround old.0 name attributes None
 IsElementTaken f n name attributes old new true = (behind : Stand) × (IsAround old.0 name attributes (Some (record { inside = new.0; behind = behind })) × Descends f n (Some behind) old new)
 
--- the walk goes on among the children of a node, and then behind it
+-- the walk goes on among the children of a node, and then after it
 abbrev pub AreChildrenTaken : Forest → ℕ → Walk → Walk → Bool → Type 0
 AreChildrenTaken f n old new goes_on = (goes_on ≡ true) × (new.0 ≡ old.0) × Descends f n None old new
 

@@ -11,7 +11,7 @@ abbrev pub first_of : List ℕ → Option ℕ
 first_of [] = None
 first_of (n ∷ ns) = Some n
 
--- the number just before m in a list that stands behind another number, or behind none
+-- the number just before m in a list that stands after another number, or after none
 abbrev pub before_in : Option ℕ → ℕ → List ℕ → Option ℕ
 before_in behind m [] = behind
 before_in behind m (n ∷ ns) = cond (m == n) behind (before_in (Some n) m ns)
@@ -50,7 +50,7 @@ abbrev pub is_it : Option ℕ → ℕ → Bool
 is_it None m = false
 is_it (Some n) m = m == n
 
--- the links of n, once what stands behind `previous` is `to`, or what stands first under the parent
+-- the links of n, once what stands after `previous` is `to`, or what stands first under the parent
 abbrev pub behind_set : ℕ → Option ℕ → Option ℕ → ℕ → Links → Links
 behind_set parent previous to n l = record l {
   next = cond (is_it previous n) to l.next;
@@ -94,7 +94,7 @@ led_by child previous n l = record l { previous = cond (n == child) previous l.p
 abbrev pub emptied : ℕ → ℕ → Links → Links
 emptied parent n l = record l { first = cond (n == parent) None l.first; last = cond (n == parent) None l.last }
 
--- the links of n, once the children of one node, from `first` to `last`, stand behind the tail of another one's
+-- the links of n, once the children of one node, from `first` to `last`, stand after the tail of another one's
 abbrev pub moved_behind : ℕ → ℕ → Option ℕ → Option ℕ → Option ℕ → List ℕ → ℕ → Links → Links
 moved_behind from to tail None last moved n l = l
 moved_behind from to tail (Some head) last moved n l =

@@ -114,7 +114,7 @@ impl Forest {
         }
     }
 
-    /// The node just behind a node, among the children of its parent.
+    /// The node just after a node, among the children of its parent.
     pub fn next_sibling(&self, id: NodeId) -> Option<NodeId>
         ensures { result ≡ next_under self.now id (parent_of self.now id) }
     {

@@ -47,7 +47,7 @@ fn set_links(nodes: &mut Vec<Node>, at: NodeId, links: Links)
     nodes[at.number()].links = links;
 }
 
-/// Notes what stands behind a node, or else first in its parent.
+/// Notes what stands after a node, or else first in its parent.
 fn set_behind(nodes: &mut Vec<Node>, parent: NodeId, previous: Option<NodeId>, to: Link)
     requires parent { parent < vec_len nodes.old }
     requires previous { IfSome previous (λ id. id < vec_len nodes.old) }
@@ -199,7 +199,7 @@ fn set_previous(nodes: &mut Vec<Node>, child: NodeId, previous: Link)
     set_links(nodes, child, changed);
 }
 
-/// Moves all children of one node, in order, behind those of another one.
+/// Moves all children of one node, in order, after those of another one.
 pub fn move_children(nodes: &mut Vec<Node>, from: NodeId, to: NodeId)
     requires from { from < vec_len nodes.old }
     requires to { to < vec_len nodes.old }

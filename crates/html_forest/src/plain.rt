@@ -24,7 +24,7 @@ pub(crate) struct Stand {
     pub after_text: bool,
 }
 
-/// Where what stands in an element begins, and where what stands behind it does.
+/// Where what stands in an element begins, and where what stands after it does.
 #[derive(Clone, Copy, Debug)]
 pub(crate) struct Around {
     pub inside: Stand,
@@ -48,7 +48,7 @@ impl Stand {
             && (is_plain_text(text.as_str()) && takes_text(self.place.text_kind(), text.as_str()))
     }
 
-    /// Where the next node stands behind a text, if that may stand here.
+    /// Where the next node stands after a text, if that may stand here.
     fn behind_text(self, text: TextRef<'_>) -> Option<Stand>
         ensures { IsBehindText self (characters text.entry) result }
     {
@@ -69,7 +69,7 @@ impl Stand {
         self.place.takes_comments() && is_plain_comment(text.as_str())
     }
 
-    /// Where the next node stands behind a comment, if that may stand here.
+    /// Where the next node stands after a comment, if that may stand here.
     fn behind_comment(self, text: TextRef<'_>) -> Option<Stand>
         ensures { IsBehindComment self (characters text.entry) result }
     {
@@ -91,7 +91,7 @@ impl Stand {
             && is_plain_doctype(name.as_str(), public_id.as_str(), system_id.as_str())
     }
 
-    /// Where the next node stands behind a doctype, if that may stand here.
+    /// Where the next node stands after a doctype, if that may stand here.
     fn behind_doctype(
         self,
         name: TextRef<'_>,
@@ -127,7 +127,7 @@ impl Stand {
         }
     }
 
-    /// Where nodes stand in and behind an element that is no template, if it may stand here.
+    /// Where nodes stand in and after an element that is no template, if it may stand here.
     fn around(
         self,
         alloc: Global,
@@ -149,7 +149,7 @@ impl Stand {
         }
     }
 
-    /// Where nodes stand in and behind an element that may stand here.
+    /// Where nodes stand in and after an element that may stand here.
     fn around_element(self, element: PlainElement) -> Around
         ensures { result ≡ around_of self element }
     {
@@ -172,7 +172,7 @@ pub(crate) struct Judge<'a> {
     pub stand: Stand,
     // The nodes that come next.
     pub rest: Children<'a>,
-    // Those that come behind them, the last first.
+    // Those that come after them, the last first.
     pub waiting: Vec<Level<'a>>,
 }
 
@@ -213,7 +213,7 @@ impl<'a> Judge<'a> {
         }
     }
 
-    /// Goes on behind a node that stands here, if it may.
+    /// Goes on after a node that stands here, if it may.
     fn go_on(&mut self, behind: Option<Stand>) -> bool
         ensures stand { GoesOn behind self.new.stand result }
         ensures rest { self.new.rest ≡ self.old.rest }

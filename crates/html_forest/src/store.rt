@@ -20,7 +20,7 @@ const FEW: usize = 16;
 // The most bytes of a text in the store, and the most names.
 const MOST: usize = 4294967295;
 
-/// What nodes are made of. What is in it stays, and more comes behind it.
+/// What nodes are made of. What is in it stays, and more comes after it.
 #[derive(Debug, Drop)]
 pub(crate) struct Store {
     // The names of elements, mostly each once.
@@ -96,7 +96,7 @@ impl Store {
         &self.names[place as usize]
     }
 
-    /// What a node is that has this entry, lent. The contents of a template are the node behind it.
+    /// What a node is that has this entry, lent. The contents of a template are the node after it.
     pub(crate) fn data<'a>(&'a self, entry: &'a Entry, id: NodeId) -> NodeData<'a>
         requires stored { IsStored self.now entry.now }
         requires number { id + 1 < 2 ^ 64 }
@@ -352,7 +352,7 @@ impl Store {
     }
 }
 
-// The node behind a template.
+// The node after a template.
 fn behind_if(template: bool, id: NodeId) -> Option<NodeId>
     requires { id + 1 < 2 ^ 64 }
     ensures { result ≡ cond template (Some (id + 1)) None }

@@ -21,7 +21,7 @@ pub struct ForestNode<'a> {
     pub id: NodeId,
 }
 
-/// Nodes next to one another that are still to be met, and the element that ends behind them.
+/// Nodes next to one another that are still to be met, and the element that ends after them.
 #[derive(Drop)]
 pub(crate) struct Frame<'a> {
     name: Option<&'a QualName>,

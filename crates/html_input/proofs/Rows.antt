@@ -89,7 +89,7 @@ small (suc (suc (suc (suc zero)))) value within below = omega arith
 small (suc (suc (suc (suc (suc zero))))) value within below = omega arith
 small (suc (suc (suc (suc (suc (suc i)))))) value within below = absurd (omega arith)
 
--- behind a byte that is no digit no value is read
+-- after a byte that is no digit no value is read
 pub value-none : (digits : List ℕ) (i value byte : ℕ) (of : Option ℕ) → i < length digits → byte ≡ get_or digits i 0 → (digit_value byte < 16 → ⊥) → of ≡ value_behind value (drop i digits) → None ≡ of
 value-none digits i value byte of within read no_digit so_far =
     sym (so_far ∙ rw (drop-cons digits i 0 within, ← read, le-ltb (digit_value byte) 16 (omega arith)) refl)
@@ -104,6 +104,6 @@ value-more digits i value byte digit of within read is so_far =
 pub small-more : (i value byte digit : ℕ) → value < 16 ^ i → (digit_value byte < 16) × (digit ≡ digit_value byte) → value * 16 + digit < 16 ^ (i + 1)
 small-more i value byte digit below is = rw add-one (omega (arith, is.0, is.1))
 
--- behind the last digit the value is whole
+-- after the last digit the value is whole
 pub value-whole : (digits : List ℕ) (i value : ℕ) (of : Option ℕ) → length digits ≤ i → of ≡ value_behind value (drop i digits) → Some value ≡ of
 value-whole digits i value of all so_far = sym (so_far ∙ ap (value_behind value) (drop_all i digits all))

@@ -13,15 +13,15 @@ use Rattle.std.specs.Io.KnownBytes.{IsAtEnd, prepend_known}
 use lib.Utf8.{scalar, scalars, scalar_cases}
 use Rattle.html_input.specs.Reading.{BeginsText, HasBegun, IsFront, IsSplit, ShowsNotUtf8, StaysAtFault}
 
--- bytes that end behind the first byte of a character
+-- bytes that end after the first byte of a character
 one_byte : (x : ℕ) → 194 ≤ x → x ≤ 244 → error_len_of_some (x ∷ []) ≡ None
 one_byte x low high = grind (arith, nat_tests)
 
--- bytes that end behind the second
+-- bytes that end after the second
 two_bytes : (x y : ℕ) → 194 ≤ x → x ≤ 244 → second_byte_min x ≤ y → y ≤ second_byte_max x → error_len_of_some (x ∷ y ∷ []) ≡ None
 two_bytes x y low high from to = grind (arith, nat_tests)
 
--- bytes that end behind the third
+-- bytes that end after the third
 three_bytes : (x y z : ℕ) → 194 ≤ x → x ≤ 244 → second_byte_min x ≤ y → y ≤ second_byte_max x → 128 ≤ z → z ≤ 191 → error_len_of_some (x ∷ y ∷ z ∷ []) ≡ None
 three_bytes x y z low high from to z_from z_to = grind (arith, nat_tests)
 
@@ -109,7 +109,7 @@ pub utf8_error_len-nil : utf8_error_len [] ≡ None
 unfolding utf8_error_len
 utf8_error_len-nil = refl
 
--- a text behind a front of it that is text
+-- a text after a front of it that is text
 text_behind : (bs : List ℕ) (n : ℕ) → IsUtf8 bs → IsUtf8 (take n bs) → n ≤ length bs → IsUtf8 (drop n bs)
 text_behind bs n text front within = IsUtf8-drop bs n text (IsCharBoundary-from_take bs n text within front)
 
@@ -128,7 +128,7 @@ first_of (c ∷ cs) bs valid e some = record { char = c; rest = encode_utf8_all 
 first_char : (bs : List ℕ) → IsUtf8 bs → 0 < length bs → BeginsWithChar bs
 first_char bs text some = first_of text.0 bs text.1.0 text.1.1 some
 
--- a front of bytes that is longer than n, behind n
+-- a front of bytes that is longer than n, after n
 drop-front : (bs more : List ℕ) (n j : ℕ) → n ≤ length bs → drop n (take (n + j) (bs ++ more)) ≡ take j (drop n bs ++ more)
 drop-front bs more n j within = drop-take n j (bs ++ more) ∙ ap (take j) (drop-append-le n bs more within)
 
@@ -177,7 +177,7 @@ still_short bs more v j k up_to fault longer text =
     subst IsUtf8 (sym (take-add v n bs ∙ ap (λ t. take v bs ++ t) own)) (IsUtf8-append (take v bs) (encode_utf8 first.char) up_to.front (IsUtf8-encode first.char first.valid)) in
     up_to.longest (v + n) (omega (arith, len_utf8_bounds first.char, length-encode first.char)) grown
 
--- what is at fault behind a front that is text stays so, whatever follows
+-- what is at fault after a front that is text stays so, whatever follows
 pub IsValidUpTo-more : (bs more : List ℕ) (v k : ℕ) → IsValidUpTo bs v → utf8_error_len (drop v bs) ≡ Some k → IsValidUpTo (bs ++ more) v
 IsValidUpTo-more bs more v k up_to fault =
     let short = up_to.short in
@@ -192,7 +192,7 @@ IsValidUpTo-more bs more v k up_to fault =
           still_short bs more v j k up_to fault (omega arith) text';
     }
 
--- the longest front that is text, behind one that is
+-- the longest front that is text, after one that is
 pub IsValidUpTo-behind : (bs : List ℕ) (n v : ℕ) → n ≤ length bs → IsUtf8 (take n bs) → IsValidUpTo (drop n bs) v → IsValidUpTo bs (n + v)
 IsValidUpTo-behind bs n v within front up_to =
     let short = up_to.short in
@@ -213,7 +213,7 @@ pub IsFront-nil : (bs : List ℕ) → bs ≡ [] → IsFront bs 0
 IsFront-nil bs none =
     subst (λ (xs : List ℕ). IsFront xs 0) (sym none) (record { within = omega arith; text = IsUtf8-nil; begins = utf8_error_len-nil; longest = inl refl })
 
--- text behind a front that is text
+-- text after a front that is text
 pub IsFront-whole : (bs rest : List ℕ) (n : ℕ) → rest ≡ drop n bs → IsUtf8 (take n bs) → IsUtf8 rest → IsFront bs (length bs)
 IsFront-whole bs rest n behind front text =
     let joined : take n bs ++ rest ≡ bs = ap (λ t. take n bs ++ t) behind ∙ take-append-drop n bs in
@@ -225,13 +225,13 @@ IsFront-whole bs rest n behind front text =
       longest = inl refl;
     }
 
--- what is known of the bytes behind a front that is text is known of all
+-- what is known of the bytes after a front that is text is known of all
 behind-front : (bs rest : List ℕ) (n v : ℕ) → rest ≡ drop n bs → n ≤ length bs → IsUtf8 (take n bs) → IsValidUpTo rest v
     → IsValidUpTo bs (n + v) × (drop (n + v) bs ≡ drop v rest)
 behind-front bs rest n v behind within front up_to =
     (IsValidUpTo-behind bs n v within front (subst (λ (xs : List ℕ). IsValidUpTo xs v) behind up_to), sym (ap (drop v) behind ∙ drop-drop v n bs))
 
--- bytes that end within a character, behind a front that is text
+-- bytes that end within a character, after a front that is text
 pub IsFront-cut : (bs rest : List ℕ) (n v : ℕ) → rest ≡ drop n bs → n ≤ length bs → IsUtf8 (take n bs) → IsValidUpTo rest v
     → utf8_error_len (drop v rest) ≡ None → IsFront bs (n + v)
 IsFront-cut bs rest n v behind within front up_to cut =
@@ -239,7 +239,7 @@ IsFront-cut bs rest n v behind within front up_to cut =
     let short = all.0.short in
     record { within = omega arith; text = all.0.front; begins = ap utf8_error_len all.1 ∙ cut; longest = inr all.0 }
 
--- bytes at fault behind a front that is text stay so, whatever follows
+-- bytes at fault after a front that is text stay so, whatever follows
 pub at_fault-behind : (bs rest : List ℕ) (n v k : ℕ) → rest ≡ drop n bs → n ≤ length bs → IsUtf8 (take n bs) → IsValidUpTo rest v
     → utf8_error_len (drop v rest) ≡ Some k → (more : List ℕ) → IsValidUpTo (bs ++ more) (n + v)
 at_fault-behind bs rest n v k behind within front up_to fault more =
@@ -301,7 +301,7 @@ pub begun-shown : (old mid new : Option (List ℕ)) (bytes : List ℕ) → old �
 begun-shown old mid new bytes moved same soon whole left whole_is left_is =
     record { read = bytes; moved = known_split old mid bytes whole left moved whole_is (sym same ∙ left_is); text = soon }
 
--- bytes behind a text: so many more of them are text
+-- bytes after a text: so many more of them are text
 pub front-behind : (done bs : List ℕ) (n : ℕ) → IsUtf8 done → IsFront bs n → IsFront (done ++ bs) (length done + n)
 front-behind done bs n text front =
     let all : bs ≡ drop (length done) (done ++ bs) = sym (drop-append_seam done bs) in
@@ -311,7 +311,7 @@ front-behind done bs n text front =
     (λ whole. subst (IsFront (done ++ bs)) (len ∙ ap (λ i. length done + i) (sym whole)) (IsFront-whole (done ++ bs) bs (length done) all own (subst IsUtf8 (ap (λ i. take i bs) whole ∙ take_all (length bs) bs (omega arith)) front.text)))
     (λ up_to. IsFront-cut (done ++ bs) bs (length done) n all (omega arith) own up_to front.begins) front.longest
 
--- bytes at fault stay so behind a text
+-- bytes at fault stay so after a text
 pub fault-behind : (done bs : List ℕ) (at : ℕ) → IsUtf8 done → StaysAtFault bs at → StaysAtFault (done ++ bs) (length done + at)
 fault-behind done bs at text fault more =
     let whole = done ++ (bs ++ more) in
@@ -333,7 +333,7 @@ front-kept earlier last grown all n front more same =
 pub front-all : (bytes : List ℕ) (n len known : ℕ) → IsFront bytes n → len ≡ known → length bytes ≡ known → len ≤ n → IsUtf8 bytes
 front-all bytes n len known front told same all = subst IsUtf8 (take_all n bytes (omega arith)) front.text
 
--- bytes that are split behind their longest front
+-- bytes that are split after their longest front
 pub split-front : (bytes lent front text cut : List ℕ) (n : ℕ) → lent ≡ bytes → IsFront lent n → front ≡ take n bytes → text ≡ front → cut ≡ drop n bytes → IsSplit bytes text cut
 split-front bytes lent front text cut n same longest kept as_text behind =
     let all : IsFront bytes n = subst (λ (bs : List ℕ). IsFront bs n) same longest in

@@ -5,7 +5,7 @@ use Rattle.std.specs.Str.Lossy.{utf8_error_len, utf8_valid_len}
 use Rattle.html_input.specs.declared.fault.TextFault.{TextFault}
 use Rattle.html_input.specs.declared.fault.TextFault.TheVariants.{NotUtf8, Read, Memory}
 
--- Bytes begin a UTF-8 text: behind their longest front that is UTF-8 nothing stands, or bytes that end within a character.
+-- Bytes begin a UTF-8 text: after their longest front that is UTF-8 nothing stands, or bytes that end within a character.
 abbrev pub BeginsText : List ℕ → Type 0
 BeginsText bytes = utf8_error_len (drop (utf8_valid_len bytes) bytes) ≡ None
 
@@ -35,18 +35,18 @@ pub record IsFront (bytes : List ℕ) (n : ℕ) : Type 0 where
 abbrev pub StaysAtFault : List ℕ → ℕ → Type 0
 StaysAtFault bytes at = (more : List ℕ) → IsValidUpTo (bytes ++ more) at
 
--- Bytes that begin a text are a text, and behind it those of a character that they cut, if they do.
+-- Bytes that begin a text are a text, and after it those of a character that they cut, if they do.
 pub record IsSplit (bytes text cut : List ℕ) : Type 0 where
   pub parts : bytes ≡ text ++ cut
   pub front : IsFront bytes (length text)
 
--- Bytes that begin no text, behind a text of so many bytes.
+-- Bytes that begin no text, after a text of so many bytes.
 abbrev pub IsFaultBehind : ℕ → List ℕ → TextFault → Type 0
 IsFaultBehind before bytes (NotUtf8 at) = (front : List ℕ) → IsUtf8 front → length front ≡ before → StaysAtFault (front ++ bytes) at
 IsFaultBehind before bytes Read = ⊥
 IsFaultBehind before bytes Memory = Unit {0}
 
--- What a fault says of the bytes that were left before and are left behind a reading.
+-- What a fault says of the bytes that were left before and are left after a reading.
 abbrev pub IsReadFault : (old new : Option (List ℕ)) → TextFault → Type 0
 IsReadFault old new (NotUtf8 at) = (whole left : List ℕ) → old ≡ Some whole → new ≡ Some left → ShowsNotUtf8 whole left at
 IsReadFault old new Read = (whole left : List ℕ) → old ≡ Some whole → new ≡ Some left → HasBegun whole left

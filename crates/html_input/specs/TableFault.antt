@@ -30,7 +30,7 @@ pub record HasBadRow (whole : List ℕ) (fault : TableFault) : Type 0 where
   pub lines : rows_of whole ≡ Ok rows
   pub first : IsFirstFault rows fault
 
--- What a fault says of the bytes of a file that were left before and are left behind its reading.
+-- What a fault says of the bytes of a file that were left before and are left after its reading.
 abbrev pub IsTableFault : (old new : Option (List ℕ)) → TableFileFault → Type 0
 IsTableFault old new (NotUtf8 at) = (whole left : List ℕ) → old ≡ Some whole → new ≡ Some left → ShowsNotUtf8 whole left at
 IsTableFault old new Read = (whole left : List ℕ) → old ≡ Some whole → new ≡ Some left → HasBegun whole left

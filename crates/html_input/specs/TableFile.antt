@@ -9,11 +9,11 @@ use Rattle.html_tokens.specs.declared.table.ReferenceRow.{ReferenceRow}
 abbrev pub space : ℕ
 space = 0x20
 
--- what stands before the first such byte, and what stands behind it; nothing where there is none
+-- what stands before the first such byte, and what stands after it; nothing where there is none
 abbrev pub cut_at : ℕ → List ℕ → Option (List ℕ × List ℕ)
 cut_at mark bytes = if nat_lt (position_or_len (λ b. b == mark) bytes) (length bytes) then Some (before_first (λ b. b == mark) bytes, after_first (λ b. b == mark) bytes) else None
 
--- the number that hexadecimal digits stand for behind those of a value
+-- the number that hexadecimal digits stand for after those of a value
 abbrev pub value_behind : ℕ → List ℕ → Option ℕ
 value_behind value [] = Some value
 value_behind value (b ∷ bs) = if nat_lt (digit_value b) 16 then value_behind (value * 16 + digit_value b) bs else None
@@ -43,7 +43,7 @@ row_in (Some parts) = if length parts.0 == 0 then None else option_map (λ value
 abbrev pub row_of : List ℕ → Option ReferenceRow
 row_of line = row_in (cut_at space line)
 
--- a row before those behind it, or else the number of the first line that is none
+-- a row before those after it, or else the number of the first line that is none
 abbrev pub with_row : ℕ → Option ReferenceRow → Result (List ReferenceRow) ℕ → Result (List ReferenceRow) ℕ
 with_row number None rows = Err number
 with_row number (Some row) (Ok rows) = Ok (row ∷ rows)
@@ -55,6 +55,6 @@ rows_from number [] = Ok []
 rows_from number (line ∷ lines) = with_row number (row_of line) (rows_from (number + 1) lines)
 
 -- the rows of a file, or the number of its first line that is none, counted from 1. A line feed ends a line, and a carriage return
--- before it is dropped; what stands behind the last line feed is a line if it is not empty.
+-- before it is dropped; what stands after the last line feed is a line if it is not empty.
 abbrev pub rows_of : List ℕ → Result (List ReferenceRow) ℕ
 rows_of bytes = rows_from 1 (lines bytes)

@@ -10,7 +10,7 @@ use std::alloc::{AllocError, Global};
 /// How many digits a value has at most.
 const DIGITS: usize = 6;
 
-/// What stands before the first such character of ASCII, and what stands behind it; nothing where there is none.
+/// What stands before the first such character of ASCII, and what stands after it; nothing where there is none.
 fn cut_at(text: &str, mark: char) -> Option<(&str, &str)>
     requires { mark < 128 }
     ensures { option_map (λ parts. (parts.0.now, parts.1.now)) result ≡ cut_at mark text.now }

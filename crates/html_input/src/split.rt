@@ -6,7 +6,7 @@ ghost use Rattle.html_input.specs.Reading.{IsFaultBehind, IsSplit};
 use crate::fault::TextFault;
 use crate::read::valid_front;
 
-/// The text of bytes, and behind it those of a character that they cut. In a fault, places count the bytes that stand before.
+/// The text of bytes, and after it those of a character that they cut. In a fault, places count the bytes that stand before.
 pub fn split_text(bytes: Vec<u8>, before: u64) -> Result<(String, Vec<u8>), TextFault>
     requires { before + length bytes.items < 2 ^ 64 }
     ensures ok { IfOk result (λ parts. IsSplit bytes.items (string_bytes parts.0) parts.1.items) }

@@ -161,7 +161,7 @@ row_of r = record { on = class_of r.on; when = condition_of r.when; does = actio
 abbrev pub rows_of : List Row → List rules.Row
 rows_of rows = map row_of rows
 
--- the rows of the parts of a table, and those behind them
+-- the rows of the parts of a table, and those after them
 abbrev pub all_rows : Rows → List rules.Row
 all_rows rows = rows_of rows.first.rows.now ++ (rows_of rows.second.rows.now ++ (rows_of rows.third.rows.now ++ (rows_of rows.fourth.rows.now ++ rows_of rows.last.now)))
 

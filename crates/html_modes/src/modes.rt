@@ -31,7 +31,7 @@ ghost use Rattle.html_modes.specs.Tables.{all_rows, are_covered, rows_of};
 use crate::table::{Part, Row};
 use html_rules::InsertionMode;
 
-/// Rows that stand one after the other: those of the parts of a table, and those behind the parts.
+/// Rows that stand one after the other: those of the parts of a table, and those after the parts.
 #[derive(Clone, Copy)]
 pub struct Rows {
     /// The first part.
@@ -42,7 +42,7 @@ pub struct Rows {
     pub third: Part,
     /// The fourth part.
     pub fourth: Part,
-    /// The rows behind the parts.
+    /// The rows after the parts.
     pub last: &'static [Row],
 }
 

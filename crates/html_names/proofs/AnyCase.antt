@@ -124,7 +124,7 @@ begins-nil [] i l = absurd (omega arith)
 begins-nil (x ∷ w) zero l = refl
 begins-nil (x ∷ w) (suc i) l = begins-nil w i (omega arith)
 
--- a word that goes on behind the end of a text does not begin it
+-- a word that goes on after the end of a text does not begin it
 pub begins-short : (w bs : List ℕ) (i : ℕ) → i < length w → length bs ≤ i → begins_any_case (drop i w) (drop i bs) ≡ false
 begins-short [] bs i l h = absurd (omega arith)
 begins-short (x ∷ w) [] zero l h = refl

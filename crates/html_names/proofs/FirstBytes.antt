@@ -67,7 +67,7 @@ begins-other bs u l w small h = by (chars bs) refl where
     other = other-eq c w (λ is. let low : c < 128 = omega arith in h (byte_from_char bs (encode_utf8_all cs) c (sym (encodes-chars bs u) ∙ ap encode_utf8_all e) low ∙ is));
   }
 
--- what stands behind a character, by the first byte
+-- what stands after a character, by the first byte
 pub behind-none : (w : ℕ) (bs : List ℕ) → length bs ≡ 0 → behind_character w (chars bs) ≡ None
 behind-none w bs h = rw (no-text bs h) refl
 
@@ -103,7 +103,7 @@ value-some bs u l = by (chars bs) refl where
   by [] e = absurd (omega (arith, ap length (sym (encodes-chars bs u) ∙ ap encode_utf8_all e)))
   by (c ∷ cs) e = refl
 
--- a text that begins with an ASCII word may be cut behind it, and its characters go on there
+-- a text that begins with an ASCII word may be cut after it, and its characters go on there
 pub record BeginsWord (bs : List ℕ) (w : List ℕ) : Type 0 where
   pub cut : IsCharBoundary bs (length w)
   pub rest : chars (drop (length w) bs) ≡ drop (length w) (chars bs)
@@ -127,7 +127,7 @@ BeginsWord-begins w bs u h b =
     let cut = cut-at (length w) (length w) bs u (sym (begins-word w (chars bs) h b)) in
     record { cut = cut.1; rest = cut.3 }
 
--- the first character of a text, and what stands behind it
+-- the first character of a text, and what stands after it
 pub charset-begins : (t : List ℕ) → begins_any_case (codes "charset") t ≡ true → behind_charset t ≡ behind_equals (behind_space (drop 7 t))
 charset-begins t h = rw h refl
 
@@ -143,7 +143,7 @@ pub encoding-end : encoding_of [] ≡ None
 unfolding encoding_of
 encoding-end = refl
 
--- a text behind its first character
+-- a text after its first character
 pub past-first : (bs rest : List ℕ) (c n : ℕ) → IsUtf8 bs → bs ≡ encode_utf8 c ++ rest → n ≡ len_utf8 c → IsCharBoundary bs n × (drop n bs ≡ rest) × IsRest bs rest
 past-first bs rest c n u e m =
     let size : n ≡ length (encode_utf8 c) = m ∙ sym (length-encode c) in

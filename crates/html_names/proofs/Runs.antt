@@ -67,7 +67,7 @@ scalars-drop zero cs h = h
 scalars-drop (suc k) [] h = refl
 scalars-drop (suc k) (c ∷ cs) h = scalars-drop k cs (and_parts _ _ h).1
 
--- what is cut behind so many characters
+-- what is cut after so many characters
 pub cut-at : (k n : ℕ) (bs : List ℕ) → IsUtf8 bs → n ≡ length (encode_utf8_all (take k (chars bs))) → (n ≤ length bs) × IsCharBoundary bs n × (chars (take n bs) ≡ take k (chars bs)) × (chars (drop n bs) ≡ drop k (chars bs))
 cut-at k n bs u e =
     let cs : List ℕ = chars bs in
@@ -98,7 +98,7 @@ no-characters bs u h = sym (ap length (encodes-chars bs u)) ∙ none (chars bs) 
   none [] h = refl
   none (c ∷ cs) h = absurd (omega arith)
 
--- characters are left behind the run of bytes where some are behind that of characters
+-- characters are left after the run of bytes where some are after that of characters
 inside : (n : ℕ) (bs : List ℕ) (k : ℕ) → IsUtf8 bs → IsCharBoundary bs n → chars (drop n bs) ≡ drop k (chars bs) → nat_lt n (length bs) ≡ nat_lt k (length (chars bs))
 inside n bs k u cut e =
     let left : length (chars (drop n bs)) ≡ length (chars bs) - k = ap length e ∙ length-drop k (chars bs) in

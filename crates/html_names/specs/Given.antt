@@ -8,7 +8,7 @@ abbrev pub Gives : Option (List ℕ) → Option (Bor (List ℕ)) → Type 0
 Gives part None = part ≡ None
 Gives part (Some lent) = part ≡ Some (chars lent.now)
 
--- a text is another behind its first character
+-- a text is another after its first character
 pub record IsRest (whole rest : List ℕ) : Type 0 where
   pub first : ℕ
   pub characters : chars whole ≡ first ∷ chars rest

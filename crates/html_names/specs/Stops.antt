@@ -18,7 +18,7 @@ up_to p t =
     let n = run p t in
     choose (nat_lt n (length t)) (λ _. Some (take n t)) (λ _. None)
 
--- what stands behind a character, if a text begins with it
+-- what stands after a character, if a text begins with it
 abbrev pub behind_character : ℕ → List ℕ → Option (List ℕ)
 behind_character w [] = None
 behind_character w (c ∷ t) = choose (nat_eq c w) (λ _. Some t) (λ _. None)

@@ -65,7 +65,7 @@ fn run(text: &str, stop: Stop) -> usize
     bytes_before(text.as_bytes(), stop)
 }
 
-/// A text behind the white space at its front.
+/// A text after the white space at its front.
 fn behind_space(text: &str) -> &str
     ensures { chars result.now ≡ behind_space (chars text.now) }
 {
@@ -91,7 +91,7 @@ fn up_to_value_end(text: &str) -> &str
     &text[..run(text, Stop::ValueEnd)]
 }
 
-/// What stands behind a character, if a text begins with it. It is of ASCII.
+/// What stands after a character, if a text begins with it. It is of ASCII.
 fn behind(text: &str, character: u8) -> Option<&str>
     requires { character < 128 }
     ensures { Gives (behind_character character (chars text.now)) result }
@@ -117,7 +117,7 @@ fn unquoted_value(text: &str) -> Option<&str>
     }
 }
 
-/// The encoding behind "=" and white space: a value in quotes, or up to white space or ";".
+/// The encoding after "=" and white space: a value in quotes, or up to white space or ";".
 fn encoding_at(text: &str) -> Option<&str>
     ensures { Gives (encoding_at (chars text.now)) result }
 {
@@ -130,7 +130,7 @@ fn encoding_at(text: &str) -> Option<&str>
     unquoted_value(text)
 }
 
-/// What stands behind "=" and white space, if "=" is next.
+/// What stands after "=" and white space, if "=" is next.
 fn behind_equals(text: &str) -> Option<&str>
     ensures { Gives (behind_equals (chars text.now)) result }
 {
@@ -138,7 +138,7 @@ fn behind_equals(text: &str) -> Option<&str>
     Some(behind_space(rest))
 }
 
-/// What stands behind "charset" and "=", if a text begins so.
+/// What stands after "charset" and "=", if a text begins so.
 fn behind_charset(text: &str) -> Option<&str>
     ensures { Gives (behind_charset (chars text.now)) result }
 {
@@ -148,7 +148,7 @@ fn behind_charset(text: &str) -> Option<&str>
     behind_equals(behind_space(&text[7..]))
 }
 
-/// What stands behind the first character, if there is one.
+/// What stands after the first character, if there is one.
 fn without_first(text: &str) -> Option<&str>
     ensures { MatchOption result (chars text.now ≡ []) (λ rest. IsRest text.now rest.now) }
 {
@@ -156,7 +156,7 @@ fn without_first(text: &str) -> Option<&str>
     Some(&text[first.len_utf8()..])
 }
 
-/// The encoding that the content of a `meta` element names: behind the first `charset` in any case that `=` follows, the value in quotes,
+/// The encoding that the content of a `meta` element names: after the first `charset` in any case that `=` follows, the value in quotes,
 /// or up to white space or `;`. Nothing where there is none, or the quote is not closed. It takes no memory.
 pub fn extract_a_character_encoding_from_a_meta_element(content: &str) -> Option<&str>
     ensures { Gives (encoding_of (chars content.now)) result }

@@ -171,13 +171,13 @@ stands-under f is top n whole (under p _ before after rest e b) other =
       is = refl;
     }
 
--- its next sibling is what comes behind it
+-- its next sibling is what comes after it
 pub next-is : (f : Forest) → IsForest f → (top n : ℕ) (whole : List ℕ) → Behind f top n whole → n ≢ top → (s : ℕ) → next_under f n (parent_of f n) ≡ Some s → Some s ≡ first_of whole
 next-is f is top n whole b other s h =
     let up = stands-under f is top n whole b other in
     sym (ap first_of up.is ∙ first-each (below f) up.after up.rest s (sym up.next ∙ h))
 
--- or else what comes behind its parent
+-- or else what comes after its parent
 pub parent-is : (f : Forest) → IsForest f → (top n : ℕ) (whole : List ℕ) → Behind f top n whole → n ≢ top → next_under f n (parent_of f n) ≡ None → (p : ℕ) → parent_of f n ≡ Some p → Behind f top p whole
 parent-is f is top n whole b other h p e =
     let up = stands-under f is top n whole b other in
@@ -204,7 +204,7 @@ behind-none f is top whole b =
     none-of [] h = refl
     none-of (n ∷ ns) h = absurd (omega (arith, h))
 
--- behind the top comes nothing
+-- after the top comes nothing
 pub top-is : (f : Forest) → IsForest f → (top n : ℕ) (whole : List ℕ) → Behind f top n whole → n ≡ top → None ≡ first_of whole
 top-is f is top n whole b same = sym (behind-none f is top whole (rw same at b))
 
@@ -228,7 +228,7 @@ behind-among f is top n rest b = cut-among (top ∷ below f top) n (below f n ++
 
 -- A TURN OF THE WALK
 
--- what comes behind a node of a distinct list is the list from its first number on
+-- what comes after a node of a distinct list is the list from its first number on
 pub turn : (whole : List ℕ) → IsDistinct whole → (n : ℕ) (tail : List ℕ) → IsCut whole n tail → (o : Option ℕ) → o ≡ first_of tail
     → (is_on o whole ≡ true) × (from_on (Some n) whole ≡ n ∷ from_on o whole)
 turn whole d n [] cut o is =
@@ -240,7 +240,7 @@ turn whole d n (m ∷ ms) cut o is =
     let there : from_on (Some m) whole ≡ m ∷ ms = rw later (from-cut (cut.before ++ n ∷ []) m ms (subst (λ (l : List ℕ). IsDistinct l) later d)) in
     rw is (cut-among whole m ms (record { before = cut.before ++ n ∷ []; is = later }), here ∙ ap (λ (l : List ℕ). n ∷ l) (sym there))
 
--- the first child of a node that has one comes behind it
+-- the first child of a node that has one comes after it
 pub child-is : (f : Forest) → IsForest f → (n k : ℕ) (rest : List ℕ) → first_of (children_of f n) ≡ Some k → Some k ≡ first_of (below f n ++ rest)
 child-is f is n k rest h = sym (ap (λ (l : List ℕ). first_of (l ++ rest)) (below-children f is n) ∙ first-each (below f) (children_of f n) rest k h)
 

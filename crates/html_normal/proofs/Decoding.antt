@@ -25,7 +25,7 @@ use Rattle.html_normal.specs.Parsing.{HasReadAll, MayRefuse}
 
 -- BYTES
 
--- what was read so far: a text of so many bytes, and behind it bytes that are held
+-- what was read so far: a text of so many bytes, and after it bytes that are held
 pub record IsDecoded (old now : Option (List ℕ)) (decoded held : List ℕ) (taken : ℕ) : Type 0 where
   pub moved : old ≡ prepend_known (decoded ++ held) now
   pub text : IsUtf8 decoded
@@ -62,7 +62,7 @@ module _ (old mid new : Option (List ℕ)) (decoded held piece : List ℕ) (take
   fault-shown refused text.Read bytes is short shown = absurd shown
   fault-shown refused text.Memory bytes is short shown = tt
 
-  -- a piece was read behind which no place can be counted
+  -- a piece was read after which no place can be counted
   pub too-long : (bytes : List ℕ) → bytes ≡ held ++ piece → 2 ^ 64 ≤ taken + length bytes → (whole left : List ℕ) → old ≡ Some whole → new ≡ Some left → IsTooLong whole left
   too-long bytes is long whole left told rest = record {
     read = (decoded ++ held) ++ piece;
@@ -114,7 +114,7 @@ module _ {K H O : Type 0} (Sink : TreeGhosts K H O) where
   pub ReadsOn-alone : (mid k' : Tokenizer (TreeBuilder K H O)) (waits more : List ℕ) → waits ≡ [] → ReadsOn (builder Sink) mid k' (waits ++ more) → ReadsOn (builder Sink) mid k' more
   ReadsOn-alone mid k' waits more none reads = subst (λ (cs : List ℕ). ReadsOn (builder Sink) mid k' cs) (ap (λ cs. cs ++ more) none) reads
 
-  -- what is refused behind more is refused behind less
+  -- what is refused after more is refused after less
   pub refused-before : (k k' : Tokenizer (TreeBuilder K H O)) (more : List ℕ) → ReadsOn (builder Sink) k k' more → MayRefuse Sink k' → MayRefuse Sink k
   refused-before k k' more reads refuses begin before read =
       let there = refuses begin (before ++ more) (reads.reads begin before read) in

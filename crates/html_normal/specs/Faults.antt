@@ -8,7 +8,7 @@ use Rattle.html_input.specs.declared.fault.TextFault.TheVariants as text
 use Rattle.html_normal.specs.declared.fault.NormalFault.{NormalFault}
 use Rattle.html_normal.specs.declared.fault.NormalFault.TheVariants.{NotUtf8, Read, Write, Memory, Refused}
 
--- of a parser: it fails only behind want of memory, and what else it tells is a refused token
+-- of a parser: it fails only after want of memory, and what else it tells is a refused token
 abbrev pub fault_of : ParseFault → NormalFault
 fault_of parse.Memory = Memory
 fault_of parse.Failed = Memory

@@ -13,7 +13,7 @@ use Rattle.html_normal.specs.Document.{document_bytes, document_trees, is_free_o
 use Rattle.html_normal.specs.Normal.{IsNormalised}
 use Rattle.html_normal.specs.declared.report.Report.{Report}
 
--- a report of a plain document that is not in quirks mode, which was written as these bytes behind what was written before; no error was
+-- a report of a plain document that is not in quirks mode, which was written as these bytes after what was written before; no error was
 -- counted, unless they have control characters or noncharacters and these are told
 pub record IsWritten (exact : Bool) (bytes : List ℕ) (old new : Option (List ℕ)) (report : Report) : Type 0 where
   pub plain : report.plain ≡ true

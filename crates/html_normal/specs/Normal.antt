@@ -20,7 +20,7 @@ pub record IsRead (table : List Row) (exact : Bool) (whole : List ℕ) (left : O
   pub taken : left ≡ Some []
   pub counts : CountsErrors table exact (chars whole) errors
 
--- All of the input was read, its document was written behind what was written before, and the report is of that document, and of the
+-- All of the input was read, its document was written after what was written before, and the report is of that document, and of the
 -- errors that were counted. `exact` is whether the tokenizer tells characters.
 pub record IsNormalised (table : List Row) (exact : Bool) (whole : List ℕ) (left old new : Option (List ℕ)) (report : Report) : Type 0 where
   pub document : Forest

@@ -53,7 +53,7 @@ impl From<TextFault> for NormalFault {
     }
 }
 
-/// What fails behind want of memory fails for want of memory.
+/// What fails after want of memory fails for want of memory.
 impl From<ParseFault> for NormalFault {
     ghost from_gives = { λ fault made. made ≡ fault_of fault };
 

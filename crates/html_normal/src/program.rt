@@ -11,7 +11,7 @@ use std::fmt;
 /// Why the program did not normalise its input.
 #[derive(Clone, Copy, Debug, PartialEq, Eq)]
 pub enum ProgramFault {
-    /// More than one word stands behind the program's name.
+    /// More than one word stands after the program's name.
     Usage,
     /// The file with the table of references has none.
     Table(TableFileFault),

@@ -13,7 +13,7 @@ use std::fs::File;
 use std::io::{self, BufWriter, ErrorKind};
 use std::process::ExitCode;
 
-// Why the words behind the program's name were not read: for want of memory, or since one of them is no text.
+// Why the words after the program's name were not read: for want of memory, or since one of them is no text.
 fn words_fault(error: &io::Error) -> ProgramFault {
     match error.kind() {
         ErrorKind::OutOfMemory => ProgramFault::Normal(NormalFault::Memory),
@@ -21,7 +21,7 @@ fn words_fault(error: &io::Error) -> ProgramFault {
     }
 }
 
-// The words behind the program's name.
+// The words after the program's name.
 fn words(rt: &HostRuntime) -> Result<Vec<String>, ProgramFault> {
     let arguments = match env::args(rt) {
         Ok(arguments) => arguments,

@@ -2,7 +2,7 @@
 
 use crate::tests::{BAD, GOOD, PLAIN_NOT, Told, is_body, is_row};
 
-// Behind the doctype, what is written in the body, and what is told.
+// After the doctype, what is written in the body, and what is told.
 const BODIES: &[(&str, &str, Told)] = &[
     ("<p>a</p><!--c-->", "<p>a</p><!--c-->", GOOD),
     ("<div>a<!---->b</div>", "<div>a<!---->b</div>", GOOD),

@@ -63,7 +63,7 @@ fn each_read_fails_once(rt: HostRuntime) {
     }
 }
 
-/// Whether the write behind so many bytes fails, and just these are written, where there is such a write.
+/// Whether the write after so many bytes fails, and just these are written, where there is such a write.
 fn is_written_up_to(alloc: Global, count: usize, zero: bool) -> Result<bool, AllocError> {
     let on = Devices {
         write_fails: Some((count as u64).saturating_add(1)),
@@ -87,7 +87,7 @@ fn each_write_fails_once(rt: HostRuntime) {
     }
 }
 
-/// Whether a short page fails to be written, behind these bytes.
+/// Whether a short page fails to be written, after these bytes.
 fn is_stopped(alloc: Global, on: &Devices, written: &[u8]) -> Result<bool, AllocError> {
     is_normal(
         alloc,
@@ -168,7 +168,7 @@ fn each_read_of_a_table_fails_once(rt: HostRuntime) {
     }
 }
 
-/// What is repeated, how often, what stands behind it, what is written of that in the body, and what is told.
+/// What is repeated, how often, what stands after it, what is written of that in the body, and what is told.
 type Odd = (&'static str, usize, &'static str, &'static str, Told);
 
 const ODD: &[Odd] = &[

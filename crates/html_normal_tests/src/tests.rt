@@ -249,7 +249,7 @@ fn documents(rt: HostRuntime) {
     }
 }
 
-/// The same behind the doctype, and in the body.
+/// The same after the doctype, and in the body.
 pub(crate) fn is_body(
     alloc: Global,
     text: &str,
@@ -263,7 +263,7 @@ pub(crate) fn is_body(
 
 #[test]
 fn bodies(rt: HostRuntime) {
-    // behind the doctype, what is written in the body, and what is told
+    // after the doctype, what is written in the body, and what is told
     let rows: &[(&str, &str, Told)] = &[
         ("<p>a<br>b", "<p>a<br>b</p>", GOOD),
         ("<p>a<br>b</p></body></html>", "<p>a<br>b</p>", GOOD),
@@ -315,7 +315,7 @@ pub(crate) fn plain(errors: u64) -> Result<Report, NormalFault> {
     })
 }
 
-// Bytes behind `<!DOCTYPE html><p>`, and how many bytes are text.
+// Bytes after `<!DOCTYPE html><p>`, and how many bytes are text.
 const NO_TEXT: &[(&[u8], u64)] = &[
     (b"\xff", 18),
     (b"\xc3\xff", 18),
@@ -664,7 +664,7 @@ fn is_body_by_file(
 
 #[test]
 fn tables_of_files(rt: HostRuntime) {
-    // a file, what stands behind the doctype, and what is written in the body
+    // a file, what stands after the doctype, and what is written in the body
     let rows: &[(&[u8], &str, &str)] = &[
         (b"x 41 42", "&xy", "ABy"),
         (b"x 41 42\n", "&xy", "ABy"),

@@ -1,4 +1,4 @@
--- What calls of a tokenizer read, one behind the other.
+-- What calls of a tokenizer read, one after the other.
 use Rattle.std.proofs.Common.{◌≡◌, ◌∙◌, ℕ, ◌<◌, true, false, List, [], ◌∷◌, ◌++◌, length, Option, Some, None, Result, Ok, Err, append_assoc, append-nil, length-append, arith, refl, sym, ap, subst}
 use Rattle.std.specs.Prelude.{IsErr, OnOk, is_err}
 use Rattle.markup.specs.declared.fault.ParseFault.{ParseFault}
@@ -122,7 +122,7 @@ module _ {K H : Type 0} (Sink : Ghosts K H) where
     failed = λ e. had-failed _ old.sink new.sink _ fault (failed.fails no_notes) e;
   }
 
-  -- what is refused behind a text that was read is refused behind what was read before it
+  -- what is refused after a text that was read is refused after what was read before it
   pub behind-both : (begin : Beginning Sink.State) (before text : List ℕ) → IsRefusedBehind Sink begin (before ++ text) → IsRefusedBehind Sink begin before
   behind-both begin before text r = record {
     behind = text ++ r.behind;

@@ -71,7 +71,7 @@ module _ {K H O : Type 0} (Sink : TreeGhosts K H O) where
 pub new-context : (f : Forest) (name : QualName) (attributes : List Attribute) (flags : ElementFlags) → IsForest f → element_name (data_of (create_element f name attributes flags) (node_count f)) ≡ Some name
 new-context f name attributes flags is = ap element_name (IsMade-create_element f name attributes flags is).made
 
--- nothing stands above the document behind it
+-- nothing stands above the document after it
 pub new-top : (f : Forest) (name : QualName) (attributes : List Attribute) (flags : ElementFlags) → IsForest f → above_of f 0 ≡ None → above_of (create_element f name attributes flags) 0 ≡ None
 new-top f name attributes flags is top = (IsMade-create_element f name attributes flags is).grown.olds 0 is.document ∙ top
 

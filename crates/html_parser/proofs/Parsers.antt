@@ -31,7 +31,7 @@ module _ {K H O : Type 0} (Sink : TreeGhosts K H O) where
   unfinished None k text fault ends = ends
   unfinished (Some other) k text fault ends = ap (λ f. Err f) (ap (fault_of other) ends)
 
-  -- where nothing waits, what ends a text behind what was read ends all of it
+  -- where nothing waits, what ends a text after what was read ends all of it
   ends-both : (old new : Tokenizer (TreeBuilder K H O)) (text : List ℕ) (result : Result O ParseFault) → ReadsOn (builder Sink) old new text → Finishes Sink None new [] result → Finishes Sink None old text result
   ends-both old new text (Ok out) reads ends = λ begin before read. subst (λ whole. IsBuilt Sink begin whole out) (append-nil (before ++ text)) (ends begin (before ++ text) (reads.reads begin before read))
   ends-both old new text (Err fault) reads ends = fails-on (builder Sink) old new text fault reads ends

@@ -29,7 +29,7 @@ by-number errors a b r = record { enough = r.enough; stays = r.stays }
 pub rises-new : (exact : Bool) (m n : ℕ) → n ≡ m → RisesTo (together (owed_in no_notes) (owed_for_text exact [])) m n
 rises-new exact m n e = rises-less (λ (errors : ℕ). errors) m n (none-no-more exact) (rises-same (λ (errors : ℕ). errors) m n e)
 
--- what is owed behind what was noted is noted with it
+-- what is owed after what was noted is noted with it
 owed-more : (owed : Owed) (notes : Notes ℕ) (pauses : List Reply) → owed_in (record (more owed notes) { pauses = pauses }) ≡ together owed (owed_in notes)
 owed-more owed notes pauses = ap (λ n. record { faults = n; is_quiet = owed.is_quiet && notes.is_quiet }) (more-sum owed.faults notes.errors)
 
@@ -56,6 +56,6 @@ rises-ended {S} exact owed notes whole s text came l m n is text_is h k =
 one-more : (l m n : ℕ) → min (l + n) 0xffff_ffff_ffff_ffff ≤ m → min (one_more l + n) 0xffff_ffff_ffff_ffff ≤ one_more m
 one-more l m n h = grind (arith, nat_tests)
 
--- behind one error more
+-- after one error more
 pub rises-behind : {owed : Owed} (l m n : ℕ) → n ≡ one_more m → RisesTo owed l m → RisesTo owed (one_more l) n
 rises-behind {owed} l m n e r = subst (λ k. RisesTo owed (one_more l) k) (sym e) (record { enough = one-more l m owed.faults r.enough; stays = λ quiet. ap one_more (r.stays quiet) })

@@ -11,7 +11,7 @@ joined [] = []
 joined (piece ∷ pieces) = piece ++ joined pieces
 
 module _ {K H : Type 0} (Sink : Ghosts K H) where
-  -- the pieces were taken, one behind the other
+  -- the pieces were taken, one after the other
   abbrev pub AreTaken : List (List ℕ) → Tokenizer K → Queue → Tokenizer K → Queue → Type 0
   AreTaken [] old from new to = (old ≡ new) × (from ≡ to)
   AreTaken (piece ∷ pieces) old from new to = (mid : Tokenizer K) × ((waits : Queue) × (TakesText Sink None None old mid from waits piece (Ok tt) × AreTaken pieces mid waits new to))

@@ -85,7 +85,7 @@ abbrev pub of_new_context : List Row → TokenizerOpts → Setting → QualName 
 of_new_context table opts setting name attributes scripting f =
     of_fragment table opts setting (record { number = node_count f; namespace = namespace_of name.ns; name = name.local }) None scripting (create_element f name attributes (flags_of (namespace_of name.ns) name.local attributes false))
 
--- An error was told: it is counted, and all else stands. What was read still was, behind one error more, and what could be called still
+-- An error was told: it is counted, and all else stands. What was read still was, after one error more, and what could be called still
 -- can.
 pub record TellsError {K H O : Type 0} (Sink : TreeGhosts K H O) (old new : Tokenizer (TreeBuilder K H O)) : Type 0 where
   pub counts : Sink.forest new.sink.sink ≡ add_error (Sink.forest old.sink.sink)

@@ -38,7 +38,7 @@ module _ {K H O : Type 0} (Sink : TreeGhosts K H O) where
   abbrev pub fragment_by : List Row → ParseOpts → Open → Option ℕ → Bool → Forest → Beginning State
   fragment_by table opts context form scripting f = of_fragment table opts.tokenizer (setting_of (answers_of Sink.integration_point Sink.allows_shadow_roots Sink.attaches_shadow) opts.tree_builder) context form scripting f
 
-  -- A parser that began so took these pieces, one behind the other, and gave this at the end.
+  -- A parser that began so took these pieces, one after the other, and gave this at the end.
   pub record Parses (begin : Beginning State) (pieces : List (List ℕ)) (output : O) : Type 0 where
     pub has_failed : Bool
     pub first : Tokenizer (TreeBuilder K H O)
@@ -85,7 +85,7 @@ module _ {K H O : Type 0} (Sink : TreeGhosts K H O) where
   TakesEach (Some fault) k = Unit {0}
 
   -- In such a state parsers begin, their calls keep it, and from it no text is refused: where nothing stands against a call it fails for
-  -- want of memory alone. So `Failed` comes only behind a fault, and `Ended` only behind the end.
+  -- want of memory alone. So `Failed` comes only after a fault, and `Ended` only after the end.
   pub record IsNoTextRefused : Type 0 where
     pub begins : (begin : Beginning State) (has_failed : Bool) (k : Tokenizer (TreeBuilder K H O)) (input : Queue) → Begins Sink begin has_failed k input → TakesEach (stopped_by has_failed (refusal_of k)) k
     pub process : (failed fails : Bool) (old new : Tokenizer (TreeBuilder K H O)) (from to : Queue) (text : List ℕ) (result : Result (Unit {0}) ParseFault)

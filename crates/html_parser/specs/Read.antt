@@ -26,7 +26,7 @@ pub record Beginning (S : Type 0) : Type 0 where
   pub exact_errors : Bool
   pub errors : ℕ
 
--- a beginning by the options of a tokenizer, behind so many errors
+-- a beginning by the options of a tokenizer, after so many errors
 abbrev pub beginning : {S : Type 0} → List Row → TokenizerOpts → S → ℕ → Beginning S
 beginning table opts s errors = record {
   table = table;
@@ -82,12 +82,12 @@ module _ {K H : Type 0} (Sink : Ghosts K H) where
     pub exact : k.stream.exact_errors ≡ begin.exact_errors
     pub rises : RisesTo (together (owed_in notes) (owed_for_text begin.exact_errors came)) begin.errors (Sink.errors k.sink)
 
-  -- Behind whatever was read, this text was read too; and the sink has failed only where it had.
+  -- After whatever was read, this text was read too; and the sink has failed only where it had.
   pub record ReadsOn (old new : Tokenizer K) (text : List ℕ) : Type 0 where
     pub reads : (begin : Beginning Sink.State) (before : List ℕ) → HasRead begin before old → HasRead begin (before ++ text) new
     pub works : Sink.has_failed new.sink ≡ true → Sink.has_failed old.sink ≡ true
 
-  -- whatever was read still was, behind one error more
+  -- whatever was read still was, after one error more
   abbrev pub KeepsRead : Tokenizer K → Tokenizer K → Type 0
   KeepsRead old new = (begin : Beginning Sink.State) (before : List ℕ) → HasRead begin before old → HasRead (behind_error begin) before new
 

@@ -20,7 +20,7 @@ pub fn exact_errors_change_no_tree<Sink: TreeSink>()
     ensures { AreErrorsAside Sink.TreeSink }
 {}
 
-/// From where documents and fragments begin, whatever is called, no text is refused: every fault is want of memory, or comes behind a
+/// From where documents and fragments begin, whatever is called, no text is refused: every fault is want of memory, or comes after a
 /// fault or the end.
 pub fn no_text_is_refused<Sink: TreeSink>()
     ensures { IsNoTextRefused Sink.TreeSink }

@@ -26,7 +26,7 @@ pub struct Parser<Sink: TreeSink> {
 }
 
 impl<Sink: TreeSink> Parser<Sink> {
-    /// Takes a piece of text, behind what waits, and goes on past every pause.
+    /// Takes a piece of text, after what waits, and goes on past every pause.
     ///
     /// Errors: [`ParseFault::Memory`]; from then on every call answers [`ParseFault::Failed`]. Once the end was told
     /// [`ParseFault::Ended`]. What has failed or ended stays as it is.

@@ -158,7 +158,7 @@ fn parse_with_errors<Sink: TreeSink + Drop>(
     let second = String::from_str(alloc, second)?;
     let table = five(alloc)?;
     let mut parser = parse_document(alloc, sink, ParseOpts::default(), table)?;
-    // Behind a fault the last call is refused too.
+    // After a fault the last call is refused too.
     drop(parser.process(first));
     tell_error(&mut parser);
     tell_error(&mut parser);

@@ -110,7 +110,7 @@ const ROWS: &[Row] = &[
         false,
         NoQuirks,
     ),
-    // a script's pauses, one behind the other
+    // a script's pauses, one after the other
     (
         "<!DOCTYPE html><script>a</script><script>b</script><p>c",
         "<!DOCTYPE html><html><head><script>a</script><script>b</script></head><body><p>c</p></body></html>",

@@ -35,7 +35,7 @@ fn feed_text<Sink: TokenSink>(
     Ok(())
 }
 
-/// What a tokenizer's sink is behind these pieces and the end.
+/// What a tokenizer's sink is after these pieces and the end.
 fn fed<Sink: TokenSink + Drop>(
     tokenizer: Tokenizer<Sink>,
     pieces: Vec<String>,

@@ -249,7 +249,7 @@ const OWNERS: &[Row] = &[
             "pop html",
         ],
     ),
-    // in a template, behind the form, and where none is
+    // in a template, after the form, and where none is
     (
         "<form><template><input>",
         &["pop head", "pop form", "pop body", "pop html"],

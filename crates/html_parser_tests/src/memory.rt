@@ -1,4 +1,4 @@
-//! Want of memory: what a parser answers then and behind it.
+//! Want of memory: what a parser answers then and after it.
 ghost use Rattle.html_tokenizer.specs.Calls.{IsReadyIf, refusal_of};
 ghost use Rattle.html_parser.specs.Documents.{builder};
 ghost use Rattle.html_parser.specs.Read.{stopped_by};

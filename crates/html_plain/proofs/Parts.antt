@@ -92,7 +92,7 @@ repeated front a rest h =
     let more : (are_distinct front && not (has_local_name a.name.local front)) ≡ true = sym (distinct-more front a) ∙ distinct-front (front ++ a ∷ []) rest whole in
     true≢false (sym h ∙ not-true (has_local_name a.name.local front) (and_parts (are_distinct front) (not (has_local_name a.name.local front)) more).1))
 
--- a test behind that of a prefix which is not there
+-- a test after that of a prefix which is not there
 pub prefixed : {A : Type 0} (o : Option A) (b d n : Bool) → is_some o ≡ not n → n ≡ true → b ≡ d → b ≡ (is_none o && d)
 prefixed None b d n e h k = k
 prefixed (Some x) b d true e h k = absurd cc

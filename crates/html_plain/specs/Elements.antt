@@ -149,7 +149,7 @@ inside place Break = InBreak
 inside place (Formatted format) = InLine (is_in_link place)
 inside place Link = InLine true
 
--- where the next node stands behind an element that stands here
+-- where the next node stands after an element that stands here
 abbrev pub behind_element : PlainPlace → PlainPlace
 behind_element BeforeRoot = BehindRoot
 behind_element BeforeHead = BehindHead
@@ -158,7 +158,7 @@ behind_element BeforeBody = BehindBody
 behind_element InHead = BehindTitle
 behind_element place = place
 
--- and behind a text
+-- and after a text
 abbrev pub behind_text : PlainPlace → PlainPlace
 behind_text BehindHead = BeforeBody
 behind_text place = place

@@ -13,7 +13,7 @@ use Rattle.html_plain.specs.Grammar.{is_plain_document}
 abbrev of : String → Trees → Trees → Trees
 of local kids rest = Element (html_name (codes local)) [] false kids rest
 
--- an element with nothing behind it
+-- an element with nothing after it
 abbrev one : String → Trees → Trees
 one local kids = of local kids Nothing
 
@@ -24,7 +24,7 @@ bare local = one local Nothing
 abbrev text : String → Trees
 text characters = Text (codes characters) Nothing
 
--- a comment with nothing behind it
+-- a comment with nothing after it
 abbrev noted : String → Trees
 noted characters = Comment (codes characters) Nothing
 

@@ -8,21 +8,21 @@ use crate::elements::PlainElement;
 pub enum PlainPlace {
     /// First in a document: its doctype comes.
     BeforeDoctype,
-    /// Behind the doctype: `html` comes.
+    /// After the doctype: `html` comes.
     BeforeRoot,
-    /// Behind `html`: nothing comes.
+    /// After `html`: nothing comes.
     BehindRoot,
     /// First in `html`: `head` comes.
     BeforeHead,
-    /// Behind `head`: white space or `body` comes.
+    /// After `head`: white space or `body` comes.
     BehindHead,
-    /// Behind white space behind `head`: `body` comes.
+    /// After white space after `head`: `body` comes.
     BeforeBody,
-    /// Behind `body`: nothing comes.
+    /// After `body`: nothing comes.
     BehindBody,
     /// In `head`: white space and a title may come.
     InHead,
-    /// In `head`, behind the title: white space may come.
+    /// In `head`, after the title: white space may come.
     BehindTitle,
     /// In `title`: text may come.
     InTitle,
@@ -110,7 +110,7 @@ impl PlainPlace {
         }
     }
 
-    /// Where the next node stands behind an element that stands here.
+    /// Where the next node stands after an element that stands here.
     pub fn behind_element(self) -> PlainPlace
         ensures { result ≡ behind_element self }
     {
@@ -123,7 +123,7 @@ impl PlainPlace {
         }
     }
 
-    /// Where the next node stands behind a text that stands here.
+    /// Where the next node stands after a text that stands here.
     pub fn behind_text(self) -> PlainPlace
         ensures { result ≡ behind_text self }
     {

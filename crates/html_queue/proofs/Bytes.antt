@@ -19,7 +19,7 @@ drop-back xs ys front i l e =
 pub drop-back_after : (xs ys : List ℕ) (i k : ℕ) → i ≤ length xs → slice_range xs 0 i ≡ take (length (slice_range xs 0 i) - k) (slice_range xs 0 i) ++ ys → drop (i - length ys) xs ≡ ys ++ drop i xs
 drop-back_after xs ys i k l e = drop-back xs ys _ i l (ap (λ (n : ℕ). take n xs) (omega arith) ∙ e)
 
--- A text put, behind spaces, in place of a part that ends at a place stands before what follows the place, and begins where a
+-- A text put, after spaces, in place of a part that ends at a place stands before what follows the place, and begins where a
 -- character may.
 pub record IsPutBefore (old new more : List ℕ) (place at : ℕ) : Type 0 where
   pub shows : drop at new ≡ more ++ drop place old
@@ -46,6 +46,6 @@ IsCharBoundary-back xs ys lent i cut text more back same =
     let within = cut.0 in
     rw same (IsCharBoundary-from_drop xs (i - length ys) (omega arith) (rw back (IsUtf8-append ys (drop i xs) more (IsUtf8-drop xs i text cut))))
 
--- a place that is no less than the end has nothing behind it
+-- a place that is no less than the end has nothing after it
 pub none-behind : (xs now : List ℕ) (place len : ℕ) → drop place xs ≡ now → len ≡ length xs → len ≤ place → now ≡ []
 none-behind xs now place len seen size all = sym seen ∙ drop_all place xs (omega arith)

@@ -93,7 +93,7 @@ begins-chars same (c ∷ cs) (p ∷ ps) = elim (cases_lt c 128) [
 pub begins-text : (same : ℕ → ℕ → Bool) (bs ps : List ℕ) → IsUtf8 bs → begins same bs ps ≡ begins same (chars bs) ps
 begins-text same bs ps u = subst (λ (xs : List ℕ). begins same xs ps ≡ begins same (chars bs) ps) (encodes-chars bs u) (begins-chars same (chars bs) ps)
 
--- a text may be cut behind ASCII bytes that it begins with
+-- a text may be cut after ASCII bytes that it begins with
 pub boundary_after_low : (bs : List ℕ) (n : ℕ) → IsUtf8 bs → n ≤ length bs → ((k : ℕ) → k < n → slice_index bs k < 128) → IsCharBoundary bs n
 boundary_after_low bs zero u within low = IsCharBoundary-start bs u
 boundary_after_low bs (suc n) u within low = rw (← add-one) (IsCharBoundary-after_ascii bs n u (omega arith) (low n (omega arith)))

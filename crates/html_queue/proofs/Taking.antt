@@ -43,7 +43,7 @@ has-below bits c h = grind (arith, nat_tests, h)
 pub lacks_above : (bits c : ℕ) → 64 ≤ c → has bits c ≡ false
 lacks_above bits c h = grind (arith, nat_tests, h)
 
--- a text may be cut behind a member of a set that it begins with
+-- a text may be cut after a member of a set that it begins with
 pub boundary_past_member : (bits : ℕ) (bs : List ℕ) → IsUtf8 bs → 0 < length bs → has bits (get_or bs 0 0) ≡ true → IsCharBoundary bs 1
 boundary_past_member bits bs u l h = let b : get_or bs 0 0 < 64 = has-below bits _ h in IsCharBoundary-after_ascii bs 0 u l (omega (arith, b))
 
@@ -86,7 +86,7 @@ takes_low (b ∷ bs) more n m u l low g e =
     let first : b ∷ bs ≡ encode_utf8 b ++ bs = rw (encode_ascii b low) refl in
     takes_char (b ∷ bs) bs more b n m 1 u first (sym (len_utf8_ascii b low)) g e
 
--- a text may be cut behind an ASCII character that it begins with
+-- a text may be cut after an ASCII character that it begins with
 pub boundary_past_low : (bs : List ℕ) → IsUtf8 bs → 0 < length bs → get_or bs 0 0 < 128 → IsCharBoundary bs 1
 boundary_past_low bs u l low = IsCharBoundary-after_ascii bs 0 u l low
 

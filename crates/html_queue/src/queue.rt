@@ -100,7 +100,7 @@ impl BufferQueue {
         Some(c)
     }
 
-    /// Puts a text behind all that waits. Text that was taken before may be let go here, so a long
+    /// Puts a text after all that waits. Text that was taken before may be let go here, so a long
     /// stream holds little more than what still waits.
     pub fn push_back(&mut self, text: String) -> Result<(), ParseFault>
         ensures ok { OnOk result (self.new ≡ record self.old { characters = self.old.characters ++ chars (string_bytes text) }) }

@@ -41,7 +41,7 @@ module _ (rows : List ReferenceRow) (order : List ℕ) (arranged : IsArranged ro
       (λ (b : high ≤ low). let e : low ≡ high = omega arith in inr (ap (ordered_name rows order) e))
       (cases_lt low high)
 
-  -- where no name stands twice behind one another, they rise
+  -- where no name stands twice after one another, they rise
   rising-repeatless : ((index : ℕ) → IsRepeat rows order index → ⊥) → (low high : ℕ) → low < high → high < length order → IsBefore (ordered_name rows order low) (ordered_name rows order high)
   rising-repeatless none low high l m =
       ⊎_elim (λ h. h)
@@ -60,7 +60,7 @@ module _ (rows : List ReferenceRow) (order : List ℕ) (arranged : IsArranged ro
       (arranged.ranked j i h m)) s)
       (cases_order i j)
 
-  -- names are distinct where none stands twice behind one another
+  -- names are distinct where none stands twice after one another
   pub distinct-repeatless : ((index : ℕ) → IsRepeat rows order index → ⊥) → (a b : ℕ) → a < b → b < length rows → name_at rows a ≡ name_at rows b → ⊥
   distinct-repeatless none a b l m same =
       let p = arranged.whole a (omega arith) in

@@ -1,4 +1,4 @@
--- What is wrong with a row behind earlier ones, and with a table from one of its rows on.
+-- What is wrong with a row after earlier ones, and with a table from one of its rows on.
 use Rattle.std.proofs.Common.{◌≡◌, ◌∙◌, ℕ, ◌<◌, ◌+◌, Bool, true, false, cond, List, [], length, get_or, take, drop, Option, Some, None, refl, sym, ap}
 use Rattle.std.specs.Prelude.{not}
 use Rattle.std.specs.Option.{option_or}
@@ -33,7 +33,7 @@ name_without_fault earlier row e = decided (is_reference_name row.name) refl
         none≢some : {A : Type 0} {x : A} → None ≡ Some x → ⊥
         none≢some q = cc
 
--- a table whose rows up to one are good has the fault of that row, or else of those behind it
+-- a table whose rows up to one are good has the fault of that row, or else of those after it
 first_fault-more : (rows : List ReferenceRow) (place : ℕ) (d : ReferenceRow) → place < length rows → first_fault (take place rows) (drop place rows) ≡ option_or (fault_behind (take place rows) (get_or rows place d)) (first_fault (take (place + 1) rows) (drop (place + 1) rows))
 first_fault-more rows place d l =
     ap (first_fault (take place rows)) (drop_more rows place d l)

@@ -51,7 +51,7 @@ and_assoc : (a b c : Bool) → ((a && b) && c) ≡ (a && (b && c))
 and_assoc true b c = refl
 and_assoc false b c = refl
 
--- a name that begins with a text is that text, or goes on behind it
+-- a name that begins with a text is that text, or goes on after it
 name-front : (name text : List ℕ) → starts_with nat_eq name text ≡ (bytes_eq name text || goes_on_behind text name)
 name-front [] [] = refl
 name-front [] (t ∷ ts) = refl
@@ -66,7 +66,7 @@ or-pairs false true true d = refl
 or-pairs false true false d = refl
 or-pairs false false c d = refl
 
--- some name begins with a text: it is a name, or one goes on behind it
+-- some name begins with a text: it is a name, or one goes on after it
 pub front-or : (rows : List ReferenceRow) (text : List ℕ) → is_front rows text ≡ (is_named rows text || goes_on rows text)
 front-or [] text = refl
 front-or (row ∷ rows) text =

@@ -28,7 +28,7 @@ and_assoc : (a b c : Bool) → ((a && b) && c) ≡ (a && (b && c))
 and_assoc true b c = refl
 and_assoc false b c = refl
 
--- a name that does not go on behind what is held begins a longer text where it begins what is held
+-- a name that does not go on after what is held begins a longer text where it begins what is held
 starts_with-cut : (held more name : List ℕ) → goes_on_behind held name ≡ false → starts_with nat_eq (held ++ more) name ≡ starts_with nat_eq held name
 starts_with-cut held more [] g = refl
 starts_with-cut [] more (n ∷ ns) g = absurd (true≢false (sym (lt-ltb 0 (suc (length ns)) (omega arith)) ∙ g))
@@ -37,7 +37,7 @@ starts_with-cut (h ∷ hs) more (n ∷ ns) g =
     (rw (nat_eq-sym n h, ← shift (length hs) (length ns)) (sym (and_assoc (nat_eq h n) (starts_with nat_eq ns hs) _) ∙ g))
     (starts_with-cut hs more ns)
 
--- nothing goes on behind a text of no row more than it begins with
+-- nothing goes on after a text of no row more than it begins with
 pub longest-cut : (rows : List ReferenceRow) (held more : List ℕ) → goes_on rows held ≡ false → longest rows (held ++ more) ≡ longest rows held
 longest-cut [] held more g = refl
 longest-cut (row ∷ rows) held more g =

@@ -42,7 +42,7 @@ same_then x y o p e h = rw (e, nat_cmp-same y) h
 not_behind : (x y : ℕ) (o : Ordering) → x < y → ordering_then (nat_cmp y x) o ≡ Less → ⊥
 not_behind x y o l h = grind (arith, nat_tests)
 
--- what begins with a text and stands behind it is longer
+-- what begins with a text and stands after it is longer
 pub longer_when_before : (held name : List ℕ) → starts_with nat_eq name held ≡ true → IsBefore held name → nat_lt (length held) (length name) ≡ true
 longer_when_before [] [] s b = cc
 longer_when_before [] (x ∷ xs) s b = lt-ltb _ _ (omega arith)
@@ -57,7 +57,7 @@ longer_when_before (h ∷ hs) (x ∷ xs) s b =
     lt-ltb _ _ (omega arith))
     (then_less h x _ b)
 
--- a text stands before what goes on behind it
+-- a text stands before what goes on after it
 pub before_when_longer : (held name : List ℕ) → goes_on_behind held name ≡ true → IsBefore held name
 before_when_longer [] [] h = cc
 before_when_longer [] (x ∷ xs) h = refl
@@ -86,7 +86,7 @@ starts_between (h ∷ hs) (x ∷ xs) (y ∷ ys) p q s =
     (then_less x y _ q))
     (then_less h x _ p)
 
--- the first name behind what is held tells that some name goes on
+-- the first name after what is held tells that some name goes on
 pub goes_on_first : (rows : List ReferenceRow) (order held : List ℕ) (index : ℕ) → IsOrdered rows order → index < length order → IsBefore held (ordered_name rows order index) → starts_with nat_eq (ordered_name rows order index) held ≡ true → goes_on rows held ≡ true
 goes_on_first rows order held index o l b s =
     any_at (goes_on_behind held) rows (get_or order index 0) (o.within index l)
@@ -106,7 +106,7 @@ at_index rows order held o g =
     let w = o.whole p.0 p.1 in
     (w.0, w.1, rw w.2 p.2)
 
--- where the first name behind what is held does not begin with it, or there is none, no name goes on
+-- where the first name after what is held does not begin with it, or there is none, no name goes on
 pub goes_on_none : (rows : List ReferenceRow) (order held : List ℕ) (index : ℕ) → IsOrder rows order → ((i : ℕ) → index ≤ i → i < length order → IsBefore held (ordered_name rows order i)) → ((i : ℕ) → i < length order → IsBefore held (ordered_name rows order i) → index ≤ i) → (index < length order → starts_with nat_eq (ordered_name rows order index) held ≡ false) → goes_on rows held ≡ false
 goes_on_none rows order held index o behind first none =
     false_from_ne_true (goes_on rows held)
@@ -142,7 +142,7 @@ absent rows order name index o p =
 pub not_both : (a b : List ℕ) → IsBefore a b → IsBefore b a → ⊥
 not_both a b p q = IsBefore-irrefl a (nat_list_cmp_total.trans a b a p q)
 
--- behind a name come only the names at later indices
+-- after a name come only the names at later indices
 pub behind_name : (rows : List ReferenceRow) (order text : List ℕ) (index : ℕ) → IsOrdered rows order → index < length order → ordered_name rows order index ≡ text → (i : ℕ) → i < length order → IsBefore text (ordered_name rows order i) → index + 1 ≤ i
 behind_name rows order text index o l e i m b =
     ⊎_elim
@@ -152,7 +152,7 @@ behind_name rows order text index o l e i m b =
     (λ (s : index < i). omega arith) u)
     (cases_order i index)
 
--- behind a text that is no name come only the names from its place on
+-- after a text that is no name come only the names from its place on
 pub behind_place : (rows : List ReferenceRow) (order text : List ℕ) (index : ℕ) → IsPlaceOf rows order text index → (i : ℕ) → IsBefore text (ordered_name rows order i) → index ≤ i
 behind_place rows order text index p i b =
     ⊎_elim

@@ -23,7 +23,7 @@ below_middle rows order text middle o in' h low l =
     (λ s. ⊎_elim (λ (b : low < middle). IsBefore-trans (ordered_name rows order low) (ordered_name rows order middle) text (o.rising low middle b in') h) (λ (b : middle < low). absurd (omega arith)) s)
     (cases_order low middle)
 
--- all names from one on that stands behind a text stand behind it
+-- all names from one on that stands after a text stand after it
 pub above_middle : (rows : List ReferenceRow) (order text : List ℕ) (middle : ℕ) → IsOrdered rows order → slice_cmp nat_cmp (ordered_name rows order middle) text ≡ Greater → (high : ℕ) → middle ≤ high → high < length order → IsBefore text (ordered_name rows order high)
 above_middle rows order text middle o e high l in' =
     let h : IsBefore text (ordered_name rows order middle) = IsBefore-greater (ordered_name rows order middle) text e in

@@ -1,4 +1,4 @@
--- The first of the places that repeat a name, one index of the order behind another.
+-- The first of the places that repeat a name, one index of the order after another.
 use Rattle.std.proofs.Common.{◌≡◌, ℕ, ◌+◌, ◌<◌, ◌≤◌, List, length, get_or, Option, Some, None, refl, arith, ⊎_elim}
 use Rattle.std.specs.Prelude.{min}
 use Rattle.std.specs.Option.{option_map_or}

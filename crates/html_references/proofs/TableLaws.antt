@@ -40,7 +40,7 @@ own_name earlier row e = decided (is_named earlier row.name) refl
 checked_nil : IsCheckedTable []
 checked_nil = record { names = All-nil (λ row. IsTrue (is_reference_name row.name)); values = All-nil (λ row. IsTrue (has_values row)); distinct = λ i j d l m. absurd (omega arith) }
 
--- a checked table with a row that has no fault behind it
+-- a checked table with a row that has no fault after it
 checked_push : (earlier : List ReferenceRow) (row : ReferenceRow) → IsCheckedTable earlier → fault_behind earlier row ≡ None → IsCheckedTable (earlier ++ row ∷ [])
 checked_push earlier row c e = record {
   names = All-push (λ r. IsTrue (is_reference_name r.name)) earlier row c.names (name_without_fault earlier row e);

@@ -55,7 +55,7 @@ pub record IsArranged (rows : List ReferenceRow) (order : List ℕ) : Type 0 whe
   pub ranked : (low high : ℕ) → low < high → high < length order
       → IsBefore (ordered_name rows order low) (ordered_name rows order high) ⊎ ((ordered_name rows order low ≡ ordered_name rows order high) × (slice_index order low < slice_index order high))
 
--- the names at this index of the order and just behind it are the same
+-- the names at this index of the order and just after it are the same
 abbrev pub IsRepeat : List ReferenceRow → List ℕ → ℕ → Type 0
 IsRepeat rows order index = (index + 1 < length order) × (ordered_name rows order index ≡ ordered_name rows order (index + 1))
 

@@ -13,7 +13,7 @@ pub use Rattle.html_tokens.specs.Table.{goes_on, goes_on_behind, longer_of, long
 abbrev pub stem : List ℕ → List ℕ
 stem name = if ends_with nat_eq name (59 ∷ []) then take (length name - 1) name else name
 
--- letters and digits, one at least, and ";" or nothing behind them
+-- letters and digits, one at least, and ";" or nothing after them
 abbrev pub is_reference_name : List ℕ → Bool
 is_reference_name name = not (length (stem name) == 0) && list_all is_ascii_alphanumeric (stem name)
 
@@ -32,14 +32,14 @@ is_named rows name = list_any (λ row. bytes_eq row.name name) rows
 abbrev pub is_front : List ReferenceRow → List ℕ → Bool
 is_front rows text = list_any (λ row. starts_with nat_eq row.name text) rows
 
--- what is wrong with a row that stands behind earlier ones, by its number, counted from 1
+-- what is wrong with a row that stands after earlier ones, by its number, counted from 1
 abbrev pub fault_behind : List ReferenceRow → ReferenceRow → Option TableFault
 fault_behind earlier row =
     if not (is_reference_name row.name) then Some (BadName (length earlier + 1))
     else if not (has_values row) then Some (BadValue (length earlier + 1))
     else if is_named earlier row.name then Some (Duplicate (length earlier + 1)) else None
 
--- the fault of the first faulty row of those that stand behind earlier ones
+-- the fault of the first faulty row of those that stand after earlier ones
 abbrev pub first_fault : List ReferenceRow → List ReferenceRow → Option TableFault
 first_fault earlier [] = None
 first_fault earlier (row ∷ rows) = option_or (fault_behind earlier row) (first_fault (earlier ++ row ∷ []) rows)

@@ -25,7 +25,7 @@ fn make_row(alloc: Global, name: &str, value: u32) -> Result<ReferenceRow, Alloc
     Ok(ReferenceRow::new(String::from_str(alloc, name)?, value, None))
 }
 
-// Puts the row of a name of ASCII alone behind others.
+// Puts the row of a name of ASCII alone after others.
 fn push_row(
     alloc: Global,
     rows: &mut Vec<ReferenceRow>,
@@ -40,7 +40,7 @@ fn push_row(
     Ok(())
 }
 
-// Puts the rows of the five names that a written text needs behind others.
+// Puts the rows of the five names that a written text needs after others.
 fn push_five(alloc: Global, rows: &mut Vec<ReferenceRow>) -> Result<(), TableFault>
     ensures ok { OnOk result (rows.new.items ≡ rows.old.items ++ five_rows) }
     ensures fault { IfErr result (λ fault. fault ≡ Memory) }
@@ -80,7 +80,7 @@ fn order_of(alloc: Global, rows: &[ReferenceRow]) -> Result<Vec<usize>, TableFau
 
 /// A checked table of named character references. A contract sees the list of its rows, as they were handed in.
 ///
-/// Names are letters and digits of ASCII, one at least, with `;` or nothing behind them, and all distinct; values are numbers of
+/// Names are letters and digits of ASCII, one at least, with `;` or nothing after them, and all distinct; values are numbers of
 /// characters, and not 0. A table may have no row.
 #[derive(Debug, Drop)]
 pub struct References {
@@ -151,7 +151,7 @@ impl References {
         self.rows.as_slice()
     }
 
-    /// Whether some name goes on behind what is held: it begins with the characters held, and has more (HTML Standard, section 13.2.5.73).
+    /// Whether some name goes on after what is held: it begins with the characters held, and has more (HTML Standard, section 13.2.5.73).
     pub fn goes_on(&self, held: &str) -> bool
         ensures { result ≡ goes_on self.now (chars held.now) }
     {

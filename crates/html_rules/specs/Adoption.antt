@@ -85,7 +85,7 @@ pub record Turned : Type 0 where
   pub state : State
   pub goes_on : Bool
 
--- behind the walk: the last node is put at the place for the common ancestor, and a new element takes the children of the
+-- after the walk: the last node is put at the place for the common ancestor, and a new element takes the children of the
 -- block and becomes its only child
 abbrev pub adopt : Listed → Open → Walk → State → State
 adopt formatting_element block w s =

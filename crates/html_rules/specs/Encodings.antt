@@ -10,7 +10,7 @@ use Rattle.html_rules.specs.Names.{equals_any_case}
 abbrev pub is_space : ℕ → Bool
 is_space c = nat_eq c 9 || nat_eq c 10 || nat_eq c 12 || nat_eq c 13 || nat_eq c 32
 
--- a text behind the white space at its front
+-- a text after the white space at its front
 abbrev pub behind_space : List ℕ → List ℕ
 behind_space t = drop (run (λ c. not (is_space c)) t) t
 
@@ -20,19 +20,19 @@ up_to_quote quote t =
     let n = run (nat_eq quote) t in
     choose (nat_lt n (length t)) (λ _. Some (take n t)) (λ _. None)
 
--- behind "=" and white space: a value in quotes, or up to white space or ";"
+-- after "=" and white space: a value in quotes, or up to white space or ";"
 abbrev pub encoding_at : List ℕ → Option (List ℕ)
 encoding_at [] = None
 encoding_at (c ∷ t) =
     choose (nat_eq c 34 || nat_eq c 39) (λ _. up_to_quote c t)
     (λ _. Some (take (run (λ d. is_space d || nat_eq d 59) (c ∷ t)) (c ∷ t)))
 
--- what stands behind "=", if that is next
+-- what stands after "=", if that is next
 abbrev pub behind_equals : List ℕ → Option (List ℕ)
 behind_equals [] = None
 behind_equals (c ∷ t) = choose (nat_eq c 61) (λ _. Some (behind_space t)) (λ _. None)
 
--- what stands behind "charset" and "=", if a text begins so
+-- what stands after "charset" and "=", if a text begins so
 abbrev pub behind_charset : List ℕ → Option (List ℕ)
 behind_charset t = choose (begins_any_case (codes "charset") t) (λ _. behind_equals (behind_space (drop 7 t))) (λ _. None)
 

@@ -90,7 +90,7 @@ behind_marker (Element n tag ∷ entries) = behind_marker entries
 unfoldable pub clear_active_formatting_to_marker : State → State
 clear_active_formatting_to_marker s = record s { active_formatting = behind_marker s.active_formatting }
 
--- with these entries at the end of the list: each behind the last one that is a marker or open is inserted again, in order
+-- with these entries at the end of the list: each after the last one that is a marker or open is inserted again, in order
 abbrev pub reopen : List Entry → State → State
 reopen [] s = record s { active_formatting = [] }
 reopen (Marker ∷ entries) s = record s { active_formatting = Marker ∷ entries }

@@ -30,7 +30,7 @@ abbrev pub text_taken : List ℕ → Settled → Settled
 text_taken [] before = before
 text_taken (c ∷ cs) before = let settled = settle (CharacterTokens (c ∷ [])) before.state in text_taken cs (behind before settled)
 
--- a text behind the line feed at its front, if that is to be dropped
+-- a text after the line feed at its front, if that is to be dropped
 abbrev pub behind_line_feed : Bool → List ℕ → List ℕ
 behind_line_feed false text = text
 behind_line_feed true [] = []

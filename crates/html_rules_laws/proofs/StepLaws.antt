@@ -127,7 +127,7 @@ continues : (text : List ℕ) (s : State) → (left text s).reply ≡ reply.Cont
 unfolding left
 continues text s = taken-well (CharacterTokens text) s
 
--- behind the first text the second is read as from the same state without its number of errors
+-- after the first text the second is read as from the same state without its number of errors
 hushed-left : (b : List ℕ) (x : State) → hushed (left b (hushed x)).state ≡ hushed (left b x).state
 unfolding left
 hushed-left b x = ap (λ made. hushed made.state) (sym (taken-hushed (CharacterTokens b) x))
@@ -219,7 +219,7 @@ no_text-left s = ap (λ made. made.state.forest.errors) (left-is [] s) ∙ by s.
 no_text-quiet : (s : State) → is_quiet s (CharacterTokens []) ≡ true
 no_text-quiet s = quiet-is [] s ∙ ap (λ n. nat_eq n 0) (no_text-left (hushed s))
 
--- errors behind two texts: none exactly if none are behind the first, and none behind the second once they are put aside
+-- errors after two texts: none exactly if none are after the first, and none after the second once they are put aside
 errors-joined : (b : List ℕ) (x : State) → nat_eq (left b x).state.forest.errors 0 ≡ (nat_eq x.forest.errors 0 && nat_eq (left b (hushed x)).state.forest.errors 0)
 unfolding left
 errors-joined b x =

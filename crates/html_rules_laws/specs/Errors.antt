@@ -16,10 +16,10 @@ louder g s = record s { forest = louder_forest g s.forest }
 abbrev pub louder_settled : (ℕ → ℕ) → Settled → Settled
 louder_settled g settled = record settled { state = louder g settled.state }
 
--- one error more is one more behind it too
+-- one error more is one more after it too
 abbrev pub Commutes : (ℕ → ℕ) → Type 0
 Commutes g = (n : ℕ) → g (one_more n) ≡ one_more (g n)
 
--- more errors before a token are more errors behind it, and nothing else changes
+-- more errors before a token are more errors after it, and nothing else changes
 abbrev pub AreErrorsCounted : Type 0
 AreErrorsCounted = (g : ℕ → ℕ) → Commutes g → (t : Token) (s : State) → taken t (louder g s) ≡ louder_settled g (taken t s)

@@ -33,7 +33,7 @@ are_placed Text xs = false
 are_placed InTableText xs = false
 are_placed mode xs = are_general xs
 
--- modes behind the root, and not before the head
+-- modes after the root, and not before the head
 abbrev pub is_later : InsertionMode → Bool
 is_later Initial = false
 is_later BeforeHtml = false

@@ -57,7 +57,7 @@ samples AnythingElse = each_kind
 abbrev pub always_take : List Row → Token → Bool
 always_take rs t = list_any (λ r. is_always r.when && class_fits r.on t) rs
 
--- whether a row behind these takes a token that none of them takes in every state
+-- whether a row after these takes a token that none of them takes in every state
 abbrev pub is_reached : List Row → Row → Bool
 is_reached earlier r = list_any (λ t. not (always_take earlier t)) (samples r.on)
 
@@ -65,7 +65,7 @@ abbrev pub are_reached : List Row → List Row → Bool
 are_reached earlier [] = true
 are_reached earlier (r ∷ rs) = is_reached earlier r && are_reached (r ∷ earlier) rs
 
--- no row stands behind rows that take all that it takes
+-- no row stands after rows that take all that it takes
 abbrev pub IsEachRowReached : Type 0
 IsEachRowReached = ((m : InsertionMode) → are_reached [] (rows m) ≡ true) × (are_reached [] in_foreign_content ≡ true)
 

@@ -6,7 +6,7 @@ pub fn each_token_is_taken()
     ensures { IsEachTokenTaken }
 {}
 
-/// No row stands behind rows that take all that it takes.
+/// No row stands after rows that take all that it takes.
 pub fn each_row_is_reached()
     ensures { IsEachRowReached }
 {}

@@ -54,7 +54,7 @@ body_row input output = (codes input, in_body (codes output))
 abbrev pub body_row_of : List ℕ → List ℕ → List ℕ × List ℕ
 body_row_of input output = (input, in_body output)
 
--- the same, behind a doctype
+-- the same, after a doctype
 abbrev pub page_row : String → String → List ℕ × List ℕ
 page_row input output = (codes "<!DOCTYPE html>" ++ codes input, codes "<!DOCTYPE html>" ++ in_body (codes output))
 

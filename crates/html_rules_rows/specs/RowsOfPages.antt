@@ -23,7 +23,7 @@ page_rows =
     -- a line feed that is dropped
     ∷ page_row_of (codes "<textarea>" ++ 10 ∷ codes "x</textarea>") (codes "<textarea>x</textarea>")
     ∷ page_row "<pre>&#10x</pre>" "<pre>x</pre>"
-    -- comments behind the body
+    -- comments after the body
     ∷ row "<!DOCTYPE html></body><!--c--></html><!--d-->" "<!DOCTYPE html><html><head></head><body></body><!--c--></html><!--d-->"
     ∷ page_row "<p>a</p><!--c-->" "<p>a</p><!--c-->"
     -- U+0000 and a carriage return

@@ -221,7 +221,7 @@ place_behind-within mode bs start at is =
         rw (eq-eqb (slice_index bs at) 0xC2 lead) (omega arith)
     by_lead passes below (inr other) = rw (ne_eqb (slice_index bs at) 0xC2 other) (omega arith)
 
--- it lies behind where the search began, if that is not the end
+-- it lies after where the search began, if that is not the end
 pub place_behind-later : (bs : List ℕ) (start at : ℕ) → start ≤ at → start ≤ place_behind bs at
 place_behind-later bs start at low =
     elim (cases_lt at (length bs)) [

@@ -30,7 +30,7 @@ clear_lanes n y xs long =
 clear_more : (n y : ℕ) (f : ℕ → ℕ) (xs ys : List ℕ) → length xs ≡ n → ys ≡ map f xs → clear n y ys ≡ map (λ x. cleared y (f x)) xs
 clear_more n y f xs ys long is = ap (clear n y) is ∙ clear_lanes n y (map f xs) (length-map xs f ∙ long) ∙ map-map (cleared y) f xs
 
--- a test that 0 passes, behind that
+-- a test that 0 passes, after that
 passes_or : (P : ℕ → Bool) (y x : ℕ) → P 0 ≡ true → P (cleared y x) ≡ (P x || eqb x y)
 passes_or P y x zero = by (eqb x y)
   where

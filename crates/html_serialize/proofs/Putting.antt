@@ -38,7 +38,7 @@ Broke-longer old new first second broke = record {
   failed = broke.failed;
 }
 
--- what came first was written, and a beginning of what came behind it
+-- what came first was written, and a beginning of what came after it
 pub Broke-behind : (old mid new : WriterView) (first second : List ℕ) → mid ≡ with_bytes old first → Broke mid second new → Broke old (first ++ second) new
 Broke-behind old mid new first second put broke = record {
   count = length first + broke.count;
@@ -52,7 +52,7 @@ Broke-behind old mid new first second put broke = record {
 pub with_bytes-then : (old mid new : WriterView) (first second : List ℕ) → mid ≡ with_bytes old first → new ≡ with_bytes mid second → new ≡ with_bytes old (first ++ second)
 with_bytes-then old mid new first second before put = put ∙ ap (λ (told : WriterView). with_bytes told second) before ∙ with_bytes-append old first second
 
--- bytes were put, and others behind them
+-- bytes were put, and others after them
 pub Puts-behind : {R : Type 0} (old mid new : WriterView) (first second : List ℕ) (result : Result R SerializeFault) → mid ≡ with_bytes old first → Puts mid second result new → Puts old (first ++ second) result new
 Puts-behind old mid new first second (Ok answer) put puts = puts ∙ ap (λ (told : WriterView). with_bytes told second) put ∙ with_bytes-append old first second
 Puts-behind old mid new first second (Err fault) put puts = (puts.0, Broke-behind old mid new first second put puts.1)

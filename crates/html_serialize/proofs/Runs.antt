@@ -65,7 +65,7 @@ bytes_run : Serializing → List Call → List ℕ
 bytes_run s [] = []
 bytes_run s (call ∷ calls) = bytes_of s call ++ bytes_behind (λ next. bytes_run next calls) (step s call)
 
--- what is told behind calls that were all made, and the bytes of those before others
+-- what is told after calls that were all made, and the bytes of those before others
 record Ran (s : Serializing) (made left : List Call) (reached : Serializing) : Type 0 where
   told : reached.told ≡ with_bytes s.told (bytes_run s made)
   bytes : bytes_run s (made ++ left) ≡ bytes_run s made ++ bytes_run reached left
@@ -101,7 +101,7 @@ ran [] left s reached is =
     record { told = ap (λ (x : Serializing). x.told) (sym same) ∙ with_bytes-none s.told; bytes = ap (λ (x : Serializing). bytes_run x left) same; goes = ap (λ (x : Serializing). run step x left) same }
 ran (call ∷ made) left s reached is = ran-step s call made left reached (step s call) refl is (λ next was. ran made left next reached was)
 
--- the bytes of one call, and of the trees behind it
+-- the bytes of one call, and of the trees after it
 one : (sc cr : Bool) (top : Entry) (stack : List Entry) (told : WriterView) (rest : List Call) (text : List ℕ) (next : Trees) (more : List ℕ)
     → more ≡ encode_utf8_all (written sc top next) ++ bytes_run (at sc cr (top ∷ stack) (with_text (with_text told text) (written sc top next))) rest
     → encode_utf8_all text ++ more ≡ encode_utf8_all (text ++ written sc top next) ++ bytes_run (at sc cr (top ∷ stack) (with_text told (text ++ written sc top next))) rest

@@ -11,7 +11,7 @@ use Rattle.html_serialize.specs.Serializing.{Does, Serializing, behind_stack, by
 IsOk-from : {A : Type 0} (behind : Result A SerializeFault) (x : A) → behind ≡ Ok x → IsOk behind
 IsOk-from behind x is = rw is refl
 
--- bytes were put once the stack was as it is behind the call
+-- bytes were put once the stack was as it is after the call
 pub Does-puts : {R : Type 0} (behind : Result (List Entry) SerializeFault) (bytes : List ℕ) (stack stack' : List Entry) (told told' : WriterView) (result : Result R SerializeFault)
     → behind ≡ Ok stack' → Puts told bytes result told' → Does behind bytes stack told result stack' told'
 Does-puts behind bytes stack stack' told told' (Ok _) is puts = (is, puts)

@@ -17,7 +17,7 @@ in_value InValue = true
 abbrev pub is_markup : ℕ → Bool
 is_markup b = nat_eq b 0x3C || nat_eq b 0x3E || nat_eq b 0x26
 
--- a quote in a value, or the byte C2 where A0 is behind it
+-- a quote in a value, or the byte C2 where A0 is after it
 abbrev pub is_other : Mode → ℕ → ℕ → Bool
 is_other mode b next = (in_value mode && nat_eq b 0x22) || (nat_eq b 0xC2 && nat_eq next 0xA0)
 
@@ -30,7 +30,7 @@ abbrev pub quote_of : Mode → ℕ
 quote_of InText = 0x26
 quote_of InValue = 0x22
 
--- whether a byte begins a character that is escaped, by the byte behind it
+-- whether a byte begins a character that is escaped, by the byte after it
 abbrev pub is_replaced : Mode → ℕ → ℕ → Bool
 is_replaced mode b next = is_markup b || is_other mode b next
 
@@ -62,6 +62,6 @@ pub record IsClear (mode : Mode) (bytes : List ℕ) (from at : ℕ) : Type 0 whe
 abbrev pub written_through : List ℕ → ℕ → ℕ → List ℕ
 written_through bytes start at = take (at - start) (drop start bytes) ++ cond (nat_lt at (length bytes)) (reference_of (slice_index bytes at)) []
 
--- the place behind an escaped character, if it is not the end
+-- the place after an escaped character, if it is not the end
 abbrev pub place_behind : List ℕ → ℕ → ℕ
 place_behind bytes at = cond (nat_lt at (length bytes)) (cond (nat_eq (slice_index bytes at) 0xC2) (at + 2) (at + 1)) at

@@ -63,7 +63,7 @@ without_last creates (entry ∷ stack) = Ok stack
 without_last true [] = Ok []
 without_last false [] = Err NoElemInfo
 
--- the stack behind a call
+-- the stack after a call
 abbrev pub stack_behind : Serializing → Call → Result (List Entry) SerializeFault
 stack_behind s (StartElem name attributes) = map_ok (λ stack. entry_under s.scripting (top_of stack) name ∷ stack) (with_parent s.creates s.stack)
 stack_behind s (EndElem name) = without_last s.creates s.stack
@@ -89,13 +89,13 @@ behind_stack s call stack = record s { stack = stack; told = with_bytes s.told (
 unfoldable pub step : Serializing → Call → Result Serializing SerializeFault
 step s call = cond s.failed (Err Failed) (map_ok (behind_stack s call) (stack_behind s call))
 
--- the stack behind a part of a call, and the entry that stood on top; or why there is none
+-- the stack after a part of a call, and the entry that stood on top; or why there is none
 abbrev pub Takes : Result (List Entry) SerializeFault → List Entry → Result Entry SerializeFault → List Entry → Type 0
 Takes behind old (Ok top) new = (behind ≡ Ok new) × (top ≡ top_of old)
 Takes behind old (Err Memory) new = IsOk behind
 Takes behind old (Err fault) new = (behind ≡ Err fault) × (new ≡ old)
 
--- what a call leaves of the stack and of what the writer tells, by the stack behind it and its bytes
+-- what a call leaves of the stack and of what the writer tells, by the stack after it and its bytes
 abbrev pub Does : {R : Type 0} → Result (List Entry) SerializeFault → List ℕ → List Entry → WriterView → Result R SerializeFault → List Entry → WriterView → Type 0
 Does behind bytes stack told (Ok _) stack' told' = (behind ≡ Ok stack') × (told' ≡ with_bytes told bytes)
 Does behind bytes stack told (Err Write) stack' told' = IsOk behind × Broke told bytes told'

@@ -121,7 +121,7 @@ fn reference(lead: u8) -> &'static str
     }
 }
 
-/// Writes the bytes from a place up to another, and the character there as a reference, if it is not the end. Answers the place behind it.
+/// Writes the bytes from a place up to another, and the character there as a reference, if it is not the end. Answers the place after it.
 fn put_through<Wr: Target>(
     writer: &mut Wr,
     bytes: &[u8],

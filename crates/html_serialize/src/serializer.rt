@@ -191,7 +191,7 @@ impl<Wr: Target> Serializer for HtmlSerializer<Wr> {
     }
 }
 
-/// A writer behind a walk, with the walk's answer.
+/// A writer after a walk, with the walk's answer.
 #[derive(Drop)]
 struct Walked<Wr> {
     writer: Wr,

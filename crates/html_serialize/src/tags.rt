@@ -11,7 +11,7 @@ use crate::put::{put, put_three};
 use markup::devices::Target;
 use markup::{Attribute, KnownName, QualName, SerializeFault};
 
-/// Writes the name of an attribute behind a space, and what stands between it and the value.
+/// Writes the name of an attribute after a space, and what stands between it and the value.
 fn put_attribute_name<Wr: Target>(writer: &mut Wr, name: &QualName) -> Result<(), SerializeFault>
     ensures puts { Puts (told_by Wr.written Wr.failures writer.old) (attribute_front name.now) result (told_by Wr.written Wr.failures writer.new) }
     ensures same_references { Wr.references writer.new ≡ Wr.references writer.old }
@@ -25,7 +25,7 @@ fn put_attribute_name<Wr: Target>(writer: &mut Wr, name: &QualName) -> Result<()
     }
 }
 
-/// Writes an attribute, behind a space.
+/// Writes an attribute, after a space.
 fn put_attribute<Wr: Target>(writer: &mut Wr, attribute: &Attribute) -> Result<(), SerializeFault>
     ensures puts { Puts (told_by Wr.written Wr.failures writer.old) (encode_utf8_all (written_attribute attribute.now)) result (told_by Wr.written Wr.failures writer.new) }
     ensures same_references { Wr.references writer.new ≡ Wr.references writer.old }
@@ -35,7 +35,7 @@ fn put_attribute<Wr: Target>(writer: &mut Wr, attribute: &Attribute) -> Result<(
     put(writer, b"\"")
 }
 
-/// Writes attributes, each behind a space.
+/// Writes attributes, each after a space.
 fn put_attributes<Wr: Target>(writer: &mut Wr, attrs: &[Attribute]) -> Result<(), SerializeFault>
     ensures puts { Puts (told_by Wr.written Wr.failures writer.old) (encode_utf8_all (written_attributes attrs.now)) result (told_by Wr.written Wr.failures writer.new) }
     ensures same_references { Wr.references writer.new ≡ Wr.references writer.old }

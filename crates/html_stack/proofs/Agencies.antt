@@ -118,7 +118,7 @@ same-tag {H} a b t u x e k = ap (tag_or t) (sym e ∙ k) where
   tag_or t (held.Element h u) = u
   tag_or t held.Marker = t
 
--- those behind a place
+-- those after a place
 pub rest-is : {X : Type 0} (xs ys : List X) (i : ℕ) → ys ≡ xs → slice_range ys i (length ys) ≡ drop i xs
 rest-is xs ys i e = between_is ys i (length ys) ∙ ap (drop i) (take-length ys ∙ e)
 

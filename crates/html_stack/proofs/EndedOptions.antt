@@ -22,7 +22,7 @@ end-tag-nodes name s = by (finds_generic (is_named name) s.open_elems) where
   by true = closed-nodes (is_named name) (generate_implied_end_except (is_named name) s)
   by false = refl
 
--- what was a node is one behind the end tag
+-- what was a node is one after the end tag
 pub still-node : {A : Type 0} (number : A → ℕ) (o : Option A) (name : List ℕ) (old new : Stacked) (f g : Forest) → ((s : State) → joined s new g ≡ process_end_tag_in_body name (joined s old f)) → IfSome o (λ x. IsNode f (number x)) → IfSome o (λ x. IsNode g (number x))
 still-node number o name old new f g made h =
     let same : g.nodes ≡ f.nodes = ap (λ s. s.forest.nodes) (made (some_state false)) ∙ end-tag-nodes name (joined (some_state false) old f) in

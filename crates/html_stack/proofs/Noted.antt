@@ -65,7 +65,7 @@ none-range sign notes i k note none e range fails j n from inside = elim (below-
   | inr high ↦ none j n high inside
 ]
 
--- none stands behind the last
+-- none stands after the last
 pub none-end : (sign : Sign) (notes : List Note) → NoneNoted sign notes (length notes)
 none-end sign notes j n from inside = absurd (omega (arith, from, inside))
 
@@ -430,7 +430,7 @@ mode-beyond s = same-answer (mode_of_open s) (λ x. bears AsksMode x || bears As
 pub length-named : {H : Type 0} (items : List (OpenElement H)) → length (named items) ≡ length items
 length-named items = rw length-map refl
 
--- the same notes, where elements are put behind those that they are of
+-- the same notes, where elements are put after those that they are of
 pub more-noted : {H : Type 0} (items front rest : List (OpenElement H)) (d : Depths) → items ≡ front ++ rest → IsNoted (named front) d → IsNoted (named items) d
 more-noted items front rest d e is =
     let whole : named items ≡ named front ++ named rest = ap named e ∙ map-append (λ x. x.name) front rest in

@@ -1,4 +1,4 @@
--- Where nodes are put, and what stands behind it.
+-- Where nodes are put, and what stands after it.
 use Rattle.std.proofs.Common.{◌≡◌, ◌∙◌, ℕ, ◌<◌, ◌≤◌, Bool, true, false, List, [], ◌∷◌, ◌++◌, Option, Some, None, refl, sym, ap, subst, codes, arith, map, reverse, take, drop, length, get_or, suc}
 use Rattle.std.specs.Prelude.{◌||◌, ◌&&◌, cond, IfSome}
 use Rattle.std.specs.Str.{bytes_eq}

@@ -1,4 +1,4 @@
--- What stands behind a node that is put somewhere, and is no element.
+-- What stands after a node that is put somewhere, and is no element.
 use Rattle.std.proofs.Common.{◌≡◌, ◌∙◌, ℕ, ◌<◌, List, Some, None, refl, sym, ap, subst, arith}
 use Rattle.markup.specs.Forest.{Forest, IsLoose, IsParent, IsPlace, NodeData, add_attributes, element_name, holds_children, node_count, parent_at, Last, put, put_new, put_text, with_node}
 use Rattle.markup.specs.Forest.NodeData.{Comment, Doctype}

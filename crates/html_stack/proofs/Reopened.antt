@@ -26,7 +26,7 @@ use Rattle.html_stack.proofs.Newest.{parts, split-at}
 use Rattle.html_stack.proofs.StackEdits.{newest-open}
 use Rattle.html_stack.proofs.States.{some_state}
 
--- lists are split in one way, where what is behind is as long
+-- lists are split in one way, where what is after is as long
 same-split : {X : Type 0} (xs ys : List X) (x y : X) (xs' ys' : List X) → length xs' ≡ length ys' → xs ++ x ∷ xs' ≡ ys ++ y ∷ ys' → (xs ≡ ys) × (x ≡ y) × (xs' ≡ ys')
 same-split [] [] x y xs' ys' l e = (refl, head-is e, tail-is e) where
   head-is : x ∷ xs' ≡ y ∷ ys' → x ≡ y

@@ -118,7 +118,7 @@ module _ {H : Type 0} (node : H → ℕ) (f0 : Forest) (xs : List (OpenElement H
   pub removed-stands : IsStanding (remove w.forest w.last_node) (opens_of node xs) w.active_formatting
   removed-stands = changed-Standing w.forest (remove w.forest w.last_node) (opens_of node xs) w.active_formatting (stays-removed w.forest w.forest w.last_node (record { tree = is.walked.tree; names = record { names = λ k name e. e; holds = λ k at. at }; above = λ a k less up. up })) walk-stands
 
-  -- behind the put
+  -- after the put
   pub is-placed : Placed f0 (put (remove w.forest w.last_node) (place_for foster (remove w.forest w.last_node) (opens_of node xs) (current_node (opens_of node (take from xs)))) w.last_node) (node (get_or xs to d).handle)
       (parent_at (place_for foster (remove w.forest w.last_node) (opens_of node xs) (current_node (opens_of node (take from xs))))) w.copies w.active_formatting
   is-placed = walked-Placed f0 (node (get_or xs to d).handle) w (place_for foster (remove w.forest w.last_node) (opens_of node xs) (current_node (opens_of node (take from xs)))) is.walked is.at is.there is.out

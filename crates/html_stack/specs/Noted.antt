@@ -116,7 +116,7 @@ pub record IsAt (xs : List Named) (i : ℕ) (x : Named) : Type 0 where
   pub within : i < length xs
   pub here : (d : Named) → slice_index_or xs i d ≡ x
 
--- a note, with its name once more, is of the element behind those that are noted
+-- a note, with its name once more, is of the element after those that are noted
 pub record IsNext (xs : List Named) (depths : Depths) (note : Note) (name : List ℕ) : Type 0 where
   pub within : length depths.notes.items < length xs
   pub of : (x : Named) → IsNoteOf (slice_index_or xs (length depths.notes.items) x) note

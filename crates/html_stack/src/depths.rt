@@ -107,7 +107,7 @@ impl Depths {
         }
     }
 
-    /// Puts a note behind the others, and says of its name that it is there; whether memory was there for both.
+    /// Puts a note after the others, and says of its name that it is there; whether memory was there for both.
     fn put(&mut self, note: Note, name: Text) -> bool
         ensures noted { (xs : List Named) → IsNext xs self.old note name → IsNoted xs self.old → IsNoted xs self.new }
         ensures added { result ≡ true → length self.new.notes.items ≡ suc (length self.old.notes.items) }

@@ -98,7 +98,7 @@ fn sets_quirks(
     Ok(is_quirky(&doctype))
 }
 
-// The same where the identifier goes on behind a prefix.
+// The same where the identifier goes on after a prefix.
 fn prefix_sets_quirks(alloc: Global, prefix: &str) -> Result<bool, AllocError> {
     let whole = format!(in alloc; "{prefix}EN")?;
     sets_quirks(alloc, whole.as_str(), None)

@@ -50,7 +50,7 @@ fn close_all(_forest: &Forest, stack: &mut Stack<Forest>)
     stack.pop_until_current(TagSet::Html);
 }
 
-// How many entries are listed behind these; no error is told.
+// How many entries are listed after these; no error is told.
 fn has_entries(alloc: Global, names: &[&str], entries: usize) -> Result<bool, ParseFault> {
     let (mut forest, mut stack) = started(alloc)?;
     list_each(alloc, &mut forest, &mut stack, names)?;

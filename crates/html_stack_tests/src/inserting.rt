@@ -289,14 +289,14 @@ pub(crate) fn is_written(
     Ok(writer.written() == document.as_bytes())
 }
 
-// Whether this is written where all of these calls are made behind the root.
+// Whether this is written where all of these calls are made after the root.
 fn is_made(alloc: Global, calls: &[Call<'_>], document: &str) -> Result<bool, ParseFault> {
     let (mut forest, mut stack) = started(alloc)?;
     make_each(alloc, &mut forest, &mut stack, calls)?;
     is_written(alloc, &mut forest, document)
 }
 
-/// Calls behind the root, and what is written then.
+/// Calls after the root, and what is written then.
 pub(crate) const ROWS: &[(&[Call<'static>], &str)] = &[
     (&[], "<html></html>"),
     (

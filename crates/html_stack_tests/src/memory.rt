@@ -67,7 +67,7 @@ fn assert_if_told(rt: &impl Abort, answer: Result<bool, ParseFault>) {
     }
 }
 
-/// Takes all steps, those too that come behind one which was refused memory. Says whether one was.
+/// Takes all steps, those too that come after one which was refused memory. Says whether one was.
 fn take_all(
     rt: &impl Abort,
     alloc: Global,
@@ -131,7 +131,7 @@ fn assert_row(rt: &impl Abort, alloc: Global, row: &Row<'_>) {
     assert_forest(rt, alloc, &mut forest, refused, row.1);
 }
 
-/// Sees what calls lead to behind the root.
+/// Sees what calls lead to after the root.
 fn assert_made(rt: &impl Abort, alloc: Global, calls: &[Call<'_>], document: &str) {
     let Ok((mut forest, mut stack)) = started(alloc) else {
         return;

@@ -169,7 +169,7 @@ fn sets_are_looked_for_in_scope(rt: HostRuntime) {
     assert!(rt; is_heading_in_scope(rt.alloc()) == Ok(true));
 }
 
-// Whether this many elements stay open behind each way to leave.
+// Whether this many elements stay open after each way to leave.
 fn leave(alloc: Global, stack: &mut Stack<Forest>) -> Result<bool, ParseFault> {
     stack.pop_until(TagSet::TdTh);
     let without_cell = stack.open_elems().len() == 5;
@@ -213,7 +213,7 @@ fn list(alloc: Global, stack: &mut Stack<Forest>, name: &str) -> Result<(), Pars
     stack.list_current(tag)
 }
 
-// Lists two elements behind a marker, the second of which is opened first.
+// Lists two elements after a marker, the second of which is opened first.
 fn list_two(
     alloc: Global,
     forest: &mut Forest,
@@ -232,7 +232,7 @@ fn has_body(stack: &Stack<Forest>) -> bool {
     }
 }
 
-// Whether each entry behind the marker has its place and its tag.
+// Whether each entry after the marker has its place and its tag.
 fn are_at_their_places(stack: &Stack<Forest>) -> bool {
     for (place, _, tag) in stack.active_formatting_end_to_marker() {
         if !((place == 2 && tag.name.is("i")) || (place == 1 && tag.name.is("b"))) {

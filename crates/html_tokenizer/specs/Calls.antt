@@ -43,7 +43,7 @@ paused_with number pauses Done = pauses
 paused_with number pauses (Script handle) = pauses ++ reply.Script (number handle) ∷ []
 paused_with number pauses (EncodingIndicator label) = pauses ++ reply.EncodingIndicator label ∷ []
 
--- what was noted, with what is owed behind it and that pause
+-- what was noted, with what is owed after it and that pause
 abbrev pub noted_with : {H : Type 0} → (H → ℕ) → Owed → Notes ℕ → TokenizerResult H → Notes ℕ
 noted_with number owed notes result = record (more owed notes) { pauses = paused_with number notes.pauses result }
 
@@ -80,7 +80,7 @@ HeldIn rows st None = Unit {0}
 HeldIn rows st (Some (Held cs)) = BeginsReference (is_value st) rows cs
 HeldIn rows st (Some Unknown) = Unit {0}
 
--- the letters that are held behind "</" in raw text, if they are, begin the name of the end tag that ends it
+-- the letters that are held after "</" in raw text, if they are, begin the name of the end tag that ends it
 abbrev pub EndHeldIn : State → FittingEnd → Type 0
 EndHeldIn st e = (kind : RawKind) → st ≡ state.RawEndTagName kind → BeginsEnd e.name e.letters
 
@@ -133,7 +133,7 @@ module _ {K H : Type 0} (Sink : Ghosts K H) where
     pub sound : Sink.is_sound (Sink.view k.sink)
     pub fits : fits_in (rows_of k) k.char_ref k.state ≡ true
 
-  -- Where a step ends so: behind some characters; with an empty queue; or, where it hands back control, behind the ">" of a tag,
+  -- Where a step ends so: after some characters; with an empty queue; or, where it hands back control, after the ">" of a tag,
   -- of which this is the reply, with data to come and nothing held.
   abbrev pub Leaves : ProcessResult H → Tokenizer K → List ℕ → Queue → Type 0
   Leaves flow.Continue new taken to = 0 < length taken
@@ -176,7 +176,7 @@ module _ {K H : Type 0} (Sink : Ghosts K H) where
   Moves old new from to (Err fault) = IsStuck old new.sink from to fault
 
   -- Where a call ends so: with an empty queue, where of a reference no more is held than the front of one, of the end tag of raw text
-  -- no more than letters that begin its name, and of all else no more than the front of one item; or, at a pause, behind the ">" of a
+  -- no more than letters that begin its name, and of all else no more than the front of one item; or, at a pause, after the ">" of a
   -- tag, of which this is the reply, with data to come and nothing held.
   abbrev pub Rests : TokenizerResult H → Tokenizer K → List ℕ → Queue → Type 0
   Rests Done new taken to = (to.characters ≡ []) × HeldIn (rows_of new) new.state new.char_ref × EndHeldIn new.state new.raw_end × Untold (Sink.State × Notes ℕ) new.state new
@@ -187,7 +187,7 @@ module _ {K H : Type 0} (Sink : Ghosts K H) where
   abbrev pub Fed : Tokenizer K → Tokenizer K → Queue → Queue → TokenizerResult H → Type 0
   Fed old new from to result = HasMoved (λ pauses. paused_with Sink.number pauses result) (λ taken. Rests result new taken to) old new from to
 
-  -- Some characters were taken, and behind them the tokenizer stood where a step failed, which left the sink so.
+  -- Some characters were taken, and after them the tokenizer stood where a step failed, which left the sink so.
   pub record HasFailed (old : Tokenizer K) (left : K) (from to : Queue) (fault : ParseFault) : Type 0 where
     pub at : Tokenizer K
     pub via : Queue
@@ -198,7 +198,7 @@ module _ {K H : Type 0} (Sink : Ghosts K H) where
   Runs old new from to (Ok result) = Fed old new from to result
   Runs old new from to (Err fault) = HasFailed old new.sink from to fault
 
-  -- The end was told, behind what was owed: what was to come over no further text is what the sink is now.
+  -- The end was told, after what was owed: what was to come over no further text is what the sink is now.
   pub record HasEnded (old new : Tokenizer K) : Type 0 where
     pub owed : Owed
     -- the sink before it was told that all tokens were, and what that made of it

@@ -3,7 +3,7 @@ use Rattle.std.specs.Prelude.{Bool, true, false, ◌||◌}
 use Rattle.html_tokens.specs.declared.states.State.{State}
 use Rattle.html_tokens.specs.declared.states.State.TheVariants as state
 
--- behind "<!", or in a comment
+-- after "<!", or in a comment
 abbrev pub is_comment_part : State → Bool
 is_comment_part state.MarkupDeclarationOpen = true
 is_comment_part state.BogusComment = true

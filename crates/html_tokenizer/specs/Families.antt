@@ -1,4 +1,4 @@
--- Which states stand behind "<!", or read a comment that begins otherwise (HTML Standard, sections 13.2.5.41 to 13.2.5.71).
+-- Which states stand after "<!", or read a comment that begins otherwise (HTML Standard, sections 13.2.5.41 to 13.2.5.71).
 use Rattle.std.specs.Prelude.{Bool, true, false}
 use Rattle.html_tokens.specs.declared.states.State.{State}
 use Rattle.html_tokens.specs.declared.states.State.TheVariants.{Doctype, BeforeDoctypeName, DoctypeName, AfterDoctypeName, AfterDoctypeKeyword, BeforeDoctypeIdentifier, DoctypeIdentifierDoubleQuoted, DoctypeIdentifierSingleQuoted, AfterDoctypeIdentifier, BetweenDoctypePublicAndSystemIdentifiers, BogusDoctype, BogusComment, MarkupDeclarationOpen, CommentStart, CommentStartDash, Comment, CommentLessThanSign, CommentLessThanSignBang, CommentLessThanSignBangDash, CommentLessThanSignBangDashDash, CommentEndDash, CommentEnd, CommentEndBang, CdataSection, CdataSectionBracket, CdataSectionEnd}

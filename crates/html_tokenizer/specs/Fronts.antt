@@ -70,7 +70,7 @@ pub record IsNamed (name rest text : List ℕ) : Type 0 where
   pub utf8 : IsUtf8 name
   pub named : IsTagName (chars name)
 
--- the same behind what stands before the name
+-- the same after what stands before the name
 abbrev pub IsOpening : TagKind → List ℕ → List ℕ → List ℕ → Type 0
 IsOpening kind name rest text = (text ≡ mark kind ++ (name ++ rest)) × IsUtf8 name × IsTagName (chars name)
 
@@ -86,7 +86,7 @@ pub record IsReferenceAt (name rest text : List ℕ) : Type 0 where
   pub whole : text ≡ 38 ∷ (name ++ 59 ∷ rest)
   pub utf8 : IsUtf8 name
 
--- a name of the table with its ";": a reference that no character behind it lengthens
+-- a name of the table with its ";": a reference that no character after it lengthens
 pub record IsWholeName (rows : List Row) (cs : List ℕ) : Type 0 where
   pub checked : IsCheckedTable rows
   pub front : is_held_front rows cs ≡ true
@@ -115,7 +115,7 @@ ended_in _ k = k
 abbrev pub ended : {K : Type 0} → Tokenizer K → Tokenizer K
 ended k = ended_in k.state k
 
--- the machine stands behind a tag's name or a value in quotes, or in an attribute's name or a value without quotes
+-- the machine stands after a tag's name or a value in quotes, or in an attribute's name or a value without quotes
 pub data IsInTag {K : Type 0} (k : Tokenizer K) : Type 0 where
   after_name : IsAt k state.TagName → IsInTag k
   after_value : IsAt k state.AfterAttributeValueQuoted → IsInTag k
@@ -140,12 +140,12 @@ IsOfLine c = (nat_eq c 0 ≡ false) × (nat_eq c 13 ≡ false) × (nat_eq c 38 �
 abbrev pub AreLines : List ℕ → Type 0
 AreLines cs = All IsOfLine cs
 
--- a number of line breaks behind the characters of a text
+-- a number of line breaks after the characters of a text
 abbrev pub counted_all : ℕ → List ℕ → ℕ
 counted_all breaks [] = breaks
 counted_all breaks (c ∷ t) = counted_all (counted breaks c) t
 
--- the bytes of a text are those of lines, and what follows them; behind the lines so many line breaks were read, and so many before
+-- the bytes of a text are those of lines, and what follows them; after the lines so many line breaks were read, and so many before
 pub record HasLines (text rest : List ℕ) (before behind : ℕ) : Type 0 where
   pub front : List ℕ
   pub whole : text ≡ front ++ rest

@@ -62,7 +62,7 @@ module _ {K H : Type 0} (Sink : Ghosts K H) where
   abbrev pub owes : Tokenizer K → List ℕ → ℕ
   owes k t = errors_of (noted_to_come k t)
 
-  -- Whatever follows, what was to come over all that the calls took is what is to come behind them.
+  -- Whatever follows, what was to come over all that the calls took is what is to come after them.
   abbrev pub AreCallsChained : Type 0
   AreCallsChained = (k new : Tokenizer K) (cs : List Call) (notes : Notes ℕ) (t : List ℕ) → IsChain k cs new
       → to_come Sink k notes (taken_by cs ++ t) ≡ to_come Sink new (noted_behind notes cs) t
@@ -73,7 +73,7 @@ module _ {K H : Type 0} (Sink : Ghosts K H) where
       → noted_to_come k (taken_by cs) ≡ Ok (Sink.view ended.sink, more e.owed (noted_behind no_notes cs))
 
   -- Two tokenizers that make the same of whatever follows, and that take the same text, in whatever pieces, put in at pauses too,
-  -- leave the same state of the sink behind their ends, and the same pauses.
+  -- leave the same state of the sink after their ends, and the same pauses.
   abbrev pub IsAnyPieces : Type 0
   IsAnyPieces = (k new ended other new' ended' : Tokenizer K) (cs cs' : List Call)
       → HaveSameRests k other → IsChain k cs new → IsChain other cs' new' → taken_by cs ≡ taken_by cs'
@@ -88,7 +88,7 @@ module _ {K H : Type 0} (Sink : Ghosts K H) where
       → min (Sink.errors sink + (owed Sink.step Sink.is_quiet Sink.asks_cdata Sink.ended table (first_stand opts.initial_state opts.last_start_tag_name) 0 (Sink.view sink) (text_of opts cs) + (owed_for_text opts.exact_errors (text_of opts cs)).faults)) 0xffff_ffff_ffff_ffff ≤ Sink.errors ended.sink
 
   -- A text that is read without anything that is not clean, and without an error of the sink, tells no error, where control
-  -- characters and noncharacters are not told, or it has none: behind it is what the sink's own end makes of the number before it.
+  -- characters and noncharacters are not told, or it has none: after it is what the sink's own end makes of the number before it.
   abbrev pub IsCleanTextQuiet : Type 0
   IsCleanTextQuiet = (k new ended : Tokenizer K) (cs : List Call) (sink : K) (opts : TokenizerOpts) (table : List Row)
       → IsNew Sink k sink opts table → IsChain k cs new → (e : HasEnded Sink new ended)
@@ -97,7 +97,7 @@ module _ {K H : Type 0} (Sink : Ghosts K H) where
       → Sink.errors ended.sink ≡ Sink.errors_ended (Sink.view e.told) (Sink.errors sink)
 
   -- What was owed for the characters that a call took and those that follow was owed for items that ended, so many of which errors
-  -- were told, or is owed behind the call. What was owed at the end was told.
+  -- were told, or is owed after the call. What was owed at the end was told.
   abbrev pub IsOwing : Type 0
   IsOwing =
       ((c : Call) (t : List ℕ) → owes c.before (c.fed.taken ++ t) ≡ c.fed.owed.faults + owes c.after t)

@@ -23,7 +23,7 @@ abbrev pub listening : {K H : Type 0} → (Sink : Ghosts K H) → Listener (Sink
 listening Sink = noting_listener Sink.step Sink.is_quiet Sink.asks_cdata Sink.ended
 
 module _ {T : Type 0} (to : Listener T) (rows : List Row) where
-  -- what a text makes of it, and what an item and the text behind it do
+  -- what a text makes of it, and what an item and the text after it do
   abbrev pub told_text : Stand → ℕ → T → List ℕ → Result T (Refusal × ℕ)
   told_text st b s t = reading to.step to.erred to.cdata to.ends rows st b s t
 

@@ -32,7 +32,7 @@ pending None = []
 pending (Some (Held cs)) = 38 ∷ cs
 pending (Some Unknown) = []
 
--- what was wrong with what was told: an unknown name stands behind "&"
+-- what was wrong with what was told: an unknown name stands after "&"
 abbrev pub fault_behind : Option Ampersand → Option Fault
 fault_behind None = None
 fault_behind (Some (Held cs)) = None
@@ -71,7 +71,7 @@ module _ {K T : Type 0} (to : Listener T) where
   abbrev pub played : Item → Tokenizer K → ℕ → T → List ℕ → Result T (Refusal × ℕ)
   played i k b s t = told_item to (rows_of k) i b s t
 
-  -- What the characters t make of the sink s behind b line breaks, where the machine is in this state.
+  -- What the characters t make of the sink s after b line breaks, where the machine is in this state.
   unfoldable pub held_at : State → Tokenizer K → ℕ → T → List ℕ → Result T (Refusal × ℕ)
   held_at state.Data k b s t = read_at InData k b s t
   held_at state.Plaintext k b s t = read_at InPlaintext k b s t
@@ -135,7 +135,7 @@ module _ {K T : Type 0} (to : Listener T) where
   held_at state.CdataSectionBracket k b s t = read_at InCdata k b s (93 ∷ t)
   held_at state.CdataSectionEnd k b s t = read_at InCdata k b s (93 ∷ 93 ∷ t)
 
-  -- the same where the machine is, with the reference that is held, or behind an unknown name
+  -- the same where the machine is, with the reference that is held, or after an unknown name
   abbrev pub held : Tokenizer K → ℕ → T → List ℕ → Result T (Refusal × ℕ)
   held k b s t = held_at k.state k b (erred_by to.erred (fault_behind k.char_ref) s) (pending k.char_ref ++ t)
 

@@ -72,7 +72,7 @@ abbrev pub and_more : ℕ → ℕ → ℕ
 and_more zero n = n
 and_more (suc faults) n = suc (and_more faults n)
 
--- what was noted, and this behind it
+-- what was noted, and this after it
 abbrev pub more : Owed → Notes ℕ → Notes ℕ
 more owed notes = record notes { errors = and_more owed.faults notes.errors; is_quiet = owed.is_quiet && notes.is_quiet }
 
@@ -160,7 +160,7 @@ module _ {K H : Type 0} (Sink : Ghosts K H) where
     pub line : ℕ
     pub is : Sink.step before (TagToken tag) line ≡ Ok (Sink.view new, answer)
 
-  -- Where a character hands back control: it is the ">" of a tag, of which this is the reply, behind which comes data, and nothing
+  -- Where a character hands back control: it is the ">" of a tag, of which this is the reply, after which comes data, and nothing
   -- is held.
   abbrev pub PausesAt : ProcessResult H → ℕ → Tokenizer K → Type 0
   PausesAt flow.Continue c k = Unit {0}
@@ -168,7 +168,7 @@ module _ {K H : Type 0} (Sink : Ghosts K H) where
   PausesAt (flow.Script handle) c k = (c ≡ 62) × IsAt k state.Data × Replied k.sink (reply.Script (Sink.number handle))
   PausesAt (flow.EncodingIndicator label) c k = (c ≡ 62) × IsAt k state.Data × Replied k.sink (reply.EncodingIndicator label)
 
-  -- The token has gone to the sink, which answered only that reading goes on, behind what is owed. Nothing else changes.
+  -- The token has gone to the sink, which answered only that reading goes on, after what is owed. Nothing else changes.
   pub record Emitted (owed : Owed) (token : Token) (old new : Tokenizer K) : Type 0 where
     pub gives : (line : ℕ) → line ≡ line_number old.stream.breaks → Sink.step (Sink.view old.sink) token line ≡ Ok (Sink.view new.sink, reply.Continue)
     pub changed : new ≡ record old { sink = new.sink }
@@ -200,7 +200,7 @@ module _ {K H : Type 0} (Sink : Ghosts K H) where
   Errs owed old new (Ok x) = Erred owed old new
   Errs owed old new (Err fault) = FallsAll old.sink new.sink fault
 
-  -- Characters were read: whatever follows, the machine makes of it what it would have made of it behind them. They owed this, and
+  -- Characters were read: whatever follows, the machine makes of it what it would have made of it after them. They owed this, and
   -- what they owe besides. The last of them may hand back control.
   pub record Read (chars : List ℕ) (besides : Owed → Owed) (breaks : ℕ) (behind : Stream) (old new : Tokenizer K) (result : ProcessResult H) : Type 0 where
     pub owed : Owed
@@ -228,7 +228,7 @@ module _ {K H : Type 0} (Sink : Ghosts K H) where
   abbrev pub owed_by : Tokenizer K → Owed
   owed_by k = and_heard (Sink.is_quiet (Sink.view k.sink) (TagToken k.tag)) (owed_for (grave_if (is_faulty_tag k.tag)))
 
-  -- The tag has gone to the sink behind its error, if it has one, and the machine is where the reply has it.
+  -- The tag has gone to the sink after its error, if it has one, and the machine is where the reply has it.
   pub record EndedTag (old new : Tokenizer K) (result : ProcessResult H) : Type 0 where
     pub same : (notes : Notes ℕ) (t : List ℕ)
         → (noting Sink.step Sink.is_quiet (Sink.view old.sink, more (owed_for (grave_if (is_faulty_tag old.tag))) notes) (TagToken old.tag) (line_number old.stream.breaks) >>= λ p. reads (rows_of old) (next_stand (behind_tag (standing old InData) old.tag) p.1) old.stream.breaks p.0 t)

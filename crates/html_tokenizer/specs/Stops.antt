@@ -56,7 +56,7 @@ state_stops state.BogusComment = Some (with_breaks (62 ∷ []))
 state_stops state.Comment = Some (with_breaks (45 ∷ []))
 state_stops _ = None
 
--- the same where errors of single characters are not told, and nothing is awaited behind "&"
+-- the same where errors of single characters are not told, and nothing is awaited after "&"
 abbrev pub stops_of : Bool → Option Ampersand → State → Option SmallCharSet
 stops_of true char_ref st = None
 stops_of false None st = state_stops st

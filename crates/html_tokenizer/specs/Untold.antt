@@ -42,7 +42,7 @@ module _ (T : Type 0) {K : Type 0} (st : State) (k : Tokenizer K) where
     pub in_text : (t : List ℕ) → is_text_place (place t) ≡ true
     pub same : (to : Listener T) (b : ℕ) (s : T) (t : List ℕ) → held_at to st k b s t ≡ read_at to (place t) k b s t
 
-  -- The front of one item is held, which is no text: this text behind it makes the item whole, whatever follows.
+  -- The front of one item is held, which is no text: this text after it makes the item whole, whatever follows.
   pub record IsFront : Type 0 where
     pub more : List ℕ
     pub item : Item

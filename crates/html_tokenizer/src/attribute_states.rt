@@ -166,7 +166,7 @@ impl<Sink: TokenSink> Tokenizer<Sink> {
         Ok(ProcessResult::Continue)
     }
 
-    /// Behind an attribute's name.
+    /// After an attribute's name.
     pub(crate) fn after_attribute_name_state(
         &mut self,
         c: char,
@@ -356,7 +356,7 @@ impl<Sink: TokenSink> Tokenizer<Sink> {
         Ok(ProcessResult::Continue)
     }
 
-    /// Behind an attribute's value in quotes.
+    /// After an attribute's value in quotes.
     pub(crate) fn after_attribute_value_quoted_state(
         &mut self,
         c: char,

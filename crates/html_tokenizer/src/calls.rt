@@ -85,13 +85,13 @@ impl<Sink: TokenSink> Tokenizer<Sink> {
     }
 
     /// Takes the characters of the input, and tells the sink what they say, up to the end of the input or a pause: an
-    /// end tag of a script, or a `meta` element that names an encoding. Behind a pause a later call goes on; text may be
+    /// end tag of a script, or a `meta` element that names an encoding. After a pause a later call goes on; text may be
     /// put at the input's front meanwhile, as `document.write` does.
     ///
     /// What the input does not yet decide is held: a tag, a comment, a doctype or a reference that may go on.
     ///
     /// Errors: what the sink refuses is passed on; the sink then stands before the token that it refused, and the input
-    /// behind the character that led to it. `Memory` where memory is wanting. From then on every call answers `Failed`, as
+    /// after the character that led to it. `Memory` where memory is wanting. From then on every call answers `Failed`, as
     /// it does where the sink had failed. `Ended` once the end was told, which changes nothing.
     pub fn feed(
         &mut self,

@@ -26,7 +26,7 @@ impl<Sink: TokenSink> Tokenizer<Sink> {
         )
     }
 
-    /// Takes a character, by what stands behind `&` if something does.
+    /// Takes a character, by what stands after `&` if something does.
     #[inline(always)]
     fn advance(&mut self, c: char) -> Result<ProcessResult<Sink::Handle>, ParseFault>
         requires sound { Sink.is_sound (Sink.view self.old.sink) }

@@ -1,4 +1,4 @@
-//! What stands behind `<!` (HTML Standard, section 13.2.5.42).
+//! What stands after `<!` (HTML Standard, section 13.2.5.42).
 ghost use Rattle.std.specs.Prelude.{◌≡◌, ◌∷◌, [], ◌++◌, true};
 ghost use Rattle.html_tokens.specs.declared.states.State.TheVariants as state;
 ghost use Rattle.html_tokenizer_parts.specs.declared.keyword.Word.TheVariants as word;

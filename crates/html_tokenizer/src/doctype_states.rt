@@ -30,7 +30,7 @@ pub(crate) fn no_doctype() -> Doctype
     }
 }
 
-/// The error of a character behind a keyword, if it is one: a quote.
+/// The error of a character after a keyword, if it is one: a quote.
 fn keyword_fault(kind: DoctypeIdKind, c: char) -> Option<ErrorCode> {
     if c != '"' && c != '\'' {
         return None;
@@ -41,7 +41,7 @@ fn keyword_fault(kind: DoctypeIdKind, c: char) -> Option<ErrorCode> {
     }
 }
 
-/// The error of a character behind an identifier, if it is one.
+/// The error of a character after an identifier, if it is one.
 fn identifier_fault(kind: DoctypeIdKind, c: char) -> Option<ErrorCode> {
     match kind {
         DoctypeIdKind::Public => {

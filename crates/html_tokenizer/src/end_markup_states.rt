@@ -32,7 +32,7 @@ impl<Sink: TokenSink> Tokenizer<Sink> {
         self.end_comment()
     }
 
-    /// The input ends behind `<!` and what may be part of a word: a bogus comment.
+    /// The input ends after `<!` and what may be part of a word: a bogus comment.
     fn end_declaration(&mut self) -> Result<(), ParseFault>
         requires at { IsAt self.old state.MarkupDeclarationOpen }
         requires sound { Sink.is_sound (Sink.view self.old.sink) }
@@ -78,7 +78,7 @@ impl<Sink: TokenSink> Tokenizer<Sink> {
         self.end_doctype()
     }
 
-    /// The input ends behind a doctype's name and what may be part of a keyword, which is dropped.
+    /// The input ends after a doctype's name and what may be part of a keyword, which is dropped.
     fn end_keyword_part(&mut self) -> Result<(), ParseFault>
         requires at { IsAt self.old state.AfterDoctypeName }
         requires sound { Sink.is_sound (Sink.view self.old.sink) }
@@ -89,7 +89,7 @@ impl<Sink: TokenSink> Tokenizer<Sink> {
         self.end_doctype()
     }
 
-    /// The input ends behind `<!`, or in a comment.
+    /// The input ends after `<!`, or in a comment.
     fn end_comment_part(&mut self) -> Result<(), ParseFault>
         requires at { is_comment_part self.old.state ≡ true }
         requires fresh { self.old.char_ref ≡ None }

@@ -19,7 +19,7 @@ use html_tokens::sink::TokenSink;
 use html_tokens::states::{AttrValueKind, RawKind, ScriptEscapeKind, State};
 use markup::ParseFault;
 
-/// Whether a state is one of a script's escaped text, behind `<!--`.
+/// Whether a state is one of a script's escaped text, after `<!--`.
 fn is_escaped(state: State) -> bool
     ensures { result ≡ is_escaped state }
 {
@@ -59,7 +59,7 @@ impl<Sink: TokenSink> Tokenizer<Sink> {
         self.emit_escaped_end()
     }
 
-    /// The input ends behind `<`, which was text.
+    /// The input ends after `<`, which was text.
     fn end_tag_open(&mut self) -> Result<(), ParseFault>
         requires at { IsAt self.old state.TagOpen }
         requires sound { Sink.is_sound (Sink.view self.old.sink) }
@@ -68,7 +68,7 @@ impl<Sink: TokenSink> Tokenizer<Sink> {
         self.emit_unopened(ErrorCode::EofBeforeTagName)
     }
 
-    /// The input ends behind `</`, which was text.
+    /// The input ends after `</`, which was text.
     fn end_end_tag_open(&mut self) -> Result<(), ParseFault>
         requires at { IsAt self.old state.EndTagOpen }
         requires sound { Sink.is_sound (Sink.view self.old.sink) }
@@ -77,7 +77,7 @@ impl<Sink: TokenSink> Tokenizer<Sink> {
         self.emit_unopened_end(ErrorCode::EofBeforeTagName)
     }
 
-    /// The input ends in raw text behind `<`, which is held where it may begin the fitting end tag.
+    /// The input ends in raw text after `<`, which is held where it may begin the fitting end tag.
     fn end_raw_less_than_sign(&mut self, kind: RawKind) -> Result<(), ParseFault>
         requires at { IsAt self.old (state.RawLessThanSign kind) }
         requires sound { Sink.is_sound (Sink.view self.old.sink) }
@@ -90,7 +90,7 @@ impl<Sink: TokenSink> Tokenizer<Sink> {
         self.emit_escaped_end()
     }
 
-    /// The input ends in raw text behind `</`, which was text.
+    /// The input ends in raw text after `</`, which was text.
     fn end_raw_end_tag_open(&mut self, kind: RawKind) -> Result<(), ParseFault>
         requires at { IsAt self.old (state.RawEndTagOpen kind) }
         requires sound { Sink.is_sound (Sink.view self.old.sink) }
@@ -100,7 +100,7 @@ impl<Sink: TokenSink> Tokenizer<Sink> {
         self.emit_escaped_end()
     }
 
-    /// The input ends in raw text behind `</` and letters, which were text.
+    /// The input ends in raw text after `</` and letters, which were text.
     fn end_raw_end_tag_name(&mut self, kind: RawKind) -> Result<(), ParseFault>
         requires at { IsAt self.old (state.RawEndTagName kind) }
         requires sound { Sink.is_sound (Sink.view self.old.sink) }
@@ -119,7 +119,7 @@ impl<Sink: TokenSink> Tokenizer<Sink> {
         self.report_error(ErrorCode::EofInCdata)
     }
 
-    /// The input ends in a CDATA section behind `]`, which was text.
+    /// The input ends in a CDATA section after `]`, which was text.
     fn end_cdata_section_bracket(&mut self) -> Result<(), ParseFault>
         requires at { IsAt self.old state.CdataSectionBracket }
         requires sound { Sink.is_sound (Sink.view self.old.sink) }
@@ -129,7 +129,7 @@ impl<Sink: TokenSink> Tokenizer<Sink> {
         self.report_error(ErrorCode::EofInCdata)
     }
 
-    /// The input ends in a CDATA section behind `]]`, which was text.
+    /// The input ends in a CDATA section after `]]`, which was text.
     fn end_cdata_section_end(&mut self) -> Result<(), ParseFault>
         requires at { IsAt self.old state.CdataSectionEnd }
         requires sound { Sink.is_sound (Sink.view self.old.sink) }
@@ -185,7 +185,7 @@ impl<Sink: TokenSink> Tokenizer<Sink> {
         }
     }
 
-    /// The input ends behind a reference in data.
+    /// The input ends after a reference in data.
     fn end_data_reference(&mut self, held: &HeldReference) -> Result<(), ParseFault>
         requires at { IsAt self.old state.Data }
         requires held { list_all is_held held.now ≡ true }
@@ -195,7 +195,7 @@ impl<Sink: TokenSink> Tokenizer<Sink> {
         self.emit_reference(held)
     }
 
-    /// The input ends behind a reference in text with references that only its end tag ends.
+    /// The input ends after a reference in text with references that only its end tag ends.
     fn end_rcdata_reference(&mut self, held: &HeldReference) -> Result<(), ParseFault>
         requires at { IsAt self.old (state.RawData raw.Rcdata) }
         requires held { list_all is_held held.now ≡ true }
@@ -205,7 +205,7 @@ impl<Sink: TokenSink> Tokenizer<Sink> {
         self.emit_reference(held)
     }
 
-    /// The input ends behind a reference in an attribute's value, whose tag is not told.
+    /// The input ends after a reference in an attribute's value, whose tag is not told.
     fn end_value_reference(
         &mut self,
         kind: AttrValueKind,
@@ -231,12 +231,12 @@ impl<Sink: TokenSink> Tokenizer<Sink> {
             State::Data => self.end_data_reference(held),
             State::RawData(RawKind::Rcdata) => self.end_rcdata_reference(held),
             State::AttributeValue(kind) => self.end_value_reference(kind, held),
-            // Never met: behind `&` the machine is in one of these three.
+            // Never met: after `&` the machine is in one of these three.
             _ => Ok(()),
         }
     }
 
-    /// The input ends behind an unknown name, of which nothing is held.
+    /// The input ends after an unknown name, of which nothing is held.
     fn end_unknown(&mut self) -> Result<(), ParseFault>
         requires fresh { self.old.char_ref ≡ None }
         requires fits { may_hold self.old.state ≡ true }

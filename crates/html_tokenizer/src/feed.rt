@@ -133,7 +133,7 @@ impl<Sink: TokenSink> Tokenizer<Sink> {
         Ok(ProcessResult::Continue)
     }
 
-    /// Puts what a whole name of a reference at the front of the input stands for behind a value, or else takes what comes next.
+    /// Puts what a whole name of a reference at the front of the input stands for after a value, or else takes what comes next.
     fn move_in_value(
         &mut self,
         kind: AttrValueKind,

@@ -1,4 +1,4 @@
-//! Attributes at the front of the input, which are taken at once behind one space each (HTML Standard, sections 13.2.5.32 to
+//! Attributes at the front of the input, which are taken at once after one space each (HTML Standard, sections 13.2.5.32 to
 //! 13.2.5.39): the name, and a value as far as its characters stand for themselves.
 ghost use Rattle.std.specs.Prelude.{◌≡◌, ◌<◌, ◌∷◌, true, false, Some, IfErr, IfOk, IfSome, OnOk};
 ghost use Rattle.std.specs.Str.{IsUtf8, chars};
@@ -51,7 +51,7 @@ fn is_filled(text: &str) -> bool
     !text.is_empty()
 }
 
-/// The name of an attribute at the front of a text behind a space, if one stands there, and what follows it.
+/// The name of an attribute at the front of a text after a space, if one stands there, and what follows it.
 fn name_of(text: &str) -> Option<(&str, &str)>
     ensures { IfSome result (λ r. IsNameAt r.0.now r.1.now text.now) }
 {
@@ -66,7 +66,7 @@ fn name_of(text: &str) -> Option<(&str, &str)>
 }
 
 impl<Sink: TokenSink> Tokenizer<Sink> {
-    /// Whether the machine stands where `>` ends the tag, and an attribute may follow a space: behind the tag's name or a value
+    /// Whether the machine stands where `>` ends the tag, and an attribute may follow a space: after the tag's name or a value
     /// in quotes, or in an attribute's name or a value without quotes.
     pub(crate) fn is_in_tag(&self) -> bool
         ensures { result ≡ true → IsInTag self.now }
@@ -119,7 +119,7 @@ impl<Sink: TokenSink> Tokenizer<Sink> {
         Ok(())
     }
 
-    /// Takes a value, behind its first quote, from the front of a text, as far as its characters stand for themselves: what is
+    /// Takes a value, after its first quote, from the front of a text, as far as its characters stand for themselves: what is
     /// left of the text.
     fn consume_quoted<'a>(
         &mut self,
@@ -166,7 +166,7 @@ impl<Sink: TokenSink> Tokenizer<Sink> {
         Ok(rest)
     }
 
-    /// Takes a value behind `=` from the front of a text, as far as it can be taken at once: what is left of the text.
+    /// Takes a value after `=` from the front of a text, as far as it can be taken at once: what is left of the text.
     fn consume_value<'a>(&mut self, text: &'a str) -> Result<&'a str, ParseFault>
         requires at { IsAt self.old state.BeforeAttributeValue }
         requires sound { Sink.is_sound (Sink.view self.old.sink) }
@@ -184,7 +184,7 @@ impl<Sink: TokenSink> Tokenizer<Sink> {
         self.consume_plain(text)
     }
 
-    /// Takes what follows an attribute's name, if it is `=`, and the value behind it: what is left of the text.
+    /// Takes what follows an attribute's name, if it is `=`, and the value after it: what is left of the text.
     pub(crate) fn consume_equals<'a>(&mut self, text: &'a str) -> Result<&'a str, ParseFault>
         requires at { IsAt self.old state.AttributeName }
         requires sound { Sink.is_sound (Sink.view self.old.sink) }

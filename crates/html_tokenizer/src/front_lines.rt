@@ -11,7 +11,7 @@ use html_tokens::Token;
 use html_tokens::sink::TokenSink;
 use markup::{ParseFault, Text};
 
-/// What follows the lines at the front of a text, and how many line breaks were read behind them, where so many were read before.
+/// What follows the lines at the front of a text, and how many line breaks were read after them, where so many were read before.
 pub(crate) fn behind_lines(text: &str, breaks: u64) -> (&str, u64)
     ensures { HasLines text.now result.0.now breaks result.1 }
 {
@@ -27,7 +27,7 @@ pub(crate) fn behind_lines(text: &str, breaks: u64) -> (&str, u64)
 }
 
 impl<Sink: TokenSink> Tokenizer<Sink> {
-    /// Tells lines of data as one text, behind which so many line breaks were read.
+    /// Tells lines of data as one text, after which so many line breaks were read.
     #[inline(always)]
     pub(crate) fn emit_lines(&mut self, lines: Text, breaks: u64) -> Result<(), ParseFault>
         requires at { IsAt self.old state.Data }

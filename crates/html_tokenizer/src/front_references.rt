@@ -67,7 +67,7 @@ impl<Sink: TokenSink> Tokenizer<Sink> {
         self.emit_reference(held)
     }
 
-    /// Puts what a whole name stands for behind an attribute's value.
+    /// Puts what a whole name stands for after an attribute's value.
     pub(crate) fn consume_whole_name(
         &mut self,
         kind: AttrValueKind,

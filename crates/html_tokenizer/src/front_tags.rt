@@ -111,7 +111,7 @@ impl<Sink: TokenSink> Tokenizer<Sink> {
         Ok(())
     }
 
-    /// Takes the beginning of a tag and the attributes behind it: what is left of the text.
+    /// Takes the beginning of a tag and the attributes after it: what is left of the text.
     pub(crate) fn consume_opening<'a>(
         &mut self,
         opening: Opening<'a>,

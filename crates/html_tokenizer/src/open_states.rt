@@ -1,4 +1,4 @@
-//! Behind `<` and `</` outside of raw text (HTML Standard, sections 13.2.5.6 and 13.2.5.7).
+//! After `<` and `</` outside of raw text (HTML Standard, sections 13.2.5.6 and 13.2.5.7).
 ghost use Rattle.std.specs.Prelude.{◌∷◌, [], Some};
 ghost use Rattle.std.specs.Char.{is_ascii_alphabetic};
 ghost use Rattle.html_tokens.specs.declared.states.State.TheVariants as state;

@@ -124,7 +124,7 @@ impl<Sink: TokenSink> Tokenizer<Sink> {
         }
     }
 
-    /// Behind `<`, where no escape may begin: `/`, or the `<` was text.
+    /// After `<`, where no escape may begin: `/`, or the `<` was text.
     fn held_less_than_sign(
         &mut self,
         kind: RawKind,
@@ -239,7 +239,7 @@ impl<Sink: TokenSink> Tokenizer<Sink> {
         self.raw_data_state(kind, c)
     }
 
-    /// Behind the whole fitting name.
+    /// After the whole fitting name.
     fn raw_end_tag(
         &mut self,
         kind: RawKind,
@@ -263,7 +263,7 @@ impl<Sink: TokenSink> Tokenizer<Sink> {
         self.tag_name_state(c)
     }
 
-    /// Behind `</` in text escaped twice, in which no end tag is held.
+    /// After `</` in text escaped twice, in which no end tag is held.
     fn double_escaped_end_tag_open(
         &mut self,
         kind: RawKind,
@@ -280,7 +280,7 @@ impl<Sink: TokenSink> Tokenizer<Sink> {
         self.script_data_double_escape_end_state(c)
     }
 
-    /// The same behind letters.
+    /// The same after letters.
     fn double_escaped_end_tag(
         &mut self,
         kind: RawKind,

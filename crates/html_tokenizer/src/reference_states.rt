@@ -167,12 +167,12 @@ impl<Sink: TokenSink> Tokenizer<Sink> {
             State::Data => self.consume_unknown_in_data(c),
             State::RawData(RawKind::Rcdata) => self.consume_unknown_in_rcdata(c),
             State::AttributeValue(kind) => self.consume_unknown_in_value(kind, c),
-            // Never met: behind `&` the machine is in one of these three.
+            // Never met: after `&` the machine is in one of these three.
             _ => Ok(ProcessResult::Continue),
         }
     }
 
-    /// Section 13.2.5.74: behind `&` and an unknown name.
+    /// Section 13.2.5.74: after `&` and an unknown name.
     pub(crate) fn ambiguous_ampersand_state(
         &mut self,
         c: char,
@@ -223,7 +223,7 @@ impl<Sink: TokenSink> Tokenizer<Sink> {
             State::Data => self.end_reference_in_data(&held, c),
             State::RawData(RawKind::Rcdata) => self.end_reference_in_rcdata(&held, c),
             State::AttributeValue(kind) => self.end_reference_in_value(kind, &held, c),
-            // Never met: behind `&` the machine is in one of these three.
+            // Never met: after `&` the machine is in one of these three.
             _ => Ok(ProcessResult::Continue),
         }
     }

@@ -143,7 +143,7 @@ impl<Sink: TokenSink> Tokenizer<Sink> {
         self.raw_data_state(kind, c)
     }
 
-    /// Whether the word, with this character behind it, is `script`.
+    /// Whether the word, with this character after it, is `script`.
     fn ends_script(&self, c: char) -> bool
         ensures is { result ≡ ends_script self.now.word c }
         ensures letters { list_all is_ascii_alphabetic self.now.word ≡ true }
@@ -151,7 +151,7 @@ impl<Sink: TokenSink> Tokenizer<Sink> {
         self.word.is_script() && ends_tag_name(c)
     }
 
-    /// The kind of a script behind a word: `behind`, if the word is `script`.
+    /// The kind of a script after a word: `behind`, if the word is `script`.
     fn kind_behind_word(
         &self,
         c: char,

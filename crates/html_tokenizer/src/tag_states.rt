@@ -179,7 +179,7 @@ impl<Sink: TokenSink> Tokenizer<Sink> {
         Ok(ProcessResult::Continue)
     }
 
-    /// Behind a `/` in a tag.
+    /// After a `/` in a tag.
     pub(crate) fn self_closing_start_tag_state(
         &mut self,
         c: char,

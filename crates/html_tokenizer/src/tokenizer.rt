@@ -18,7 +18,7 @@ pub struct Tokenizer<Sink> {
     pub sink: Sink,
     pub(crate) stream: Stream,
     pub(crate) state: State,
-    /// What stands behind an `&` that is not done with.
+    /// What stands after an `&` that is not done with.
     pub(crate) char_ref: Option<Ampersand>,
     /// The end tag that ends raw text: the last start tag's name, and what was read of it.
     pub(crate) raw_end: RawEnd,
@@ -40,6 +40,6 @@ pub struct Tokenizer<Sink> {
     pub(crate) temporary: Text,
     /// The letters that were read of `script`.
     pub(crate) word: Letters,
-    /// What was read of a word behind `<!` or behind a doctype's name.
+    /// What was read of a word after `<!` or after a doctype's name.
     pub(crate) keyword: Keyword,
 }

@@ -19,7 +19,7 @@ use Rattle.html_references.proofs.Longest.{Within, longest-within}
 use Rattle.html_tokenizer_parts.specs.CharRefs.{stops, are_digits, is_no_text, is_number_by, is_number_front, is_front_by, is_held_front, may_go_on, is_text_before, named_before, decided, decided_by, reference_of, is_faulty, is_faulty_by, is_faulty_named, is_faulty_number, is_faulty_numeric, is_faulty_numeric_by, is_faulty_run, is_unknown}
 use Rattle.html_tokenizer_parts.specs.declared.numbers.Found.{Found}
 
--- digits, and what can't go on behind them
+-- digits, and what can't go on after them
 
 run-within-by : (b : Bool) (n m : ℕ) → n ≤ m → run_by b (λ _. n) ≤ suc m
 run-within-by true n m l = omega arith
@@ -29,7 +29,7 @@ pub run-within : (stops : ℕ → Bool) (ds : List ℕ) → run stops ds ≤ len
 run-within stops [] = omega arith
 run-within stops (d ∷ ds) = run-within-by (stops d) (run stops ds) (length ds) (run-within stops ds)
 
--- Behind what can't go on by c, neither the run of digits changes nor a ";" behind it.
+-- After what can't go on by c, neither the run of digits changes nor a ";" after it.
 record Stops (stops : ℕ → Bool) (some : Bool) (ds : List ℕ) (c : ℕ) (t : List ℕ) : Type 0 where
   digits : run stops (ds ++ c ∷ t) ≡ run stops ds
   closed : (some ≡ false → 0 < run stops ds) → semicolon (drop (run stops ds) (ds ++ c ∷ t)) ≡ semicolon (drop (run stops ds) ds)

@@ -184,7 +184,7 @@ closed-behind true some [] c = none-of some true
 closed-behind false some [] c = none-of some true
 closed-behind hex some (d ∷ front) c = closed-step hex some d front c (stops hex d) (closed-behind hex true front c)
 
--- behind ";" nothing goes on
+-- after ";" nothing goes on
 pub digits-closed : (hex : Bool) (ds : List ℕ) (c : ℕ) → ends_with nat_eq ds (59 ∷ []) ≡ true → false ≡ are_digits (stops hex) false (ds ++ c ∷ [])
 digits-closed hex ds c e =
     let front = take (length ds - 1) ds in
@@ -248,7 +248,7 @@ go_on-digit hex ds c h e f = sym (digits-go_on hex ds c h e ∙ ap (λ b. b || (
 go_on-other : (hex : Bool) (ds : List ℕ) (c : ℕ) → are_digits (stops hex) false ds ≡ true → ends_with nat_eq ds (59 ∷ []) ≡ false → not (stops hex c) ≡ false → (b : Bool) → (length ds == 0) ≡ b → (not b && nat_eq c 59) ≡ are_digits (stops hex) false (ds ++ c ∷ [])
 go_on-other hex ds c h e f b g = sym (digits-go_on hex ds c h e ∙ ap (λ b. b || (not (is_no_text ds) && nat_eq c 59)) f ∙ ap (λ b. not b && nat_eq c 59) (sym (empty-text ds) ∙ g))
 
--- and by ";" behind one at least
+-- and by ";" after one at least
 pub go_on-none : (hex : Bool) (ds : List ℕ) (c : ℕ) → are_digits (stops hex) false ds ≡ true → ends_with nat_eq ds (59 ∷ []) ≡ false → not (stops hex c) ≡ false → (length ds == 0) ≡ true → false ≡ are_digits (stops hex) false (ds ++ c ∷ [])
 go_on-none hex ds c h e f g = go_on-other hex ds c h e f true g
 

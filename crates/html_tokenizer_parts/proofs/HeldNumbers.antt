@@ -9,7 +9,7 @@ use Rattle.html_tokens.specs.Table.{Row}
 use Rattle.html_tokenizer_parts.specs.CharRefs.{base_of, decided, is_faulty, is_faulty_numeric, is_held_front, is_number_front, may_go_on, reference_of, stops}
 use Rattle.html_tokenizer_parts.proofs.NamedRows.{rest_of}
 
--- a text that begins with "#", and what the bytes that were lent of it have behind that
+-- a text that begins with "#", and what the bytes that were lent of it have after that
 pub record BeginsHash (held bytes : List ℕ) : Type 0 where
   pub rest : List ℕ
   pub is : held ≡ 35 ∷ rest
@@ -23,7 +23,7 @@ BeginsHash-first (x ∷ hs) asked bytes h found is same all =
     let hash : x ≡ 35 = cc in
     record { rest = hs; is = ap (λ y. y ∷ hs) hash; behind = rest_of bytes 1 ∙ ap (drop 1) all }
 
--- what is decided of it is the number behind "#"
+-- what is decided of it is the number after "#"
 pub decided-hash : (in_value : Bool) (rows : List Row) (held bytes : List ℕ) (follows : Bool) → BeginsHash held bytes → numbered_reference (numeric (take (length bytes - 1) (drop 1 bytes))) ≡ decided in_value rows held follows
 decided-hash in_value rows held bytes follows b = rw (b.is, b.behind) refl
 
@@ -31,7 +31,7 @@ decided-hash in_value rows held bytes follows b = rw (b.is, b.behind) refl
 pub faulty-hash : (in_value : Bool) (rows : List Row) (held bytes : List ℕ) (follows : Bool) → BeginsHash held bytes → is_faulty_numeric (take (length bytes - 1) (drop 1 bytes)) ≡ is_faulty in_value rows held follows
 faulty-hash in_value rows held bytes follows b = rw (b.is, b.behind) refl
 
--- a front of a reference that begins so is a front of a number behind "#"
+-- a front of a reference that begins so is a front of a number after "#"
 pub front-hash : (rows : List Row) (held bytes : List ℕ) → BeginsHash held bytes → is_held_front rows held ≡ true → is_number_front (take (length bytes - 1) (drop 1 bytes)) ≡ true
 front-hash rows held bytes b front = rw b.behind (rw b.is at front)
 

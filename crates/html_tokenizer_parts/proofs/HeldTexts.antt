@@ -19,7 +19,7 @@ plain-held (c ∷ cs) h =
     let p = and_parts (is_held c) (list_all is_held cs) h in
     and_from (nat_lt c 128) (is_plain cs) (held-below c p.0) (plain-held cs p.1)
 
--- what stands behind the first so many of them is held too
+-- what stands after the first so many of them is held too
 pub held-drop : (n : ℕ) (cs : List ℕ) → list_all is_held cs ≡ true → list_all is_held (drop n cs) ≡ true
 held-drop zero cs h = h
 held-drop (suc n) [] h = refl

@@ -51,7 +51,7 @@ module _ (old mid new : Stream) (start from via to : Queue) (c : ℕ) (first : T
     changes : (r : Option ℕ) (k : NewlineMade mid new via to mark r) → new ≡ record old { ignore_lf = new.ignore_lf; discard_bom = new.discard_bom }
     changes r k = k.changed ∙ ap {A = Stream} (λ s. record s { ignore_lf = new.ignore_lf }) h.changed ∙ ap {A = Bool} (λ b. record old { ignore_lf = new.ignore_lf; discard_bom = b }) (sym (ap (λ s. s.discard_bom) k.changed ∙ ap (λ s. s.discard_bom) h.changed))
 
-    -- what came behind the byte order mark is made a line feed, if it ends a line
+    -- what came after the byte order mark is made a line feed, if it ends a line
     pub next-comes : (r : Option ℕ) → NewlineMade mid new via to mark r → IfNone r (to.characters ≡ []) → Nexts old new start to r
     next-comes None k empty = record { taken = c ∷ h.more ++ k.more; takes = whole None k; all = front None k; changed = changes None k; empty = empty }
     next-comes (Some d) k empty = record {

@@ -6,7 +6,7 @@ use Rattle.html_tokens.specs.NormalText.{newline_by, newlines_behind, without_ma
 use Rattle.html_tokenizer_parts.specs.declared.stream.Stream.{Stream}
 use Rattle.html_tokenizer_parts.specs.Input.{coming_in, IsUnbroken}
 
--- a character that is no line end comes as it is, also behind a carriage return
+-- a character that is no line end comes as it is, also after a carriage return
 newline_by-plain : (a cr b : Bool) (c : ℕ) (go : Bool → List ℕ) → a ≡ false → b ≡ false → newline_by a (cr && b) c go ≡ c ∷ go false
 newline_by-plain a true b c go h k = rw (h, k) refl
 newline_by-plain a false b c go h k = rw h refl

@@ -7,7 +7,7 @@ use Rattle.html_tokens.specs.declared.table.ReferenceRow.{ReferenceRow}
 use Rattle.html_references.proofs.Longest.{Within, longest-within}
 use Rattle.html_tokenizer_parts.specs.CharRefs.{is_text_before}
 
--- what is lent from a place on is what stands behind it
+-- what is lent from a place on is what stands after it
 pub rest_of : (bytes : List ℕ) (n : ℕ) → take (length bytes - n) (drop n bytes) ≡ drop n bytes
 rest_of bytes n = take_all (length bytes - n) (drop n bytes) (omega (arith, length-drop n bytes))
 

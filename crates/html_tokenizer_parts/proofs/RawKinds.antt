@@ -136,7 +136,7 @@ chosen : (b : Bool) (x y : ScriptEscapeKind) → (if b then ScriptDataEscaped x 
 chosen true x y = refl
 chosen false x y = refl
 
--- a name behind "</" fits if the word there is the same in any case, and something ends it
+-- a name after "</" fits if the word there is the same in any case, and something ends it
 pub begins-word : (name word : List ℕ) (c : ℕ) (t : List ℕ) → list_all is_ascii_alphabetic word ≡ true → is_ascii_alphabetic c ≡ false
     → (list_all is_ascii_alphabetic name && begins_name (map to_ascii_lowercase name) (word ++ c ∷ t)) ≡ (same_any_case name word && ends_tag_name c)
 begins-word [] [] c t h e = refl
@@ -164,7 +164,7 @@ pub unfit-empty : (last : Option (List ℕ)) (c : ℕ) → ends_raw_text last []
 unfit-empty None c = refl
 unfit-empty (Some name) c = refl
 
--- the name "script" behind "<" or "</"
+-- the name "script" after "<" or "</"
 pub begins-script : (word : List ℕ) (c : ℕ) (t : List ℕ) → list_all is_ascii_alphabetic word ≡ true → is_ascii_alphabetic c ≡ false → begins_name (codes "script") (word ++ c ∷ t) ≡ ends_script word c
 begins-script word c t h e = begins-word (codes "script") word c t h e
 

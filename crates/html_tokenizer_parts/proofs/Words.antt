@@ -103,7 +103,7 @@ script-chars = refl
 pub own-letters : (bytes word : List ℕ) → IsUtf8 bytes → chars bytes ≡ word → list_all is_ascii_alphabetic word ≡ true → bytes ≡ word
 own-letters bytes word u e h = letters-bytes bytes u (ap (list_all is_ascii_alphabetic) e ∙ h) ∙ e
 
--- what a name has behind a word, by the place
+-- what a name has after a word, by the place
 pub next-none : (name word bytes : List ℕ) (c : ℕ) → bytes ≡ word → length name ≤ length bytes → false ≡ has_next name word c
 next-none name word bytes c e l =
     let short : length name ≤ length word = rw (← e) l in

@@ -27,7 +27,7 @@ abbrev pub is_no_text : List ℕ → Bool
 is_no_text [] = true
 is_no_text (c ∷ t) = false
 
--- digits, with ";" or nothing behind them, where digits stand before or do not
+-- digits, with ";" or nothing after them, where digits stand before or do not
 abbrev pub are_digits : (ℕ → Bool) → Bool → List ℕ → Bool
 are_digits stops some [] = true
 are_digits stops some (c ∷ t) = if stops c then some && (nat_eq c 59 && is_no_text t) else are_digits stops true t
@@ -36,7 +36,7 @@ abbrev pub is_number_by : Bool → ℕ → List ℕ → Bool
 is_number_by true c t = are_digits (stops true) false t
 is_number_by false c t = are_digits (stops false) false (c ∷ t)
 
--- whether some text behind this one makes a numeric reference of both, behind "&#"
+-- whether some text after this one makes a numeric reference of both, after "&#"
 abbrev pub is_number_front : List ℕ → Bool
 is_number_front [] = true
 is_number_front (c ∷ t) = is_number_by (nat_eq c 120 || nat_eq c 88) c t
@@ -45,12 +45,12 @@ abbrev pub is_front_by : Bool → List Row → ℕ → List ℕ → Bool
 is_front_by true rows h hs = is_number_front hs
 is_front_by false rows h hs = is_front rows (h ∷ hs)
 
--- whether some text behind this one makes a reference of both, behind "&"
+-- whether some text after this one makes a reference of both, after "&"
 abbrev pub is_held_front : List Row → List ℕ → Bool
 is_held_front rows [] = true
 is_held_front rows (h ∷ hs) = is_front_by (nat_eq h 35) rows h hs
 
--- Whether a reference of which this is held may go on by c. Where it may not, no text behind c changes what it is.
+-- Whether a reference of which this is held may go on by c. Where it may not, no text after c changes what it is.
 abbrev pub may_go_on : List Row → List ℕ → ℕ → Bool
 may_go_on rows cs c = is_held_front rows (cs ++ c ∷ [])
 
@@ -79,7 +79,7 @@ abbrev pub resolved_by : Option Reference → List ℕ → List ℕ
 resolved_by None cs = 38 ∷ cs
 resolved_by (Some r) cs = r.chars ++ drop r.len cs
 
--- the text that "&" and what was held stand for: a reference's characters, or "&", and what is held behind it
+-- the text that "&" and what was held stand for: a reference's characters, or "&", and what is held after it
 abbrev pub resolved : Bool → List Row → List ℕ → Bool → List ℕ
 resolved in_value rows cs follows = resolved_by (decided in_value rows cs follows) cs
 
@@ -95,7 +95,7 @@ base_of false = 10
 abbrev pub is_faulty_number : ℕ → Bool
 is_faulty_number n = is_no_character n || nat_eq n 13 || is_forbidden n
 
--- the same of n digits at the front of a text: also where there is none, or no ";" behind them
+-- the same of n digits at the front of a text: also where there is none, or no ";" after them
 abbrev pub is_faulty_run : ℕ → ℕ → List ℕ → Bool
 is_faulty_run base n t = nat_eq n 0 || nat_eq (semicolon (drop n t)) 0 || is_faulty_number (number base (take n t))
 
@@ -106,7 +106,7 @@ abbrev pub is_faulty_numeric_by : Bool → ℕ → List ℕ → Bool
 is_faulty_numeric_by true c t = is_faulty_digits true t
 is_faulty_numeric_by false c t = is_faulty_digits false (c ∷ t)
 
--- the same of a numeric reference, behind "&#"
+-- the same of a numeric reference, after "&#"
 abbrev pub is_faulty_numeric : List ℕ → Bool
 is_faulty_numeric [] = true
 is_faulty_numeric (c ∷ t) = is_faulty_numeric_by (nat_eq c 120 || nat_eq c 88) c t
@@ -123,12 +123,12 @@ abbrev pub is_faulty_by : Bool → Bool → List Row → ℕ → List ℕ → Bo
 is_faulty_by true in_value rows h hs follows = is_faulty_numeric hs
 is_faulty_by false in_value rows h hs follows = is_faulty_named in_value (longest rows (h ∷ hs)) (h ∷ hs) follows
 
--- whether the Standard names an error for what was held behind "&", by whether "=", a letter or a digit follows
+-- whether the Standard names an error for what was held after "&", by whether "=", a letter or a digit follows
 abbrev pub is_faulty : Bool → List Row → List ℕ → Bool → Bool
 is_faulty in_value rows [] follows = false
 is_faulty in_value rows (h ∷ hs) follows = is_faulty_by (nat_eq h 35) in_value rows h hs follows
 
--- whether what was held, or else c behind it, is or begins a name that no ";" ended, and no name of the table stands there
+-- whether what was held, or else c after it, is or begins a name that no ";" ended, and no name of the table stands there
 abbrev pub is_unknown : List Row → List ℕ → ℕ → Bool
 is_unknown rows [] c = is_ascii_alphanumeric c
 is_unknown rows (h ∷ hs) c = not (nat_eq h 35) && (not (ends_in_semicolon (h ∷ hs)) && is_none (longest rows (h ∷ hs)))
@@ -151,7 +151,7 @@ may_hold (state.RawData Rcdata) = true
 may_hold (state.AttributeValue kind) = true
 may_hold _ = false
 
--- Some text behind this one makes a reference of both, which takes all of this.
+-- Some text after this one makes a reference of both, which takes all of this.
 pub record BeginsReference (in_value : Bool) (rows : List Row) (cs : List ℕ) : Type 0 where
   pub more : List ℕ
   pub reference : Reference

@@ -1,4 +1,4 @@
--- The characters that stand behind the "&" of a reference.
+-- The characters that stand after the "&" of a reference.
 use Rattle.std.specs.Prelude.{ℕ, Bool, ◌||◌, nat_eq}
 use Rattle.std.specs.Char.{is_ascii_alphanumeric}
 
@@ -6,6 +6,6 @@ use Rattle.std.specs.Char.{is_ascii_alphanumeric}
 abbrev pub is_named_with : ℕ → Bool
 is_named_with c = is_ascii_alphanumeric c || nat_eq c 59
 
--- what stands behind the "&" of a reference: the same, and "#"
+-- what stands after the "&" of a reference: the same, and "#"
 abbrev pub is_held : ℕ → Bool
 is_held c = is_named_with c || nat_eq c 35

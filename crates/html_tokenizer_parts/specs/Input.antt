@@ -46,7 +46,7 @@ abbrev pub before : Option ℕ → List ℕ → List ℕ
 before None t = t
 before (Some d) t = d ∷ t
 
--- Behind a first character c more were taken, and the byte order mark is passed: d comes, if one does.
+-- After a first character c more were taken, and the byte order mark is passed: d comes, if one does.
 pub record MarkPassed (old new : Stream) (from to : Queue) (c : ℕ) (d : Option ℕ) : Type 0 where
   pub more : List ℕ
   pub takes : Takes more from to
@@ -54,7 +54,7 @@ pub record MarkPassed (old new : Stream) (from to : Queue) (c : ℕ) (d : Option
   pub changed : new ≡ record old { discard_bom = false }
   pub last : IfSome d (λ d. last_of (c ∷ more) ≡ d)
 
--- Behind a first character c more were taken, and line ends are made line feeds: d comes, if one does.
+-- After a first character c more were taken, and line ends are made line feeds: d comes, if one does.
 pub record NewlineMade (old new : Stream) (from to : Queue) (c : ℕ) (d : Option ℕ) : Type 0 where
   pub more : List ℕ
   pub takes : Takes more from to
@@ -74,6 +74,6 @@ pub record ComesAsRun (bits : ℕ) (old new : Stream) (from to : Queue) (run : L
 abbrev pub IsUnbroken : List ℕ → Type 0
 IsUnbroken cs = All (λ c. (nat_eq c 10 ≡ false) × (nat_eq c 13 ≡ false)) cs
 
--- a number of line breaks behind one character more: at u64::MAX it stays
+-- a number of line breaks after one character more: at u64::MAX it stays
 abbrev pub counted : ℕ → ℕ → ℕ
 counted breaks c = if nat_eq c 10 then min (breaks + 1) 0xffff_ffff_ffff_ffff else breaks

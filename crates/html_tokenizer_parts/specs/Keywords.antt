@@ -1,4 +1,4 @@
--- The words behind "<!" and behind a doctype's name, and what was read of one (HTML Standard, sections 13.2.5.42 and 13.2.5.56).
+-- The words after "<!" and after a doctype's name, and what was read of one (HTML Standard, sections 13.2.5.42 and 13.2.5.56).
 use Rattle.std.specs.Prelude.{◌≡◌, ℕ, Bool, true, false, ◌&&◌, ◌||◌, nat_eq, List, [], ◌∷◌, ◌++◌, codes}
 use Rattle.std.specs.Char.{to_ascii_lowercase}
 use Rattle.html_tokens.specs.Characters.{begins, begins_any_case}
@@ -59,27 +59,27 @@ pub record IsPart (cs : List ℕ) : Type 0 where
   pub word : Word
   pub begun : may_become word cs ≡ true
 
--- whether the characters cs and then c are the beginning of a word behind "<!"
+-- whether the characters cs and then c are the beginning of a word after "<!"
 abbrev pub may_declare : List ℕ → ℕ → Bool
 may_declare cs c = may_become Dashes (cs ++ c ∷ []) || may_become Doctype (cs ++ c ∷ []) || may_become Cdata (cs ++ c ∷ [])
 
--- Whatever follows the characters cs and then c, they open a bogus comment behind "<!".
+-- Whatever follows the characters cs and then c, they open a bogus comment after "<!".
 pub record OpensNothing (asks : Bool) (cs : List ℕ) (c : ℕ) : Type 0 where
   pub dashes : (t : List ℕ) → begins (codes "--") (cs ++ c ∷ t) ≡ false
   pub doctype : (t : List ℕ) → begins_any_case (codes "doctype") (cs ++ c ∷ t) ≡ false
   pub cdata : (t : List ℕ) → (asks && begins (codes "[CDATA[") (cs ++ c ∷ t)) ≡ false
 
--- Behind the characters cs, c makes none of the words behind "<!" whole.
+-- After the characters cs, c makes none of the words after "<!" whole.
 pub record MakesNoWord (cs : List ℕ) (c : ℕ) : Type 0 where
   pub dashes : becomes Dashes (cs ++ c ∷ []) ≡ false
   pub doctype : becomes Doctype (cs ++ c ∷ []) ≡ false
   pub cdata : becomes Cdata (cs ++ c ∷ []) ≡ false
 
--- whether the characters cs and then c are the beginning of a word behind a doctype's name
+-- whether the characters cs and then c are the beginning of a word after a doctype's name
 abbrev pub may_identify : List ℕ → ℕ → Bool
 may_identify cs c = may_become Public (cs ++ c ∷ []) || may_become System (cs ++ c ∷ [])
 
--- Behind the characters cs, c makes neither word behind a doctype's name whole.
+-- After the characters cs, c makes neither word after a doctype's name whole.
 pub record MakesNoIdentifier (cs : List ℕ) (c : ℕ) : Type 0 where
   pub public_word : becomes Public (cs ++ c ∷ []) ≡ false
   pub system_word : becomes System (cs ++ c ∷ []) ≡ false

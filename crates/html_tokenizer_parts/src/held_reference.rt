@@ -1,4 +1,4 @@
-//! What is known behind an `&`: what is held of a character reference, or that an unknown name stands there.
+//! What is known after an `&`: what is held of a character reference, or that an unknown name stands there.
 ghost use Rattle.std.specs.Prelude.{◌≡◌, ◌≤◌, ◌∷◌, [], ◌++◌, true, IfErr, OnOk, drop, length};
 ghost use Rattle.std.specs.List.{list_all};
 ghost use Rattle.std.specs.Str.{chars};
@@ -9,7 +9,7 @@ use markup::{ParseFault, Text};
 use std::alloc::Global;
 use std::marker::Model;
 
-/// What was read behind the `&` of a reference: letters and digits of ASCII, `#` and `;`.
+/// What was read after the `&` of a reference: letters and digits of ASCII, `#` and `;`.
 #[derive(Drop)]
 pub struct HeldReference {
     text: Text,
@@ -27,17 +27,17 @@ impl Model for HeldReference {
     ghost invariant = { λ h. list_all is_held h.text ≡ true };
 }
 
-/// What stands behind an `&`.
+/// What stands after an `&`.
 #[derive(Drop)]
 pub enum Ampersand {
     /// What is held of a reference that may go on.
     Held(HeldReference),
-    /// A name that is in no table, of which nothing is held. It goes on with letters and digits, and `;` behind it is an error.
+    /// A name that is in no table, of which nothing is held. It goes on with letters and digits, and `;` after it is an error.
     Unknown,
 }
 
 impl HeldReference {
-    /// Nothing behind the `&` yet.
+    /// Nothing after the `&` yet.
     pub fn new(alloc: Global) -> HeldReference
         ensures { result ≡ [] }
     {
@@ -72,7 +72,7 @@ impl HeldReference {
         self.text.as_str()
     }
 
-    /// The characters behind the first so many.
+    /// The characters after the first so many.
     pub fn behind(&self, count: usize) -> &str
         requires { count ≤ length self.now }
         ensures { chars result.now ≡ drop count self.now }

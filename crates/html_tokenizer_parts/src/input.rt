@@ -6,7 +6,7 @@ use crate::stream::Stream;
 use html_queue::BufferQueue;
 
 impl Stream {
-    /// What stands for a first character: itself, or the one behind it where it is a byte order mark that is dropped.
+    /// What stands for a first character: itself, or the one after it where it is a byte order mark that is dropped.
     fn after_mark(&mut self, c: char, input: &mut BufferQueue) -> Option<char>
         ensures passed { MarkPassed self.old self.new input.old input.new c result }
         ensures empty { IfNone result (input.new.characters ≡ []) }

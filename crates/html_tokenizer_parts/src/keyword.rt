@@ -1,4 +1,4 @@
-//! Words behind `<!` and behind a doctype's name (HTML Standard, sections 13.2.5.42 and 13.2.5.56).
+//! Words after `<!` and after a doctype's name (HTML Standard, sections 13.2.5.42 and 13.2.5.56).
 ghost use Rattle.std.specs.Prelude.{◌≡◌, ◌∷◌, [], ◌++◌, ◌==◌, ◌<◌, nat_eq, IfOk, IfErr, OnOk, length, zip};
 ghost use Rattle.std.specs.List.{list_all};
 ghost use Rattle.markup.specs.declared.fault.ParseFault.TheVariants.{Memory};
@@ -130,14 +130,14 @@ impl Keyword {
         self.leads(c, word) && self.len() + 1 == word.spelling().len()
     }
 
-    /// Whether this, with c behind it, is the beginning of the word and not all of it.
+    /// Whether this, with c after it, is the beginning of the word and not all of it.
     pub fn may_become(&self, c: char, word: Word) -> bool
         ensures { result ≡ may_become word (self.now ++ c ∷ []) }
     {
         self.leads(c, word) && self.len() + 1 < word.spelling().len()
     }
 
-    /// Whether this, with c behind it, is the beginning of a word behind `<!`.
+    /// Whether this, with c after it, is the beginning of a word after `<!`.
     pub fn may_declare(&self, c: char) -> bool
         ensures { result ≡ may_declare self.now c }
     {
@@ -146,7 +146,7 @@ impl Keyword {
             || self.may_become(c, Word::Cdata)
     }
 
-    /// Whether this, with c behind it, is the beginning of a word behind a doctype's name.
+    /// Whether this, with c after it, is the beginning of a word after a doctype's name.
     pub fn may_identify(&self, c: char) -> bool
         ensures { result ≡ may_identify self.now c }
     {

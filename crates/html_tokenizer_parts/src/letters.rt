@@ -82,7 +82,7 @@ impl Letters {
         name.eq_ignore_ascii_case(self.text.as_str())
     }
 
-    /// Whether a name has this letter, in any case, behind as many letters as stand here.
+    /// Whether a name has this letter, in any case, after as many letters as stand here.
     pub fn is_next_in(&self, name: &str, letter: char) -> bool
         ensures { result ≡ has_next name.now self.now letter }
     {

@@ -8,14 +8,14 @@ ghost use Rattle.html_tokenizer_parts.specs.CharRefs.{are_digits, base_of, has_f
 use crate::characters::is_forbidden;
 use crate::error_code::ErrorCode;
 
-/// A reference that was read: the characters that it stands for, and how many it takes behind `&`.
+/// A reference that was read: the characters that it stands for, and how many it takes after `&`.
 #[derive(Clone, Copy)]
 pub struct Found {
     /// The first character.
     pub first: char,
     /// The second character, of a name that stands for two.
     pub second: Option<char>,
-    /// How many characters stand behind `&`.
+    /// How many characters stand after `&`.
     pub len: usize,
 }
 
@@ -87,7 +87,7 @@ fn is_digit(hex: bool, c: char) -> bool
     }
 }
 
-/// Whether digits, with `;` or nothing behind them, go on by a character.
+/// Whether digits, with `;` or nothing after them, go on by a character.
 fn digits_go_on(hex: bool, digits: &[u8], c: char) -> bool
     requires { are_digits (stops hex) false digits.now ≡ true }
     ensures { result ≡ are_digits (stops hex) false (digits.now ++ c ∷ []) }
@@ -104,7 +104,7 @@ fn digits_go_on(hex: bool, digits: &[u8], c: char) -> bool
     c == ';'
 }
 
-/// Whether a number goes on by a character, behind `&#`.
+/// Whether a number goes on by a character, after `&#`.
 pub fn goes_on(text: &[u8], c: char) -> bool
     requires { is_number_front text.now ≡ true }
     ensures { result ≡ is_number_front (text.now ++ c ∷ []) }
@@ -177,7 +177,7 @@ fn semicolon(text: &[u8]) -> usize
     }
 }
 
-/// Digits behind a prefix.
+/// Digits after a prefix.
 fn digits_at(hex: bool, prefix: usize, text: &[u8]) -> Option<Found>
     requires { prefix ≤ 2 }
     ensures { option_map reference_of result ≡ Reference.numbered_reference (Reference.digits_at prefix (base_of hex) (run (stops hex) text.now) text.now) }
@@ -194,7 +194,7 @@ fn digits_at(hex: bool, prefix: usize, text: &[u8]) -> Option<Found>
     })
 }
 
-/// A numeric reference, behind `&#`.
+/// A numeric reference, after `&#`.
 pub fn numeric(text: &[u8]) -> Option<Found>
     ensures { option_map reference_of result ≡ Reference.numbered_reference (Reference.numeric text.now) }
 {
@@ -235,7 +235,7 @@ pub struct ReferenceFaults {
     pub fault: Option<ErrorCode>,
 }
 
-/// The errors of digits behind a prefix.
+/// The errors of digits after a prefix.
 fn digits_faults(hex: bool, text: &[u8]) -> ReferenceFaults
     ensures { has_fault result ≡ is_faulty_digits hex text.now }
 {
@@ -252,7 +252,7 @@ fn digits_faults(hex: bool, text: &[u8]) -> ReferenceFaults
     }
 }
 
-/// The errors of a numeric reference behind `&#`.
+/// The errors of a numeric reference after `&#`.
 pub fn numeric_faults(text: &[u8]) -> ReferenceFaults
     ensures { has_fault result ≡ is_faulty_numeric text.now }
 {

@@ -55,7 +55,7 @@ impl RawEnd {
         }
     }
 
-    /// Whether the name goes on by this character, in any case, behind such letters.
+    /// Whether the name goes on by this character, in any case, after such letters.
     fn has_next(&self, letters: &Letters, c: char) -> bool
         ensures letter { result ≡ true → is_ascii_alphabetic c ≡ true }
         ensures front { result ≡ true → begins_end self.now.name letters.now ≡ true → begins_end self.now.name (letters.now ++ c ∷ []) ≡ true }
@@ -80,7 +80,7 @@ impl RawEnd {
         self.has_next(&Letters::new(alloc), c)
     }
 
-    /// Whether the name goes on by this character, in any case, behind the letters.
+    /// Whether the name goes on by this character, in any case, after the letters.
     pub fn goes_on_by(&self, c: char) -> bool
         ensures letter { result ≡ true → is_ascii_alphabetic c ≡ true }
         ensures front { result ≡ true → begins_end self.now.name (self.now.letters ++ c ∷ []) ≡ true }

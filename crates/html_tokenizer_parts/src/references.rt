@@ -23,7 +23,7 @@ fn is_held(c: char) -> bool
     c.is_ascii_alphanumeric() || c == ';' || c == '#'
 }
 
-/// Whether some name begins with a text and then this character. Behind `;` none goes on.
+/// Whether some name begins with a text and then this character. After `;` none goes on.
 fn name_goes_on(
     alloc: Global,
     table: &References,
@@ -43,7 +43,7 @@ fn name_goes_on(
     Ok(table.is_front(longer.as_str()))
 }
 
-/// Whether a reference of which this is held may go on by this character, to one that some text behind both makes.
+/// Whether a reference of which this is held may go on by this character, to one that some text after both makes.
 pub fn may_go_on(
     alloc: Global,
     table: &References,
@@ -75,7 +75,7 @@ pub fn goes_on_at(c: char) -> bool
     c == '=' || c.is_ascii_alphanumeric()
 }
 
-/// The same at the front of what is held behind a name, by whether it follows where nothing is held.
+/// The same at the front of what is held after a name, by whether it follows where nothing is held.
 fn goes_on_before(text: &[u8], follows: bool) -> bool
     ensures { result ≡ CharRefs.goes_on_before text.now follows }
 {
@@ -85,7 +85,7 @@ fn goes_on_before(text: &[u8], follows: bool) -> bool
     }
 }
 
-/// Whether a name in an attribute's value is text there, by what is held behind it.
+/// Whether a name in an attribute's value is text there, by what is held after it.
 fn is_text(in_value: bool, name: &str, behind: &[u8], follows: bool) -> bool
     ensures { result ≡ (in_value && CharRefs.is_text_before name.now behind.now follows) }
 {
@@ -209,7 +209,7 @@ pub fn decided(table: &References, in_value: bool, held: &HeldReference, follows
     find(table, in_value, held, follows)
 }
 
-/// Whether what was held is a name that no `;` ended, or the character behind `&` begins one, and no name of the table stands
+/// Whether what was held is a name that no `;` ended, or the character after `&` begins one, and no name of the table stands
 /// there.
 pub fn is_unknown(table: &References, held: &HeldReference, c: char) -> bool
     ensures { result ≡ CharRefs.is_unknown table.now held.now c }

@@ -17,7 +17,7 @@ pub struct Stream {
     pub exact_errors: bool,
     /// Whether a byte order mark may still come, which is dropped.
     pub discard_bom: bool,
-    /// Whether a line feed is dropped, since it stands behind a carriage return.
+    /// Whether a line feed is dropped, since it stands after a carriage return.
     pub ignore_lf: bool,
     /// How many line breaks were read. At u64::MAX the number stays.
     pub breaks: u64,

@@ -32,7 +32,7 @@ use words::is_in_words;
 enum Table {
     /// Five of the Standard's names.
     Five,
-    /// `not`, and `notin;`, which goes on behind it.
+    /// `not`, and `notin;`, which goes on after it.
     Not,
 }
 
@@ -45,7 +45,7 @@ struct Setting {
     discard_bom: bool,
     initial_state: Option<State>,
     last_start_tag: Option<&'static str>,
-    /// Whether the end is told behind the text.
+    /// Whether the end is told after the text.
     tells_end: bool,
 }
 
@@ -187,7 +187,7 @@ fn feed_piece<S: TokenSink>(
     feed_all(tokenizer, input)
 }
 
-/// Feeds these pieces, one behind the other.
+/// Feeds these pieces, one after the other.
 fn feed_pieces<S: TokenSink>(
     tokenizer: &mut Tokenizer<S>,
     pieces: Vec<String>,

@@ -73,7 +73,7 @@ at-by : (clean : Bool) (st : Stand) (c : ℕ) (t : List ℕ) → is_clean_in_com
 at-by true st c t e h k = ap (λ i. i.fault) (begun st c t e) ∙ k
 at-by false st c t e h k = subst (λ u. IsFaultless (comment_at st u)) (sym (begins-front (codes "-->") (c ∷ t) h)) (closed st [] (drop 3 (c ∷ t)))
 
--- behind "<!--" a clean comment has no fault
+-- after "<!--" a clean comment has no fault
 pub comment : (st : Stand) (t : List ℕ) → is_clean_comment t ≡ true → IsFaultless (comment_at st t)
 comment st [] h = absurd cc
 comment st (c ∷ t) h = at-by (is_clean_in_comment c) st c t refl h (rest st [] (c ∷ t) h)

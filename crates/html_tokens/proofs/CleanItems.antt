@@ -66,16 +66,16 @@ end-name : (t : List ℕ) → is_clean_end t ≡ true → is_clean_name t ≡ tr
 end-name [] h = absurd cc
 end-name (c ∷ t) h = (and_parts (is_ascii_lowercase c) _ h).1
 
--- behind "</" a clean end tag's name begins
+-- after "</" a clean end tag's name begins
 end : (st : Stand) (t : List ℕ) → is_clean_end t ≡ true → IsFaultless (Items.end_at st t)
 end st [] h = absurd cc
 end st (c ∷ t) h = rw (lower-letter c (and_parts (is_ascii_lowercase c) _ h).0) (name st (Tags.named EndTag []) (c ∷ t) (end-name (c ∷ t) h))
 
--- behind "<!" the doctype stands
+-- after "<!" the doctype stands
 doctype : (cdata : Bool) (st : Stand) (t u : List ℕ) → t ≡ codes "DOCTYPE html>" ++ u → IsFaultless (Items.declaration_at cdata st t)
 doctype cdata st t u e = rw e refl
 
--- behind "<!" "--" and a clean comment stand
+-- after "<!" "--" and a clean comment stand
 dashed : (cdata : Bool) (st : Stand) (t u : List ℕ) → t ≡ codes "--" ++ u → is_clean_comment u ≡ true → IsFaultless (Items.declaration_at cdata st t)
 dashed cdata st t u e h = rw e (all 4 (Comments.comment_at st u) (comment st u h))
 
@@ -84,14 +84,14 @@ either : {P : Type 0} (a b : Bool) → (a || b) ≡ true → (a ≡ true → P) 
 either true b h f g = f refl
 either false b h f g = g h
 
--- behind "<!" a clean declaration has no fault
+-- after "<!" a clean declaration has no fault
 declaration : (cdata : Bool) (st : Stand) (c : ℕ) (t : List ℕ) → is_clean_declaration (c ∷ t) ≡ true → IsFaultless (Items.declaration_at cdata st t)
 declaration cdata st c t h =
     either (begins (codes "!DOCTYPE html>") (c ∷ t)) _ h
     (λ e. doctype cdata st t (drop 13 t) (ap (drop 1) (begins-front (codes "!DOCTYPE html>") (c ∷ t) e)))
     (λ e. let parts = and_parts (begins (codes "!--") (c ∷ t)) (is_clean_comment (drop 2 t)) e in dashed cdata st t (drop 2 t) (ap (drop 1) (begins-front (codes "!--") (c ∷ t) parts.0)) parts.1)
 
--- what a clean character behind "<" begins
+-- what a clean character after "<" begins
 open-by : (o : Items.Opening) (cdata : Bool) (st : Stand) (c : ℕ) (t : List ℕ) → is_clean_open o (c ∷ t) ≡ true → IsFaultless (Items.open_by o cdata st c t)
 open-by Items.Letter cdata st c t h = name st (Tags.named StartTag []) (c ∷ t) (end-name (c ∷ t) h)
 open-by Items.Slash cdata st c t h = end st t h
@@ -100,7 +100,7 @@ open-by Items.Question cdata st c t h = absurd cc
 open-by Items.Close cdata st c t h = absurd cc
 open-by Items.Other cdata st c t h = absurd cc
 
--- behind "<" clean markup has no fault
+-- after "<" clean markup has no fault
 in-open : (cdata : Bool) (st : Stand) (t : List ℕ) → is_clean_markup t ≡ true → IsFaultless (Items.open_at cdata st t)
 in-open cdata st [] h = absurd cc
 in-open cdata st (c ∷ t) h = open-by (Items.opening c) cdata st c t h
@@ -176,7 +176,7 @@ module _ {S H F : Type 0} (step : S → Token → ℕ → Result (S × TokenSink
   abbrev Stays : Notes H → ℕ → Bool → Type 0
   Stays notes errors is_quiet = (errors ≡ notes.errors) × (notes.is_quiet ≡ true → is_quiet ≡ true)
 
-  -- where what is read is clean, that holds behind it
+  -- where what is read is clean, that holds after it
   abbrev pub OwesNone : Notes H → Result (S × Notes H) (F × ℕ) → Type 0
   OwesNone notes r = Stays notes (errors_of r) (was_quiet r)
 
@@ -188,12 +188,12 @@ module _ {S H F : Type 0} (step : S → Token → ℕ → Result (S × TokenSink
   hears : (q : Bool) (notes : Notes H) → q ≡ true → Stays notes (heard q notes).errors (heard q notes).is_quiet
   hears q notes h = (refl, λ e. rw (e, h) refl)
 
-  -- the end of input, behind what stayed
+  -- the end of input, after what stayed
   ended : (notes before : Notes H) (r : Result (S × TokenSinkResult H) F) → Stays notes before.errors before.is_quiet → OwesNone notes (noted before r >>= λ p. Ok (noting_end ends p.0))
   ended notes before (Ok p) e = e
   ended notes before (Err x) e = (e.0, λ q. refl)
 
-  -- a step, behind what stayed, and then the rest
+  -- a step, after what stayed, and then the rest
   goes-on : (notes before : Notes H) (r : Result (S × TokenSinkResult H) F) (clean : S × TokenSinkResult H → Bool) (f : (S × Notes H) × TokenSinkResult H → Result (S × Notes H) (F × ℕ)) → clean_by step quiet cdata rows true r clean ≡ true
       → ((p : S × TokenSinkResult H) (after : Notes H) → Stays notes after.errors after.is_quiet → clean p ≡ true → OwesNone notes (f ((p.0, after), p.1))) → Stays notes before.errors before.is_quiet → OwesNone notes (noted before r >>= f)
   goes-on notes before (Ok p) clean f h k e = k p _ e h

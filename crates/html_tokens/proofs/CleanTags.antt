@@ -100,7 +100,7 @@ name st tag t h =
 
 -- VALUES
 
--- behind a clean quote no attribute lacks its space
+-- after a clean quote no attribute lacks its space
 spaced : (t : List ℕ) → is_word_end t ≡ true → Tags.lacks_space t ≡ false
 spaced [] h = absurd cc
 spaced (c ∷ t) h = rw (word-tag (c ∷ t) h) refl
@@ -115,7 +115,7 @@ quote : (n : ℕ) (st : Stand) (t : List ℕ) → closes t ≡ true → IsFaultl
 quote n st [] h = refl
 quote n st (c ∷ t) h = unmarked (Tags.lacks_space t) _ (none-true _ h) refl
 
--- a value in which nothing is odd, and behind which its quote closes it
+-- a value in which nothing is odd, and after which its quote closes it
 abbrev IsClosed : Tags.Value → List ℕ → Type 0
 IsClosed v t = (v.is_odd ≡ false) × (closes (drop v.len t) ≡ true)
 
@@ -123,7 +123,7 @@ IsClosed v t = (v.is_odd ≡ false) × (closes (drop v.len t) ≡ true)
 later : (odd : Bool) (cs : List ℕ) (v : Tags.Value) (c : ℕ) (t : List ℕ) → odd ≡ false → IsClosed v t → IsClosed (Tags.later odd cs v) (c ∷ t)
 later odd cs v c t e h = (rw (e, h.0) refl, h.1)
 
--- what is clean before the end of a value, and behind that
+-- what is clean before the end of a value, and after that
 clean-parts : (clean : Bool) (t : List ℕ) (go : Unit {0} → Bool) → clean_value_by false clean t go ≡ true → (clean ≡ true) × (go tt ≡ true)
 clean-parts true t go h = (refl, h)
 clean-parts false t go h = absurd cc
@@ -155,7 +155,7 @@ or-false : (a b : Bool) → (a || b) ≡ false → (a ≡ false) × (b ≡ false
 or-false true b h = absurd cc
 or-false false b h = (refl, h)
 
--- a clean value is closed by its quote, also behind the n characters of a reference
+-- a clean value is closed by its quote, also after the n characters of a reference
 value : (rows : List Row) (n : ℕ) (t : List ℕ) → list_any (nat_eq 34) (take n t) ≡ false → is_clean_value rows t ≡ true → IsClosed (Tags.value_from rows Characters.is_null (nat_eq 34) n t) t
 unfolding Tags.value_from
 value rows n [] q h = absurd cc
@@ -189,7 +189,7 @@ equals-by true rows st tag called t h =
     all (suc (Characters.white t)) (Tags.value_at rows st tag called u) (all (Characters.white u) (Tags.opened_at rows st tag called v) (opening rows st tag called v h))
 equals-by false rows st tag called t h = refl
 
--- nothing is odd behind a clean name
+-- nothing is odd after a clean name
 equals : (rows : List Row) (st : Stand) (tag : Tag) (called t : List ℕ) → is_clean_equals rows t ≡ true → IsFaultless (Tags.equals_at rows st tag called t)
 equals rows st tag called t h = equals-by (Characters.begins (codes "=") (drop (Characters.white t) t)) rows st tag called t h
 

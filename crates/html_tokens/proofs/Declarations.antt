@@ -9,11 +9,11 @@ use Rattle.html_tokens.specs.Comments
 use Rattle.html_tokens.specs.Doctypes
 use Rattle.html_tokens.specs.Item.{Stand, Item, behind_all}
 
--- what holds of an item's token and of where the reading stands behind it
+-- what holds of an item's token and of where the reading stands after it
 abbrev pub Holds : (Option Token → Stand → Type 0) → Item → Type 0
 Holds P i = P i.token i.next
 
--- it holds of the item behind n characters more
+-- it holds of the item after n characters more
 pub all : (P : Option Token → Stand → Type 0) (n : ℕ) (i : Item) → Holds P i → Holds P (behind_all n i)
 all P zero i h = h
 all P (suc n) i h = all P n i h

@@ -51,7 +51,7 @@ len-behind_all : (n : ℕ) (i : Item) → (behind_all n i).len ≡ n + i.len
 len-behind_all zero i = omega arith
 len-behind_all (suc n) i = omega (arith, len-behind_all n i)
 
--- an item behind n characters more
+-- an item after n characters more
 within-all : (n : ℕ) (i : Item) (t : List ℕ) → n ≤ length t → Within i (drop n t) → Within (behind_all n i) t
 within-all n i t h w = omega (arith, len-behind_all n i, length-drop n t)
 

@@ -17,12 +17,12 @@ none-true false h = refl
 
 -- WORDS
 
--- a first character that fits, and the rest of the word behind it
+-- a first character that fits, and the rest of the word after it
 begins-parts : (b : Bool) (go : Unit {0} → Bool) → Characters.begins_by b go ≡ true → (b ≡ true) × (go tt ≡ true)
 begins-parts true go h = (refl, h)
 begins-parts false go h = absurd cc
 
--- a text that begins with a word is the word and what stands behind it
+-- a text that begins with a word is the word and what stands after it
 pub begins-front : (w t : List ℕ) → Characters.begins w t ≡ true → t ≡ w ++ drop (length w) t
 begins-front [] t h = refl
 begins-front (x ∷ w) [] h = absurd cc

@@ -43,7 +43,7 @@ comment-sound st text p = (tt, p)
 doctype-sound : (st : Stand) (d : Doctype) → StandsWell st → IsSound (Some (DoctypeToken d)) st
 doctype-sound st d p = (tt, p)
 
--- an item behind n characters more
+-- an item after n characters more
 all : (n : ℕ) (i : Item) → IsSoundItem i → IsSoundItem (behind_all n i)
 all n i h = every IsSound n i h
 

@@ -23,13 +23,13 @@ pub line_breaks-append : (a b : List ℕ) → line_breaks (a ++ b) ≡ line_brea
 line_breaks-append [] b = omega arith
 line_breaks-append (c ∷ a) b = omega (arith, line_breaks-append a b)
 
--- one step, the next, and the one behind both
+-- one step, the next, and the one after both
 pub bind-assoc : {A B C F : Type 0} (r : Result A F) (f : A → Result B F) (g : B → Result C F) → ((r >>= f) >>= g) ≡ (r >>= λ x. f x >>= g)
 bind-assoc (Ok x) f g = refl
 bind-assoc (Err e) f g = refl
 
 module _ {S H F : Type 0} (step : S → Token → ℕ → Result (S × TokenSinkResult H) F) (erred : Fault → S → S) (cdata : S → Bool) (ends : S → S) (rows : List Row) (is_sound : S → Type 0) (joins : JoinsText is_sound step) where
-  -- behind text the reading stands where it stood
+  -- after text the reading stands where it stood
   pub stays : (st : Stand) (breaks : ℕ) (r : Result (S × TokenSinkResult H) F) (t : List ℕ) → IfOk r (λ p. p.1 ≡ Continue)
       → (r >>= λ p. reading step erred cdata ends rows (next_stand st p.1) breaks p.0 t) ≡ (r >>= λ p. reading step erred cdata ends rows st breaks p.0 t)
   stays st breaks (Ok p) t h = ap (λ reply. reading step erred cdata ends rows (next_stand st reply) breaks p.0 t) h

@@ -70,7 +70,7 @@ abbrev pub ends_name_at : List ℕ → Bool
 ends_name_at [] = false
 ends_name_at (c ∷ t) = ends_tag_name c
 
--- whether a text begins with a name in any case, and white space, "/" or ">" behind it
+-- whether a text begins with a name in any case, and white space, "/" or ">" after it
 abbrev pub begins_name : List ℕ → List ℕ → Bool
 begins_name [] t = ends_name_at t
 begins_name (w ∷ ws) [] = false

@@ -29,7 +29,7 @@ abbrev pub is_word_end : List ℕ → Bool
 is_word_end [] = false
 is_word_end (c ∷ t) = ends_word c
 
--- a name of such characters, and white space or ">" behind it
+-- a name of such characters, and white space or ">" after it
 abbrev pub is_clean_name : List ℕ → Bool
 is_clean_name t = nat_le 1 (clean_name t) && is_word_end (drop (clean_name t) t)
 
@@ -38,7 +38,7 @@ abbrev pub lacks_quote : Option Row → Bool
 lacks_quote None = true
 lacks_quote (Some row) = not (list_any (nat_eq 34) row.name)
 
--- a named reference with ";" and without a double quote behind "&"
+-- a named reference with ";" and without a double quote after "&"
 abbrev pub is_named : List Row → List ℕ → Bool
 is_named rows [] = false
 is_named rows (c ∷ t) =
@@ -54,7 +54,7 @@ clean_value_by true clean t go = is_word_end t
 clean_value_by false true t go = go tt
 clean_value_by false false t go = false
 
--- the rest of a value in double quotes, with white space or ">" behind it
+-- the rest of a value in double quotes, with white space or ">" after it
 abbrev pub is_clean_value : List Row → List ℕ → Bool
 is_clean_value rows [] = false
 is_clean_value rows (c ∷ t) = clean_value_by (nat_eq c 34) (is_clean_text rows c t) t (λ _. is_clean_value rows t)
@@ -70,7 +70,7 @@ clean_equals_by true rows t =
     is_clean_opening rows (drop (white u) u)
 clean_equals_by false rows t = true
 
--- behind an attribute's name: no value, or "=" and a clean one, where white space may stand
+-- after an attribute's name: no value, or "=" and a clean one, where white space may stand
 abbrev pub is_clean_equals : List Row → List ℕ → Bool
 is_clean_equals rows t = clean_equals_by (begins (codes "=") (drop (white t) t)) rows t
 
@@ -103,11 +103,11 @@ is_clean_in_comment c = not (nat_eq c 45) && not (nat_eq c 60) && not (nat_eq c 
 abbrev pub clean_comment : List ℕ → ℕ
 clean_comment t = run (λ c. not (is_clean_in_comment c)) t
 
--- behind "<!--": such characters or none, and "-->"
+-- after "<!--": such characters or none, and "-->"
 abbrev pub is_clean_comment : List ℕ → Bool
 is_clean_comment t = begins (codes "-->") (drop (clean_comment t) t)
 
--- behind "<": a comment, or the doctype
+-- after "<": a comment, or the doctype
 abbrev pub is_clean_declaration : List ℕ → Bool
 is_clean_declaration t = begins (codes "!DOCTYPE html>") t || (begins (codes "!--") t && is_clean_comment (drop 3 t))
 
@@ -119,7 +119,7 @@ is_clean_open Question t = false
 is_clean_open Close t = false
 is_clean_open Other t = false
 
--- behind "<": a tag whose name is clean, a clean comment, or the doctype
+-- after "<": a tag whose name is clean, a clean comment, or the doctype
 abbrev pub is_clean_markup : List ℕ → Bool
 is_clean_markup [] = false
 is_clean_markup (c ∷ t) = is_clean_open (opening c) (c ∷ t)
@@ -146,7 +146,7 @@ module _ {S H F : Type 0} (step : S → Token → ℕ → Result (S × TokenSink
   clean_by true (Ok p) go = go p
   clean_by true (Err e) go = true
 
-  -- whether each item of a reading is clean behind n characters, and the sink finds no error in its token, up to a refusal
+  -- whether each item of a reading is clean after n characters, and the sink finds no error in its token, up to a refusal
   unfoldable pub clean_from : ℕ → Stand → ℕ → S → List ℕ → Bool
   clean_from n st breaks s [] = is_none (fault_at_end st.place) && quiet s EOFToken
   clean_from zero st breaks s (c ∷ t) =

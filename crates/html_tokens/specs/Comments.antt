@@ -24,7 +24,7 @@ abbrev pub comment_by : Option ℕ → Bool → Bool → Stand → List ℕ → 
 comment_by (Some n) faulty odd st front go = told_as (grave_if faulty) (CommentToken front) n st
 comment_by None faulty odd st front go = marked odd (behind (go tt))
 
--- the rest of a comment, behind what was read of it; any end but "-->" makes it faulty
+-- the rest of a comment, after what was read of it; any end but "-->" makes it faulty
 abbrev pub comment_after : Stand → List ℕ → List ℕ → Item
 comment_after st front [] = told_as (Some Grave) (CommentToken front) 0 st
 comment_after st front (c ∷ t) = comment_by (comment_end (c ∷ t)) (not (begins (codes "-->") (c ∷ t))) (is_odd_in_comment c) st front (λ _. comment_after st (front ++ shown c ∷ []) t)
@@ -34,7 +34,7 @@ empty_by true dashed st t = told_as (Some Grave) (CommentToken []) 1 st
 empty_by false true st t = told_as (Some Grave) (CommentToken []) 2 st
 empty_by false false st t = comment_after st [] t
 
--- behind "<!--": a rest that begins with ">" or "->" gives the empty comment, which is a fault
+-- after "<!--": a rest that begins with ">" or "->" gives the empty comment, which is a fault
 abbrev pub comment_at : Stand → List ℕ → Item
 comment_at st t = empty_by (begins (codes ">") t) (begins (codes "->") t) st t
 

@@ -29,7 +29,7 @@ abbrev pub junk_after : Stand → Doctype → List ℕ → Item
 junk_after st d [] = given_more st d 0
 junk_after st d (c ∷ t) = junk_by (nat_eq c 62) st d (λ _. junk_after st d t)
 
--- behind a system identifier: junk here sets nothing (section 13.2.5.67)
+-- after a system identifier: junk here sets nothing (section 13.2.5.67)
 abbrev pub behind_system : Stand → Doctype → List ℕ → Item
 behind_system st d [] = given st (forced d) 0
 behind_system st d (c ∷ t) = junk_after st d (c ∷ t)
@@ -74,7 +74,7 @@ system_by Quote st d c t = behind (system_after c st d [] t)
 system_by Close st d c t = given st (forced d) 1
 system_by Junk st d c t = junk_after st (forced d) (c ∷ t)
 
--- behind SYSTEM and white space (sections 13.2.5.63 and 13.2.5.64)
+-- after SYSTEM and white space (sections 13.2.5.63 and 13.2.5.64)
 abbrev pub system_at : Stand → Doctype → List ℕ → Item
 system_at st d [] = given st (forced d) 0
 system_at st d (c ∷ t) = system_by (opening c) st d c t
@@ -84,7 +84,7 @@ second_by Quote st d c t = behind (system_after c st d [] t)
 second_by Close st d c t = given_more st d 1
 second_by Junk st d c t = junk_after st (forced d) (c ∷ t)
 
--- behind a public identifier and white space (sections 13.2.5.61 and 13.2.5.62)
+-- after a public identifier and white space (sections 13.2.5.61 and 13.2.5.62)
 abbrev pub behind_public : Stand → Doctype → List ℕ → Item
 behind_public st d [] = given st (forced d) 0
 behind_public st d (c ∷ t) = second_by (opening c) st d c t
@@ -103,7 +103,7 @@ public_by Quote st d c t = behind (public_after c st d [] t)
 public_by Close st d c t = given st (forced d) 1
 public_by Junk st d c t = junk_after st (forced d) (c ∷ t)
 
--- behind PUBLIC and white space (sections 13.2.5.57 and 13.2.5.58)
+-- after PUBLIC and white space (sections 13.2.5.57 and 13.2.5.58)
 abbrev pub public_at : Stand → Doctype → List ℕ → Item
 public_at st d [] = given st (forced d) 0
 public_at st d (c ∷ t) = public_by (opening c) st d c t
@@ -120,7 +120,7 @@ keyword_by false true s st d t = behind_all 6 (after_public_keyword st d (drop 6
 keyword_by false false true st d t = behind_all 6 (after_system_keyword st d (drop 6 t))
 keyword_by false false false st d t = junk_after st (forced d) t
 
--- behind the name and white space (section 13.2.5.56)
+-- after the name and white space (section 13.2.5.56)
 abbrev pub keyword_at : Stand → Doctype → List ℕ → Item
 keyword_at st d [] = given st (forced d) 0
 keyword_at st d (c ∷ t) = keyword_by (nat_eq c 62) (begins_any_case (codes "public") (c ∷ t)) (begins_any_case (codes "system") (c ∷ t)) st d (c ∷ t)
@@ -142,7 +142,7 @@ abbrev pub doctype_name_at : Stand → List ℕ → Item
 doctype_name_at st [] = given st (forced no_doctype) 0
 doctype_name_at st (c ∷ t) = name_by (nat_eq c 62) st (c ∷ t)
 
--- behind "<!doctype" and what white space was read (section 13.2.5.54)
+-- after "<!doctype" and what white space was read (section 13.2.5.54)
 abbrev pub doctype_behind : Stand → List ℕ → Item
 doctype_behind st t = behind_all (white t) (doctype_name_at st (drop (white t) t))
 
@@ -151,6 +151,6 @@ abbrev pub goes_on : List ℕ → Bool
 goes_on [] = false
 goes_on (c ∷ t) = not (ends_word c)
 
--- behind "<!doctype": white space is to stand here (section 13.2.5.53)
+-- after "<!doctype": white space is to stand here (section 13.2.5.53)
 abbrev pub doctype_at : Stand → List ℕ → Item
 doctype_at st t = marked (goes_on t) (doctype_behind st t)

@@ -25,18 +25,18 @@ pub record Stand : Type 0 where
 abbrev pub moved : Stand → TextPlace → Stand
 moved st place = record st { place = place }
 
--- an item: the token that it gives, its fault if it has one, how many characters it takes, and where the reading stands behind it
+-- an item: the token that it gives, its fault if it has one, how many characters it takes, and where the reading stands after it
 pub record Item : Type 0 where
   pub token : Option Token
   pub fault : Option Fault
   pub len : ℕ
   pub next : Stand
 
--- the item behind one character more
+-- the item after one character more
 abbrev pub behind : Item → Item
 behind i = record i { len = suc i.len }
 
--- the item behind n characters more
+-- the item after n characters more
 abbrev pub behind_all : ℕ → Item → Item
 behind_all zero i = i
 behind_all (suc n) i = behind (behind_all n i)
@@ -82,7 +82,7 @@ abbrev pub reference_item : Option Fault → Option Reference → Stand → Item
 reference_item fault None st = told_as fault (CharacterTokens (38 ∷ [])) 1 st
 reference_item fault (Some r) st = told_as fault (CharacterTokens r.chars) (suc r.len) st
 
--- whether text of this kind is a script's, behind "<!--"
+-- whether text of this kind is a script's, after "<!--"
 abbrev pub is_escaped_kind : RawKind → Bool
 is_escaped_kind Rcdata = false
 is_escaped_kind Rawtext = false

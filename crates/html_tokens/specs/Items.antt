@@ -17,11 +17,11 @@ declaration_by false true s st t = behind_all 9 (doctype_at st (drop 7 t))
 declaration_by false false true st t = silent 9 (moved st InCdata)
 declaration_by false false false st t = behind_all 2 (bogus_comment_after st [] t)
 
--- behind "<!": a comment, a doctype, a CDATA section where the sink says so, or a bogus comment (section 13.2.5.42)
+-- after "<!": a comment, a doctype, a CDATA section where the sink says so, or a bogus comment (section 13.2.5.42)
 abbrev pub declaration_at : Bool → Stand → List ℕ → Item
 declaration_at cdata st t = declaration_by (begins (codes "--") t) (begins_any_case (codes "doctype") t) (cdata && begins (codes "[CDATA[") t) st t
 
--- what the character behind "<" or "</" begins
+-- what the character after "<" or "</" begins
 pub data Opening : Type 0 where
   Letter : Opening
   Slash : Opening
@@ -47,7 +47,7 @@ end_by Mark st c t = behind_all 2 (bogus_comment_after st [] (c ∷ t))
 end_by Question st c t = behind_all 2 (bogus_comment_after st [] (c ∷ t))
 end_by Other st c t = behind_all 2 (bogus_comment_after st [] (c ∷ t))
 
--- behind "</"; "</>" gives nothing and is a fault (section 13.2.5.7)
+-- after "</"; "</>" gives nothing and is a fault (section 13.2.5.7)
 abbrev pub end_at : Stand → List ℕ → Item
 end_at st [] = unopened st
 end_at st (c ∷ t) = end_by (opening c) st c t
@@ -60,7 +60,7 @@ open_by Question cdata st c t = behind (bogus_comment_after st [] (c ∷ t))
 open_by Close cdata st c t = unopened st
 open_by Other cdata st c t = unopened st
 
--- behind "<" (section 13.2.5.6)
+-- after "<" (section 13.2.5.6)
 abbrev pub open_at : Bool → Stand → List ℕ → Item
 open_at cdata st [] = unopened st
 open_at cdata st (c ∷ t) = open_by (opening c) cdata st c t

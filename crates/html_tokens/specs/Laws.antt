@@ -30,13 +30,13 @@ IsReadByItems {S} step cdata ends =
     (erred : Fault → S → S) (rows : List Row) (st : Stand) (breaks : ℕ) (s : S) (c : ℕ) (t : List ℕ)
     → reading step erred cdata ends rows st breaks s (c ∷ t) ≡ play step erred cdata ends rows (item rows (cdata s) st c t) breaks s (c ∷ t)
 
--- a reading may be cut anywhere: behind as many characters as an item took, it goes on as for what is left
+-- a reading may be cut anywhere: after as many characters as an item took, it goes on as for what is left
 abbrev pub IsSkipped : {S H F : Type 0} → (S → Token → ℕ → Result (S × TokenSinkResult H) F) → (S → Bool) → (S → S) → Type 0
 IsSkipped {S} step cdata ends =
     (erred : Fault → S → S) (rows : List Row) (n : ℕ) (st : Stand) (breaks : ℕ) (s : S) (t : List ℕ)
     → reading_from step erred cdata ends rows n st breaks s t ≡ reading step erred cdata ends rows st breaks s (drop n t)
 
--- whether a text, behind a carriage return or behind none, ends in one
+-- whether a text, after a carriage return or after none, ends in one
 abbrev pub ends_in_return : Bool → List ℕ → Bool
 ends_in_return cr [] = cr
 ends_in_return cr (c ∷ t) = ends_in_return (nat_eq c 13) t
@@ -45,7 +45,7 @@ ends_in_return cr (c ∷ t) = ends_in_return (nat_eq c 13) t
 abbrev pub AreNewlinesJoined : Type 0
 AreNewlinesJoined = (cr : Bool) (a b : List ℕ) → newlines_behind cr (a ++ b) ≡ newlines_behind cr a ++ newlines_behind (ends_in_return cr a) b
 
--- the normalised text of pieces, each behind the carriage return that the pieces before it end in
+-- the normalised text of pieces, each after the carriage return that the pieces before it end in
 abbrev pub newlines_of_pieces : Bool → List (List ℕ) → List ℕ
 newlines_of_pieces cr [] = []
 newlines_of_pieces cr (piece ∷ pieces) = newlines_behind cr piece ++ newlines_of_pieces (ends_in_return cr piece) pieces

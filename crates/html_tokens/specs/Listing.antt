@@ -12,7 +12,7 @@ use Rattle.html_tokens.specs.Reading.{reading}
 use Rattle.html_tokens.specs.Table.{Row}
 
 -- the tokens with their lines, the newest first; whether the CDATA question is answered yes;
--- the line on which the end of input was told, and whether the sink was ended behind that
+-- the line on which the end of input was told, and whether the sink was ended after that
 pub record Listing : Type 0 where
   pub told : List (Token × ℕ)
   pub cdata : Bool

@@ -6,7 +6,7 @@ newline_by true after c go = 10 ∷ go true
 newline_by false true c go = go false
 newline_by false false c go = c ∷ go false
 
--- a text behind a carriage return, or behind none: CR LF and CR are one LF each
+-- a text after a carriage return, or after none: CR LF and CR are one LF each
 abbrev pub newlines_behind : Bool → List ℕ → List ℕ
 newlines_behind cr [] = []
 newlines_behind cr (c ∷ t) = newline_by (nat_eq c 13) (cr && nat_eq c 10) c (λ b. newlines_behind b t)

@@ -23,7 +23,7 @@ abbrev pub one_if : Bool → ℕ
 one_if true = 1
 one_if false = 0
 
--- a list of pauses behind one reply more
+-- a list of pauses after one reply more
 abbrev pub paused : {H : Type 0} → List (TokenSinkResult H) → TokenSinkResult H → List (TokenSinkResult H)
 paused pauses Continue = pauses
 paused pauses (Script handle) = pauses ++ Script handle ∷ []
@@ -36,7 +36,7 @@ abbrev pub noted : {S H F : Type 0} → Notes H → Result (S × TokenSinkResult
 noted notes (Ok p) = Ok ((p.0, record notes { pauses = paused notes.pauses p.1 }), p.1)
 noted notes (Err e) = Err (e, notes.errors)
 
--- what was noted, behind a token that is quiet or is not
+-- what was noted, after a token that is quiet or is not
 abbrev pub heard : {H : Type 0} → Bool → Notes H → Notes H
 heard quiet notes = record notes { is_quiet = notes.is_quiet && quiet }
 
@@ -44,7 +44,7 @@ heard quiet notes = record notes { is_quiet = notes.is_quiet && quiet }
 abbrev pub noting : {S H F : Type 0} → (S → Token → ℕ → Result (S × TokenSinkResult H) F) → (S → Token → Bool) → S × Notes H → Token → ℕ → Result ((S × Notes H) × TokenSinkResult H) (F × ℕ)
 noting step quiet s token line = noted (heard (quiet s.0 token) s.1) (step s.0 token line)
 
--- what was noted, behind a fault
+-- what was noted, after a fault
 abbrev pub wronged : {H : Type 0} → Fault → Notes H → Notes H
 wronged Grave notes = record notes { errors = suc notes.errors; is_quiet = false }
 wronged Slight notes = record notes { is_quiet = false }

@@ -21,7 +21,7 @@ abbrev pub slash_name : List ℕ → List ℕ → Bool
 slash_name name [] = false
 slash_name name (c ∷ t) = nat_eq c 47 && begins_name (map to_ascii_lowercase name) t
 
--- whether the fitting end tag stands behind a "<": "/", the last start tag's name in any case, and white space, "/" or ">"
+-- whether the fitting end tag stands after a "<": "/", the last start tag's name in any case, and white space, "/" or ">"
 abbrev pub is_fitting_end : Option (List ℕ) → List ℕ → Bool
 is_fitting_end None t = false
 is_fitting_end (Some name) t = is_letters name && slash_name name t
@@ -40,7 +40,7 @@ has_references Rawtext = false
 has_references ScriptData = false
 has_references (ScriptDataEscaped kind) = false
 
--- how a script's text goes on behind a character:
+-- how a script's text goes on after a character:
 -- "<!--" escapes it, "<script" in escaped text escapes it twice, "</script" there takes the second back, and "-->" takes back both
 abbrev pub kind_behind : RawKind → ℕ → List ℕ → RawKind
 kind_behind Rcdata c t = Rcdata

@@ -11,7 +11,7 @@ use Rattle.html_tokens.specs.Item.{TextPlace, InData, InRaw, InPlaintext, Stand,
 use Rattle.html_tokens.specs.Items.{item}
 pub use Rattle.html_tokens.specs.Sink.{◌>>=◌}
 
--- where a reading goes on behind the sink's reply
+-- where a reading goes on after the sink's reply
 abbrev pub next_stand : {H : Type 0} → Stand → TokenSinkResult H → Stand
 next_stand st Continue = st
 next_stand st (Script handle) = st
@@ -39,7 +39,7 @@ abbrev pub line_breaks : List ℕ → ℕ
 line_breaks [] = 0
 line_breaks (c ∷ t) = line_break (nat_eq c 10) + line_breaks t
 
--- the line behind so many line breaks, which stops at the greatest number of 64 bits
+-- the line after so many line breaks, which stops at the greatest number of 64 bits
 abbrev pub line_number : ℕ → ℕ
 line_number breaks = min (breaks + 1) 0xffff_ffff_ffff_ffff
 
@@ -48,14 +48,14 @@ abbrev pub erred_by : {S : Type 0} → (Fault → S → S) → Option Fault → 
 erred_by erred None s = s
 erred_by erred (Some fault) s = erred fault s
 
--- what an item's token, or none, makes of a sink behind so many line breaks, where its fault, if it has one, comes first
+-- what an item's token, or none, makes of a sink after so many line breaks, where its fault, if it has one, comes first
 abbrev pub said : {S H F : Type 0} → (S → Token → ℕ → Result (S × TokenSinkResult H) F) → (Fault → S → S) → Option Fault → Option Token → ℕ → S → Result (S × TokenSinkResult H) F
 said step erred fault None breaks s = Ok (erred_by erred fault s, Continue)
 said step erred fault (Some token) breaks s = step (erred_by erred fault s) token (line_number breaks)
 
 -- over a sink: what a token makes of it, what a fault makes of it, whether it asks for CDATA sections, and what its end makes of it
 module _ {S H F : Type 0} (step : S → Token → ℕ → Result (S × TokenSinkResult H) F) (erred : Fault → S → S) (cdata : S → Bool) (ends : S → S) (rows : List Row) where
-  -- what a text behind n characters of it makes of a sink, where so many line breaks were read
+  -- what a text after n characters of it makes of a sink, where so many line breaks were read
   unfoldable pub reading_from : ℕ → Stand → ℕ → S → List ℕ → Result S F
   reading_from n st breaks s [] = said step erred (fault_at_end st.place) (Some EOFToken) breaks s >>= λ p. Ok (ends p.0)
   reading_from zero st breaks s (c ∷ t) =

@@ -1,4 +1,4 @@
--- Character references, behind their "&" (HTML Standard, sections 13.2.5.72 to 13.2.5.80).
+-- Character references, after their "&" (HTML Standard, sections 13.2.5.72 to 13.2.5.80).
 use Rattle.std.specs.Prelude.{ℕ, zero, suc, ◌+◌, ◌-◌, ◌*◌, Bool, true, false, ◌||◌, ◌&&◌, not, nat_eq, nat_lt, nat_le, List, [], ◌∷◌, length, take, drop, codes, Option, Some, None, if◌then◌else◌}
 use Rattle.std.specs.Char.{is_ascii_digit, is_ascii_hexdigit, is_ascii_alphanumeric}
 use Rattle.std.specs.List.{ends_with}
@@ -6,7 +6,7 @@ use Rattle.html_tokens.specs.Characters.{run}
 use Rattle.html_tokens.specs.Table.{Row, values, longest}
 use Rattle.html_tokens.specs.Fault.{Fault, Grave, Slight, slight_if}
 
--- what a reference stands for, and how many characters it takes behind "&"
+-- what a reference stands for, and how many characters it takes after "&"
 pub record Reference : Type 0 where
   pub chars : List ℕ
   pub len : ℕ
@@ -48,12 +48,12 @@ abbrev pub semicolon : List ℕ → ℕ
 semicolon [] = 0
 semicolon (c ∷ t) = if nat_eq c 59 then 1 else 0
 
--- what a numeric reference writes, and how many characters it takes behind "&"
+-- what a numeric reference writes, and how many characters it takes after "&"
 pub record Number : Type 0 where
   pub value : ℕ
   pub len : ℕ
 
--- n digits behind a prefix of k characters, if there is one digit at least
+-- n digits after a prefix of k characters, if there is one digit at least
 abbrev pub digits_at : ℕ → ℕ → ℕ → List ℕ → Option Number
 digits_at k base zero t = None
 digits_at k base (suc n) t = Some (record { value = number base (take (suc n) t); len = k + suc n + semicolon (drop (suc n) t) })
@@ -62,7 +62,7 @@ abbrev pub numeric_by : Bool → ℕ → List ℕ → Option Number
 numeric_by true c t = digits_at 2 16 (run (λ d. not (is_ascii_hexdigit d)) t) t
 numeric_by false c t = digits_at 1 10 (run (λ d. not (is_ascii_digit d)) (c ∷ t)) (c ∷ t)
 
--- a numeric reference, behind "&#"
+-- a numeric reference, after "&#"
 abbrev pub numeric : List ℕ → Option Number
 numeric [] = None
 numeric (c ∷ t) = numeric_by (nat_eq c 120 || nat_eq c 88) c t
@@ -110,7 +110,7 @@ abbrev pub reference_by : Bool → Bool → List Row → ℕ → List ℕ → Op
 reference_by true in_value rows c t = numbered_reference (numeric t)
 reference_by false in_value rows c t = named_row in_value (longest rows (c ∷ t)) (c ∷ t)
 
--- the reference behind "&", in an attribute's value or in text; none where "&" is text
+-- the reference after "&", in an attribute's value or in text; none where "&" is text
 abbrev pub reference_at : Bool → List Row → List ℕ → Option Reference
 reference_at in_value rows [] = None
 reference_at in_value rows (c ∷ t) = reference_by (nat_eq c 35) in_value rows c t

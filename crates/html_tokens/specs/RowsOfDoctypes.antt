@@ -20,12 +20,12 @@ doctype_rows =
     -- no name
     ∷ row "<!DOCTYPE>" (quirky no no no ∷ [])
     ∷ row "<!DOCTYPE  >" (quirky no no no ∷ [])
-    -- another word behind the name
+    -- another word after the name
     ∷ row "<!DOCTYPE html x>" (quirky (yes "html") no no ∷ [])
     ∷ row "<!DOCTYPE html x \"a>b" (quirky (yes "html") no no ∷ text "b" ∷ [])
     ∷ row "<!DOCTYPE PUBLIC \"a\">" (quirky (yes "public") no no ∷ [])
     ∷ row "<!DOCTYPE html PUBLI \"a\">" (quirky (yes "html") no no ∷ [])
-    -- no quote behind a keyword
+    -- no quote after a keyword
     ∷ row "<!DOCTYPE html PUBLIC>" (quirky (yes "html") no no ∷ [])
     ∷ row "<!DOCTYPE html PUBLIC a>" (quirky (yes "html") no no ∷ [])
     ∷ row "<!DOCTYPE html SYSTEM >" (quirky (yes "html") no no ∷ [])
@@ -34,7 +34,7 @@ doctype_rows =
     ∷ row "<!DOCTYPE html PUBLIC \"a>b" (quirky (yes "html") (yes "a") no ∷ text "b" ∷ [])
     ∷ row "<!DOCTYPE html PUBLIC \"a\" 'b>c" (quirky (yes "html") (yes "a") (yes "b") ∷ text "c" ∷ [])
     ∷ row "<!DOCTYPE html SYSTEM 'a>b" (quirky (yes "html") no (yes "a") ∷ text "b" ∷ [])
-    -- junk behind a public identifier
+    -- junk after a public identifier
     ∷ row "<!DOCTYPE html PUBLIC \"a\" b \"c\">" (quirky (yes "html") (yes "a") no ∷ [])
     -- ends of input
     ∷ row "<!DOCTYPE" (quirky no no no ∷ [])

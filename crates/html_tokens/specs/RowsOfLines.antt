@@ -39,14 +39,14 @@ line_rows =
 abbrev pub AreLineRowsRead : Type 0
 AreLineRowsRead = map (λ r. lines_of r.0) line_rows ≡ map (λ r. r.1) line_rows
 
--- a sink that pauses behind the start tags a and m
+-- a sink that pauses after the start tags a and m
 abbrev pub pausing : Tag → TokenSinkResult ℕ
 pausing tag = if bytes_eq tag.name (codes "a") then Script 7 else if bytes_eq tag.name (codes "m") then EncodingIndicator (codes "utf8") else Continue
 
 abbrev pub pauses_of : List ℕ → Result (List (TokenSinkResult ℕ)) (ParseFault × ℕ)
 pauses_of t = pauses (step pausing) (λ s token. true) (λ s. s.cdata) finished five data_stand 0 (empty false) t
 
--- a pause comes behind its tag, and the reading goes on behind it as it would with no pause
+-- a pause comes after its tag, and the reading goes on after it as it would with no pause
 abbrev pub ArePauseRowsRead : Type 0
 ArePauseRowsRead =
     AreRead five pausing false data_stand (row "<a>b" (start "a" [] ∷ text "b" ∷ []) ∷ row "x<m>&lt;<a>" (text "x" ∷ start "m" [] ∷ text "<" ∷ start "a" [] ∷ []) ∷ [])
@@ -54,7 +54,7 @@ ArePauseRowsRead =
     × (pauses_of (codes "x<m>y<b><a><m") ≡ Ok (EncodingIndicator (codes "utf8") ∷ Script 7 ∷ []))
     × (pauses_of (codes "<b>") ≡ Ok [])
 
--- at the end of input the sink is told the end once, and `end` is called behind it
+-- at the end of input the sink is told the end once, and `end` is called after it
 abbrev pub IsEndRowRead : Type 0
 IsEndRowRead =
     reading (step goes_on) (λ fault s. s) (λ s. s.cdata) finished five data_stand 0 (empty false) (codes "a" ++ 10 ∷ codes "<b") ≡ Ok (record { told = (text_of (codes "a" ++ 10 ∷ []), 0) ∷ []; cdata = false; ended_at = Some 2; ended = true })

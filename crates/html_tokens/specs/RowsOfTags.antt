@@ -51,7 +51,7 @@ tag_rows =
     ∷ row "<a b=''" []
     ∷ row "<a b =" []
     ∷ row "</a b " []
-    -- behind a tag comes data again
+    -- after a tag comes data again
     ∷ row "<p>a&amp;b</p>c<!--d-->" (start "p" [] ∷ text "a&b" ∷ end "p" [] ∷ text "c" ∷ comment "d" ∷ [])
     ∷ []
 

@@ -63,7 +63,7 @@ value_by rows odd true amp c t go = no_more
 value_by rows odd false true c t go = later (is_some (fault_of_reference rows t)) (reference_chars (reference_at true rows t)) (go (reference_len (reference_at true rows t)))
 value_by rows odd false false c t go = later odd (shown c ∷ []) (go 0)
 
--- what a value still has behind n characters, up to its end or the end of input (sections 13.2.5.36 to 13.2.5.38)
+-- what a value still has after n characters, up to its end or the end of input (sections 13.2.5.36 to 13.2.5.38)
 unfoldable pub value_from : List Row → (ℕ → Bool) → (ℕ → Bool) → ℕ → List ℕ → Value
 value_from rows odd ends n [] = no_more
 value_from rows odd ends zero (c ∷ t) = value_by rows (odd c) (ends c) (nat_eq c 38) c t (λ n. value_from rows odd ends n t)
@@ -86,7 +86,7 @@ abbrev pub lacks_space : List ℕ → Bool
 lacks_space [] = false
 lacks_space (c ∷ t) = not (ends_tag_name c)
 
--- n characters up to the quote, and the quote, behind which no attribute may stand
+-- n characters up to the quote, and the quote, after which no attribute may stand
 abbrev pub quote_at : ℕ → Stand → List ℕ → Item
 quote_at n st [] = silent n st
 quote_at n st (c ∷ t) = marked (lacks_space t) (silent (suc n) st)
@@ -114,7 +114,7 @@ abbrev pub opened_at : List Row → Stand → Tag → List ℕ → List ℕ → 
 opened_at rows st tag name [] = no_value st tag name
 opened_at rows st tag name (c ∷ t) = opened_by (opening c) rows st tag name c t
 
--- behind "=" (section 13.2.5.35)
+-- after "=" (section 13.2.5.35)
 abbrev pub value_at : List Row → Stand → Tag → List ℕ → List ℕ → Item
 value_at rows st tag name t = behind_all (white t) (opened_at rows st tag name (drop (white t) t))
 
@@ -122,7 +122,7 @@ abbrev pub equals_by : Bool → List Row → Stand → Tag → List ℕ → List
 equals_by true rows st tag name t = behind_all (suc (white t)) (value_at rows st tag name (drop (suc (white t)) t))
 equals_by false rows st tag name t = no_value st tag name
 
--- behind an attribute's name: "=" brings a value, also behind white space (section 13.2.5.34)
+-- after an attribute's name: "=" brings a value, also after white space (section 13.2.5.34)
 abbrev pub equals_at : List Row → Stand → Tag → List ℕ → List ℕ → Item
 equals_at rows st tag name t = equals_by (begins (codes "=") (drop (white t) t)) rows st tag name t
 
@@ -153,7 +153,7 @@ or_last None last = last
 abbrev pub last_name : TagKind → List ℕ → Option (List ℕ) → Option (List ℕ)
 last_name kind name last = or_last (own_name kind name) last
 
--- where a reading stands behind a tag, if the sink names no other text
+-- where a reading stands after a tag, if the sink names no other text
 abbrev pub behind_tag : Stand → Tag → Stand
 behind_tag st tag = record { place = InData; last_start_tag = last_name tag.kind tag.name st.last_start_tag }
 
@@ -192,6 +192,6 @@ tag_by Solidus rows st tag c t = slash_by (begins (codes ">") t) st tag
 tag_by End rows st tag c t = tag_end st tag 1
 tag_by Attributes rows st tag c t = marked (is_odd_first c) (behind (attribute_after rows st tag (lowered c ∷ []) t))
 
--- behind a tag's name (sections 13.2.5.32, 13.2.5.39 and 13.2.5.40)
+-- after a tag's name (sections 13.2.5.32, 13.2.5.39 and 13.2.5.40)
 abbrev pub tag_at : List Row → Stand → Tag → ℕ → List ℕ → Item
 tag_at rows st tag c t = tag_by (part c) rows st tag c t

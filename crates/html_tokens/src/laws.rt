@@ -17,7 +17,7 @@ pub fn readings_go_by_items<S: TokenSink>()
     ensures { IsReadByItems S.step S.asks_cdata S.ended }
 {}
 
-/// Behind an item a reading goes on as for what is left of the text.
+/// After an item a reading goes on as for what is left of the text.
 pub fn readings_go_on_behind_items<S: TokenSink>()
     ensures { IsSkipped S.step S.asks_cdata S.ended }
 {}

@@ -7,7 +7,7 @@ use markup::Text;
 #[derive(Debug, Drop)]
 #[must_use]
 pub enum TokenSinkResult<Handle> {
-    /// Go on: behind a tag comes text of `Data`.
+    /// Go on: after a tag comes text of `Data`.
     Continue,
     /// The element of a script ended: pause, so that it may run.
     Script(Handle),

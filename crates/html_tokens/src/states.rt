@@ -5,18 +5,18 @@ ghost use Rattle.html_tokens.specs.TextState.{is_text_state};
 /// Which of two depths of escaping the text of a script is in.
 #[derive(Clone, Copy, Debug, PartialEq, Eq, Hash)]
 pub enum ScriptEscapeKind {
-    /// Behind `<!--`.
+    /// After `<!--`.
     Escaped,
-    /// Behind a `<script` behind that.
+    /// After a `<script` after that.
     DoubleEscaped,
 }
 
 /// Which of a doctype's identifiers is read.
 #[derive(Clone, Copy, Debug, PartialEq, Eq, Hash)]
 pub enum DoctypeIdKind {
-    /// The one behind `PUBLIC`.
+    /// The one after `PUBLIC`.
     Public,
-    /// The one behind `SYSTEM`, or behind the public one.
+    /// The one after `SYSTEM`, or after the public one.
     System,
 }
 
@@ -40,7 +40,7 @@ pub enum RawKind {
     Rawtext,
     /// The text of `script` (section 13.2.5.4).
     ScriptData,
-    /// The text of `script` behind `<!--` (sections 13.2.5.20 and 13.2.5.27).
+    /// The text of `script` after `<!--` (sections 13.2.5.20 and 13.2.5.27).
     ScriptDataEscaped(ScriptEscapeKind),
 }
 

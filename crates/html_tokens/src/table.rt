@@ -45,7 +45,7 @@ impl ReferenceRow {
 /// Why a table of references was not made. Rows count from 1.
 #[derive(Clone, Copy, Debug, PartialEq, Eq, Hash, Error)]
 pub enum TableFault {
-    /// The name is not letters and digits of ASCII, one at least, with `;` or nothing behind them.
+    /// The name is not letters and digits of ASCII, one at least, with `;` or nothing after them.
     #[error("row {0} has no name of letters and digits")]
     BadName(u64),
     /// An earlier row has the name.

@@ -12,9 +12,9 @@ use std::borrow::CowStr;
 pub struct Doctype {
     /// The name, with ASCII letters lowered, if there is one.
     pub name: Option<Text>,
-    /// The identifier behind `PUBLIC`, if there is one.
+    /// The identifier after `PUBLIC`, if there is one.
     pub public_id: Option<Text>,
-    /// The identifier behind `SYSTEM`, or behind the public one, if there is one.
+    /// The identifier after `SYSTEM`, or after the public one, if there is one.
     pub system_id: Option<Text>,
     /// Whether the doctype is so faulty that the document is laid out in quirks mode.
     pub force_quirks: bool,

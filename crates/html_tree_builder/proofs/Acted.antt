@@ -1,4 +1,4 @@
--- What stands behind an action that may be taken.
+-- What stands after an action that may be taken.
 use Rattle.std.proofs.Common.{◌≡◌, ◌∙◌, false, ap, sym, subst}
 use Rattle.markup.specs.Forest.{Forest}
 use Rattle.markup.specs.declared.tree_sink.TreeSink.{Ghosts}

@@ -15,7 +15,7 @@ use Rattle.html_rules.specs.declared.insertion_mode.InsertionMode.TheVariants.{B
 pub kept-doctype : (drop_doctype : Bool) (d : Doctype) (s r : State) → drop_doctype ≡ false → r ≡ append_doctype_to_document d s → r ≡ if_kept drop_doctype d s
 kept-doctype drop_doctype d s r e is = rw e is
 
--- told, put, laid out, and behind it the mode
+-- told, put, laid out, and after it the mode
 pub first-doctype : (d : Doctype) (s told put laid r : State) (is_error iframe_srcdoc : Bool) (q : QuirksMode)
     → is_error ≡ doctype_error d → told ≡ choose is_error (λ _. parse_error s) (λ _. s)
     → put ≡ if_kept s.opts.drop_doctype d told

@@ -16,7 +16,7 @@ pub record IsPassed (xs : List Row) (i : ℕ) (t : Token) (s : State) : Type 0 w
 pub IsPassed-start : (xs : List Row) (t : Token) (s : State) → IsPassed xs 0 t s
 IsPassed-start xs t s = record { same = λ rest. refl }
 
--- the row at hand, then those behind it
+-- the row at hand, then those after it
 at-hand : (xs : List Row) (i : ℕ) (d : Row) (t : Token) (s : State) (rest : List rules.Row) → i < length xs → first_fit (rows_of (drop i xs) ++ rest) t s ≡ choose (fits (row_of (get_or xs i d)) t s) (λ _. row_of (get_or xs i d)) (λ _. first_fit (rows_of (drop (i + 1) xs) ++ rest) t s)
 at-hand xs i d t s rest l = rw (add-one, drop-cons xs i d l) refl
 

@@ -31,7 +31,7 @@ four_turns (x ∷ xs) = more 4 (four_turns xs)
 abbrev pub all_turns : List Open → ℕ
 all_turns xs = more 16 (four_turns xs)
 
--- turns behind turns are turns
+-- turns after turns are turns
 
 settled-same : (f g : State → Settled) → ((s : State) → f s ≡ g s) → (e : Ending) (t : Token) (s : State) → settled_by f e t s ≡ settled_by g e t s
 settled-same f g h (Finished acknowledged) t s = refl

@@ -30,7 +30,7 @@ text-state [] x y e = e
 text-state (c ∷ cs) x y e =
     text-state cs (behind x (settle (CharacterTokens (c ∷ [])) x.state)) (behind y (settle (CharacterTokens (c ∷ [])) y.state)) (ap (λ s. (settle (CharacterTokens (c ∷ [])) s).state) e)
 
--- behind its first character the text goes on
+-- after its first character the text goes on
 pub next-character : (whole one rest : List ℕ) (s r : State) → IsSplit whole one rest → r ≡ (settle (CharacterTokens (chars one)) s).state → (text_taken (chars rest) (untouched r)).state ≡ (text_taken (chars whole) (untouched s)).state
 next-character whole one rest s r is e =
     let same : r ≡ (settle (CharacterTokens (is.first ∷ [])) s).state = rw is.character at e in

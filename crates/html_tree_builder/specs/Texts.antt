@@ -2,7 +2,7 @@
 use Rattle.std.specs.Prelude.{◌≡◌, ◌<◌, length, List, ℕ, [], ◌∷◌}
 use Rattle.std.specs.Str.{IsUtf8, chars}
 
--- a text is its first character and what stands behind that
+-- a text is its first character and what stands after that
 pub record IsSplit (whole one rest : List ℕ) : Type 0 where
   pub first : ℕ
   pub character : chars one ≡ first ∷ []

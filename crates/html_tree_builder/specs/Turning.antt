@@ -13,7 +13,7 @@ use Rattle.html_tree_builder.specs.Acting.{MayAct}
 use Rattle.html_tree_builder.specs.declared.conclusions.Next.{Next}
 use Rattle.html_tree_builder.specs.declared.conclusions.Next.TheVariants as next
 
--- what comes behind a row's actions may be done, where `may` says when the rules of another mode may be used, and `using` is what they make of a token
+-- what comes after a row's actions may be done, where `may` says when the rules of another mode may be used, and `using` is what they make of a token
 abbrev pub MayConclude : (InsertionMode → Token → State → Type 0) → (InsertionMode → Token → State → Turn) → Conclusion → Token → State → Type 0
 MayConclude may using (Using m) t s = may m t s
 MayConclude may using (UsingThen m after) t s = may m t s × MayAct after t (using m t s).state

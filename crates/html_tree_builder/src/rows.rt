@@ -127,7 +127,7 @@ impl<Sink: TreeSink> Construction<Sink> {
         }
     }
 
-    /// The same of two parts, of which one stands behind the other.
+    /// The same of two parts, of which one stands after the other.
     fn find_in_both(
         &self,
         sink: &Sink,

@@ -4,7 +4,7 @@ ghost use Rattle.std.specs.Str.{chars};
 ghost use Rattle.html_rules.specs.Step.{behind_line_feed};
 ghost use Rattle.html_tree_builder.specs.Texts.{IsSplit};
 
-/// The first character of a text, and what stands behind it.
+/// The first character of a text, and what stands after it.
 pub(crate) fn split_first(text: &str) -> Option<(&str, &str)>
     ensures { MatchOption result (chars text.now ≡ []) (λ parts. IsSplit text.now parts.0.now parts.1.now) }
 {
@@ -12,7 +12,7 @@ pub(crate) fn split_first(text: &str) -> Option<(&str, &str)>
     Some(text.split_at(first.len_utf8()))
 }
 
-/// A text behind the line feed at its front, if that is to be dropped.
+/// A text after the line feed at its front, if that is to be dropped.
 pub(crate) fn behind_line_feed(ignore_lf: bool, text: &str) -> &str
     ensures { chars result.now ≡ behind_line_feed ignore_lf (chars text.now) }
 {

@@ -42,7 +42,7 @@ position-any : (t : Attribute → Bool) (i : ℕ) (l : List Attribute) → is_so
 position-any t i [] = refl
 position-any t i (y ∷ l) = some_by (t y) i (position_from t (i + 1) l) (list_any t l) (position-any t (i + 1) l)
 
--- an element so far behind the place where a search began is what is found
+-- an element so far after the place where a search began is what is found
 record IsFound (t : Attribute → Bool) (i : ℕ) (l : List Attribute) (place : ℕ) : Type 0 where
   behind : ℕ
   at : place ≡ i + behind

@@ -1,4 +1,4 @@
--- All children of one node behind those of another.
+-- All children of one node after those of another.
 use Rattle.std.proofs.Common.{◌≡◌, ◌≢◌, ◌<◌, ℕ, true, false, List, [], ◌++◌, Some, sym, ap, ◌∙◌, refl, inl, inr, arith, set}
 use Rattle.std.proofs.lemmas.List.{set-get_or, set-set}
 use Rattle.std.proofs.lemmas.Bool.{cases_eq, cases_Bool}
@@ -7,7 +7,7 @@ use Rattle.markup.proofs.Children.{is_among-append_left, is_among-append_right, 
 use Rattle.markup.proofs.Parents.{parent_of-only, parent_of-same, is_among-no_parent, children_of-with_children, children_of-with_children_other, data_of-with_children, node_count-with_children, above_of-same}
 use Rattle.markup.proofs.Walks.{IsMoved, Above-up, Ends-moved}
 
--- the children of one node move behind those of another
+-- the children of one node move after those of another
 pub record IsReparented (f g : Forest) (from to : ℕ) : Type 0 where
   pub is : IsForest g
   pub moved : IsMoved f g (λ n. is_among n (children_of f from)) to
@@ -19,7 +19,7 @@ pub record IsReparented (f g : Forest) (from to : ℕ) : Type 0 where
   pub count : node_count g ≡ node_count f
   pub same_data : (n : ℕ) → data_of g n ≡ data_of f n
 
--- moved behind themselves they stay as they are
+-- moved after themselves they stay as they are
 pub reparent_children-same : (f : Forest) (n : ℕ) → n < node_count f → reparent_children f n n ≡ f
 reparent_children-same f n there =
     ap (λ (cs : List ℕ). with_children (with_children f n []) n cs) (ap (λ (cs : List ℕ). cs ++ children_of f n) (children_of-with_children f n [] there))

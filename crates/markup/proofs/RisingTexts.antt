@@ -48,7 +48,7 @@ list_any-map : {X Y : Type 0} (p : Y → Bool) (f : X → Y) (xs : List X) → l
 list_any-map p f [] = refl
 list_any-map p f (x ∷ xs) = ap (λ b. p (f x) || b) (list_any-map p f xs)
 
--- a text is not among others of which each comes before it or behind it
+-- a text is not among others of which each comes before it or after it
 pub none_found : {X : Type 0} (key : X → List ℕ) (xs : List X) (name : List ℕ) (i : ℕ) → IsPartitionPoint (λ x. slice_cmp nat_cmp (key x) name ≡ Less) (λ x. slice_cmp nat_cmp (key x) name ≡ Greater) xs i → list_any (bytes_eq name) (map key xs) ≡ false
 none_found key xs name i h =
     list_any-map (bytes_eq name) key xs

@@ -160,7 +160,7 @@ unfolding trees_within
 none-by f zero rest = refl
 none-by f (suc count) rest = refl
 
--- and end with what stands behind the last
+-- and end with what stands after the last
 pub trees-none : (f : Forest) (rest : Trees) → trees_before f [] rest ≡ rest
 trees-none f rest = none-by f (node_count f) rest
 

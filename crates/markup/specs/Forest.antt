@@ -266,7 +266,7 @@ remove_under f n (Some parent) = with_children f parent (without n (children_of 
 abbrev pub remove : Forest → ℕ → Forest
 remove f n = remove_under f n (parent_of f n)
 
--- all children of one node, in order, behind those of another
+-- all children of one node, in order, after those of another
 abbrev pub reparent_children : Forest → ℕ → ℕ → Forest
 reparent_children f from to =
     let emptied = with_children f from [] in

@@ -211,7 +211,7 @@ impl Attributes {
     }
 }
 
-// Puts an attribute behind others, which have room for it.
+// Puts an attribute after others, which have room for it.
 fn put_last(
     list: &mut Vec<Attribute>,
     index: Option<Box<AttributeIndex>>,
@@ -234,7 +234,7 @@ fn put_last(
     attribute_index::grown(index, alloc, list.as_slice())
 }
 
-// Puts behind attributes, in order, those of others whose name they lack. There is room for all of them.
+// Puts after attributes, in order, those of others whose name they lack. There is room for all of them.
 fn put_missing(
     list: &mut Vec<Attribute>,
     mut index: Option<Box<AttributeIndex>>,

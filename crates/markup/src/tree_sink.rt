@@ -179,7 +179,7 @@ pub trait TreeSink {
         requires { IsNode (forest self.old) (node target.now) }
         ensures { forest self.new ≡ remove (forest self.old) (node target.now) };
 
-    /// Moves all children of `from`, in order, behind those of `to`. No texts join.
+    /// Moves all children of `from`, in order, after those of `to`. No texts join.
     fn reparent_children(
         &mut self,
         from: &Self::Handle,

@@ -26,7 +26,7 @@ fn byte_of(text: &str, place: usize) -> usize {
     }
 }
 
-/// A text cut in two, so many characters behind its beginning.
+/// A text cut in two, so many characters after its beginning.
 pub fn in_two(alloc: Global, text: &str, place: usize) -> Result<Vec<String>, AllocError> {
     match text.split_at_checked(byte_of(text, place)) {
         Some((front, behind)) => as_given(alloc, &[front, behind]),

@@ -115,7 +115,7 @@ fn refused(sink: &mut Listed) -> Option<ParseFault> {
     sink.process_token(Token::NullCharacterToken, 1).err()
 }
 
-// Whether a sink refuses a token behind its end.
+// Whether a sink refuses a token after its end.
 fn refuses_behind_its_end(sink: &mut Listed) -> bool {
     let was_told = tell_null(sink, 1).is_ok();
     sink.end();
@@ -176,7 +176,7 @@ fn are_text_and_error_told(alloc: Global, sink: &mut Listed) -> bool {
 
 const STYLE: (TagKind, &str, &str) = (TagKind::StartTag, "style", "raw text");
 
-// Whether a sink counts the tags that it takes, and none behind its end.
+// Whether a sink counts the tags that it takes, and none after its end.
 fn are_tags_counted(alloc: Global, sink: &mut Counting<Listed>) -> bool {
     let is_counted = answers(alloc, sink, &STYLE) && sink.tags == 1;
     sink.end();
@@ -214,7 +214,7 @@ enum Asked {
     TextAndError,
     /// That it takes what its loan is told.
     Loan,
-    /// That it refuses what stands behind its end.
+    /// That it refuses what stands after its end.
     End,
     /// That it fails where memory is refused.
     Memory,

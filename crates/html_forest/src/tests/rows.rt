@@ -62,7 +62,7 @@ fn are_children(
     Ok(found.as_str() == want)
 }
 
-// Whether the children of a node are these behind the steps.
+// Whether the children of a node are these after the steps.
 fn are_built(alloc: Global, steps: &[Step], node: usize, want: &str) -> Result<bool, ParseFault> {
     let forest = built(alloc, steps)?;
     are_children(alloc, &forest, NodeId::new(node), want)
@@ -112,7 +112,7 @@ const KEPT: &[Step<'static>] = &[
 
 const TEMPLATE: &[Step<'static>] = &[Step::Element("template"), Step::AppendText(2, "t")];
 
-// Steps, a node, and its children behind them.
+// Steps, a node, and its children after them.
 const ROWS: &[(&[Step<'static>], usize, &str)] = &[
     (JOINED, 1, "'ab'"),
     (BEFORE_TEXT, 1, "'b' 'c'"),

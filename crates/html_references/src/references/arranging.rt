@@ -26,7 +26,7 @@ pub fn arranged(alloc: Global, rows: &[ReferenceRow]) -> Result<Vec<usize>, Allo
     places_of(alloc, &names)
 }
 
-// Whether the names at an index of the order and just behind it are the same.
+// Whether the names at an index of the order and just after it are the same.
 fn is_repeated(rows: &[ReferenceRow], order: &[usize], index: usize) -> bool
     requires good { All (λ row. is_good row ≡ true) rows.now }
     requires arranged { IsArranged rows.now order.now }

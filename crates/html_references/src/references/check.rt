@@ -21,7 +21,7 @@ fn is_alphanumeric(text: &[u8]) -> bool
     text.iter().all(|byte| byte.is_ascii_alphanumeric())
 }
 
-// Whether bytes are a name: letters and digits, one at least, and `;` or nothing behind them.
+// Whether bytes are a name: letters and digits, one at least, and `;` or nothing after them.
 fn is_name(name: &[u8]) -> bool
     ensures { result ≡ is_reference_name name.now }
 {

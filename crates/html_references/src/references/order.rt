@@ -44,7 +44,7 @@ pub fn search(rows: &[ReferenceRow], order: &[usize], name: &[u8]) -> Result<usi
     Err(low)
 }
 
-// The index of the first name that stands behind a text.
+// The index of the first name that stands after a text.
 fn first_behind(rows: &[ReferenceRow], order: &[usize], text: &[u8]) -> usize
     requires { IsOrdered rows.now order.now }
     ensures behind { (index : ℕ) → result ≤ index → index < length order.now → IsBefore text.now (ordered_name rows.now order.now index) }
@@ -56,7 +56,7 @@ fn first_behind(rows: &[ReferenceRow], order: &[usize], text: &[u8]) -> usize
     }
 }
 
-// Whether some name goes on behind what is held, by the index of the first name that stands behind it.
+// Whether some name goes on after what is held, by the index of the first name that stands after it.
 fn goes_on_at(rows: &[ReferenceRow], order: &[usize], index: usize, held: &[u8]) -> bool
     requires order { IsOrder rows.now order.now }
     requires behind { (i : ℕ) → index ≤ i → i < length order.now → IsBefore held.now (ordered_name rows.now order.now i) }
@@ -66,7 +66,7 @@ fn goes_on_at(rows: &[ReferenceRow], order: &[usize], index: usize, held: &[u8])
     index < order.len() && ordered_bytes(rows, order, index).starts_with(held)
 }
 
-// Whether some name goes on behind what is held.
+// Whether some name goes on after what is held.
 pub fn goes_on(rows: &[ReferenceRow], order: &[usize], held: &[u8]) -> bool
     requires { IsOrder rows.now order.now }
     ensures { result ≡ goes_on rows.now held.now }

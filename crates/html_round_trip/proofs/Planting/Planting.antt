@@ -40,7 +40,7 @@ put-last f p about there =
       count = node_count-with_children made p cs ∙ one;
     }
 
--- text behind no text is a new node
+-- text after no text is a new node
 joined-none : (f : Forest) (p : ℕ) (t : List ℕ) (o : Option ℕ) (earlier : Option (List ℕ)) → earlier ≡ None → joined_text f (Last p) t o earlier ≡ put_new f (Last p) (forest.NodeData.Text t)
 joined-none f p t None earlier e = refl
 joined-none f p t (Some n) None e = refl
@@ -90,7 +90,7 @@ grown-leaf f g h p about roots rest at put more =
 planted-by : (f h : Forest) (p : ℕ) (roots : List ℕ) (trees : Trees) → IsGrown f h p roots → Shows (node_count f) h roots trees → IsPlanted f h p roots trees
 planted-by f h p roots trees grown shows = record { children = grown.children; shows = shows; same_data = grown.same_data; others = grown.others; more = grown.more }
 
--- the trees behind a node are among the new ones too
+-- the trees after a node are among the new ones too
 shows-behind : (f g h : Forest) (p : ℕ) (about : NodeData) (roots : List ℕ) (rest : Trees) → IsPutLast f g p about → IsPlanted g h p roots rest → Shows (node_count f) h roots rest
 shows-behind f g h p about roots rest put more =
     let count = put.count in

@@ -131,7 +131,7 @@ module _ (rows : List Row) (reads : ReadsEscapes rows) (sc : Bool) (o : Around) 
     frameset_ok : Bool
     runs : Reads rows (in_data last) (at o None mode.BeforeHead f (opened n Html ∷ []) [] true) text (in_data left) (at o (Some head) mode.AfterBody g (opened body Body ∷ opened n Html ∷ []) [] frameset_ok)
 
-  -- the forest behind the head
+  -- the forest after the head
   abbrev head_forest : Frame → ℕ → Forest → Forest
   head_forest frame n f = planted frame.heads (node_count f) (put_new f (Last n) (element_node Head frame.head))
 

@@ -63,7 +63,7 @@ lists-left InFlow es left h lists = rw (bare-stays es left lists h) lists
 lists-left InList es left h lists = rw (bare-stays es left lists h) lists
 lists-left place es left h lists = rw (bare-stays es left lists h) lists
 
--- behind a subtree the place is as before
+-- after a subtree the place is as before
 pub fits-after : (place : PlainPlace) (b : Home) (f g : Forest) (stack : List Open) (es left : List Entry) → node_count f ≤ node_count g → Drops es left → Fits place b f stack es → Fits place b g stack left
 fits-after place b f g stack es left more h fits = record {
   home = fits.home;

@@ -149,7 +149,7 @@ module _ (rows : List Row) (reads : ReadsEscapes rows) (sc : Bool) (o : Around) 
     title-only Title h = refl
     title-only k h = absurd (cc)
 
-    -- a title, and white space behind it
+    -- a title, and white space after it
     title-first : (attrs : List Attribute) → are_plain_attributes attrs ≡ true → (kids rest : Trees) → IsPlain InTitle false kids → IsPlain BehindTitle false rest → (last : Option (List ℕ)) (f : Forest) → IsGood f m
         → HeadRead last f (text_of sc (Element (html_name (spelled Title)) attrs false kids rest)) (planted (Element (html_name (spelled Title)) attrs false kids rest) m f)
     title-first attrs plain kids rest within behind last f good =
@@ -235,7 +235,7 @@ module _ (rows : List Row) (reads : ReadsEscapes rows) (sc : Bool) (o : Around) 
       pub frameset_ok : Bool
       pub runs : Reads rows (in_data last) (behind_head f) text (in_data left) (behind_body b g frameset_ok)
 
-    -- white space behind the head, and the body
+    -- white space after the head, and the body
     pub body-reads : (space : List ℕ) → list_all is_white space ≡ true → (attrs : List Attribute) → are_plain_attributes attrs ≡ true → (flow : Trees) → IsPlain InFlow false flow → (last : Option (List ℕ)) (f : Forest) → IsGood f n
         → let g = put_text f (Last n) space in
         BodyRead last f (escape space ++ (start_tag (spelled Body) attrs ++ (text_of sc flow ++ (end_tag (spelled Body) ++ [])))) (planted flow (node_count g) (put_new g (Last n) (element_node Body attrs))) (node_count g)

@@ -29,7 +29,7 @@ as-read a h =
     let p = and_parts (is_none a.name.prefix) (is_no_text a.name.ns) h in
     made-read a.name.prefix a.name.ns a.name.local a.value (no-prefix a.name.prefix p.0) (no-text a.name.ns p.1)
 
--- a name and a value in double quotes, behind a space
+-- a name and a value in double quotes, after a space
 abbrev pub quoted : List ℕ → List ℕ → List ℕ
 quoted name value = 32 ∷ (name ++ 61 ∷ 34 ∷ (escape_value value ++ 34 ∷ []))
 

@@ -17,7 +17,7 @@ use Rattle.html_tokens.proofs.CleanComments.{begun, end-mark, goes-on}
 use Rattle.html_round_trip.specs.Slices.Forms.{is_read_comment}
 use Rattle.html_round_trip.specs.Slices.Slices.{IsSpelled, Last}
 
--- the rest of a comment, behind what was read of it
+-- the rest of a comment, after what was read of it
 rest-told : (st : Stand) (front text u : List ℕ) → is_read_comment text ≡ true → comment_after st front (text ++ (codes "-->" ++ u)) ≡ told (CommentToken (front ++ text)) (length (text ++ codes "-->")) st
 rest-told st front [] u h = rw (end-mark u, append-nil front) refl
 rest-told st front (c ∷ text) u h =
@@ -26,7 +26,7 @@ rest-told st front (c ∷ text) u h =
     ∙ (ap behind (rest-told st (front ++ c ∷ []) text u p.1)
     ∙ ap (λ w. told (CommentToken w) (suc (length (text ++ codes "-->"))) st) (append_assoc front (c ∷ []) text))
 
--- behind "<!--"
+-- after "<!--"
 comment-told : (st : Stand) (text u : List ℕ) → is_read_comment text ≡ true → comment_at st (text ++ (codes "-->" ++ u)) ≡ told (CommentToken text) (length (text ++ codes "-->")) st
 comment-told st [] u h = rest-told st [] [] u refl
 comment-told st (c ∷ text) u h = begun st c (text ++ (codes "-->" ++ u)) (and_parts (is_clean_in_comment c) (list_all is_clean_in_comment text) h).0 ∙ rest-told st [] (c ∷ text) u h

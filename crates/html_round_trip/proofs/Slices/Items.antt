@@ -25,7 +25,7 @@ use Rattle.html_round_trip.proofs.Slices.Values.{value-whole}
 
 -- NAMES OF TAGS
 
--- a tag's name, with what ends it behind
+-- a tag's name, with what ends it after
 name-after : (st : Stand) (kind : TagKind) (n : List ℕ) (x : ℕ) (u : List ℕ) → list_all is_clean_in_name n ≡ true → Characters.ends_tag_name x ≡ true
     → Tags.name_after st (Tags.named kind []) (n ++ x ∷ u) ≡ silent (length n) (moved st (InTag (Tags.named kind n)))
 name-after st kind n x u h k =

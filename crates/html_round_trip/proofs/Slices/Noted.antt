@@ -31,7 +31,7 @@ module _ {S H F : Type 0} (step : S → Token → ℕ → Result (S × TokenSink
   and-assoc true b c = refl
   and-assoc false b c = refl
 
-  -- the second of two pieces, behind a first that went on
+  -- the second of two pieces, after a first that went on
   noted-second : (notes : Notes H) (qa qb q : Bool) (reply : TokenSinkResult H) (r : Result (S × TokenSinkResult H) F) → reply ≡ Continue → q ≡ (qa && qb)
       → noted_step (heard qb (record (heard qa notes) { pauses = paused notes.pauses reply })) r ≡ noted_step (heard q notes) r
   noted-second notes qa qb q reply r e k = rw (e, k, and-assoc notes.is_quiet qa qb) refl

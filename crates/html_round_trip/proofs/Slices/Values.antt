@@ -48,7 +48,7 @@ module _ (rows : List Row) (reads : ReadsEscapes rows) where
       rw (eqb-true c 34 q, quot-faultless rows reads t, reads.quot true t, h) refl
   one-by c v w u false q z h = escaped-by c v w u _ _ _ _ refl refl refl refl q z h
 
-  -- a written value is read as the value, up to the quote behind it
+  -- a written value is read as the value, up to the quote after it
   pub value-whole : (v u : List ℕ) → has_no_null v ≡ true → from (escape_value v ++ 34 ∷ u) ≡ whole v (escape_value v)
   unfolding value_from
   value-whole [] u h = refl

@@ -73,7 +73,7 @@ IsTextTaken {S} step quiet cdata ends rows read =
     → read (in_text place last) breaks (state a) (escape cs ++ t) ≡ read (in_text place last) (breaks + line_breaks (escape cs)) (state (a ++ cs)) t
 
 -- A whole element as "title": its start tag is answered by RCDATA, its text builds up states, and its end tag is taken. It is read
--- to the state behind that.
+-- to the state after that.
 abbrev pub IsTitleTaken : {S H F X : Type 0} → (S → Token → ℕ → Result (S × TokenSinkResult H) F) → (S → Token → Bool) → (S → Bool) → (S → S) → List Row → (Stand → ℕ → S → List ℕ → X) → Type 0
 IsTitleTaken {S} step quiet cdata ends rows read =
     (name : List ℕ) → is_letter_name name ≡ true → (attrs : List Attribute) → AreReadBack attrs → (cs : List ℕ) → has_no_null cs ≡ true

@@ -9,7 +9,7 @@ use Rattle.html_tokens.specs.Notes.{Notes, paused, noted_reading}
 use Rattle.html_tokens.specs.Reading.{◌>>=◌, reading, next_stand, line_number, line_breaks}
 use Rattle.html_tokens.specs.Table.{Row}
 
--- A slice, with a text behind it: clean items that tell nothing, and then a clean one that tells the token. The CDATA question is
+-- A slice, with a text after it: clean items that tell nothing, and then a clean one that tells the token. The CDATA question is
 -- answered so.
 pub data Spells (rows : List Row) (cdata : Bool) (t : List ℕ) : Stand → List ℕ → Token → Stand → Type 0 where
   Last : {st next : Stand} {token : Token} (c : ℕ) (cs : List ℕ) → item rows cdata st c (cs ++ t) ≡ told token (length (c ∷ cs)) next → is_clean rows st c (cs ++ t) ≡ true → Spells rows cdata t st (c ∷ cs) token next
@@ -22,7 +22,7 @@ IsSpelled rows st slice token next = (cdata : Bool) (t : List ℕ) → Spells ro
 
 -- over a sink
 module _ {S H F : Type 0} (step : S → Token → ℕ → Result (S × TokenSinkResult H) F) (erred : Fault → S → S) (cdata : S → Bool) (ends : S → S) (rows : List Row) where
-  -- behind a step, the reading of a text
+  -- after a step, the reading of a text
   abbrev pub after : Stand → ℕ → Result (S × TokenSinkResult H) F → List ℕ → Result S F
   after st breaks r t = r >>= λ p. reading step erred cdata ends rows (next_stand st p.1) breaks p.0 t
 

@@ -130,7 +130,7 @@ exchanged (a ∷ ls) old new is w =
       by false false n true true t en eg ek o = o
       by false false n true false t en eg ek o = absurd (true≢false (sym (up eg) ∙ ek))
 
--- behind the block: the formatting element, which is no template, gives way to copies
+-- after the block: the formatting element, which is no template, gives way to copies
 
 taken-over : (new block x : Open) (copies es : List Open) → IsOrdinary new → ArePlain copies → stand_well (block ∷ x ∷ es) ≡ true → is_in set.Template x ≡ false → IsExchange (block ∷ x ∷ es) (new ∷ block ∷ (copies ++ es))
 taken-over new block x copies es plain all w t =

@@ -23,7 +23,7 @@ abbrev pub all_pass : (Action → Bool) → List Row → Bool
 all_pass test [] = true
 all_pass test (r ∷ rs) = (test r.does && then_passes test r.ends) && all_pass test rs
 
--- a relation of states, from before an action to behind it, that actions which pass a test, other modes and parse errors keep
+-- a relation of states, from before an action to after it, that actions which pass a test, other modes and parse errors keep
 pub record IsKept (R : State → State → Type 0) (test : Action → Bool) : Type 1 where
   pub same : (s : State) → R s s
   pub after : (s r q : State) → R s r → R r q → R s q

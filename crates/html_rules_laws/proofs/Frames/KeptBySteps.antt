@@ -21,7 +21,7 @@ use Rattle.html_rules.specs.Tokens.{is_white}
 use Rattle.html_rules.specs.declared.tag_set.TagSet.{TagSet}
 use Rattle.html_rules.specs.declared.tag_set.TagSet.TheVariants as set
 
--- a relation of states, from before a step to behind it, that the steps which other steps are made of keep
+-- a relation of states, from before a step to after it, that the steps which other steps are made of keep
 pub record IsKeptBySteps (R : State → State → Type 0) : Type 1 where
   pub same : (s : State) → R s s
   pub after : (s r q : State) → R s r → R r q → R s q

@@ -107,7 +107,7 @@ root-flows g template m Root t i = both _ _ t (by m (λ e. i e refl)) where
   by m h = right template
 root-flows g template m b t i = refl
 
--- a state behind actions in such a mode, and in another that the token is taken again in
+-- a state after actions in such a mode, and in another that the token is taken again in
 pub fluid-nested : (g : Ground) (template : Bool) (w : At) (r : State) → Fluid g template w r → is_bodily w.mode ≡ true → has_base w.mode w.base ≡ true → IsNested r
 fluid-nested g template w r h f b = record {
   fits = rw (h.ground, h.of_template, h.at_mode) (flow-parts g template w.mode r.orig_mode r.open_elems f (flow-fits g template w.mode w.base r.open_elems f b h.nested h.base (root-flows g template w.mode w.base h.takes h.in_template)));

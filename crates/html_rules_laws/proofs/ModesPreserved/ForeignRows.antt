@@ -48,7 +48,7 @@ use Rattle.html_rules_laws.proofs.ModesPreserved.Steps.{IsFlow, close_foreign-fl
 use Rattle.html_rules_laws.proofs.Bools.{no, or_by}
 use Rattle.html_rules_laws.proofs.Frames.KeptBySteps.{close_by-keeps, foreign-keeps}
 
--- behind a step under which loose elements alone come and go
+-- after a step under which loose elements alone come and go
 flowed : (g : Ground) (template : Bool) (b : Part) (m : InsertionMode) (s r : State) → Fluid g template (loose_at m b) s → IsFlow g s.open_elems r.open_elems → Poised r → IsAside s r → IsFramed s r
     → ((n : ℕ) (name : QualName) → element_name (data_of s.forest n) ≡ Some name → element_name (data_of r.forest n) ≡ Some name) → Fluid g template (loose_at m b) r
 flowed g template b m s r h flow poised aside fr names =

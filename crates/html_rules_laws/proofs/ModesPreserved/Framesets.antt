@@ -127,7 +127,7 @@ in_frameset-nested using kind (Then Pop (When c (SwitchTo mode.AfterFrameset))) 
     either-nested (holds c t q) (set_mode mode.AfterFrameset q) q (moved-nested q (popped-mode s ∙ at) popped) popped
 in_frameset-nested using kind a e h t k script s at standing n = no h
 
--- behind the framesets
+-- after the framesets
 
 frames-html : (g : Ground) (xs : List Open) → nested g xs ≡ true → is_frames (top xs) ≡ true → are_html xs ≡ true
 frames-html g [] n h = no h
@@ -169,7 +169,7 @@ pub after_frameset-nested : (using : InsertionMode → Token → State → Turn)
 after_frameset-nested using (SwitchTo mode.AfterAfterFrameset) Done h t script s at n = ended-nested s at n
 after_frameset-nested using a e h t script s at n = no h
 
--- white space behind all of it opens formatting elements again
+-- white space after all of it opens formatting elements again
 
 record IsOver (xs ys : List Open) : Type 0 where
   html : are_html xs ≡ true → are_html ys ≡ true

@@ -237,7 +237,7 @@ same-head kind a (RawText raw) h using t script s = raw-same a (and_parts (raw_t
 same-head kind a Done h using t script s = or_by (calm a) _ h (λ c. calm-head kind a c t s) (λ o. opens-same a (and_parts (opens a) (starts_template kind) o).0 t s)
 same-head kind a e h using t script s = no h
 
--- one of these rows, behind an error and the head, which then leaves: what holds where the head leaves holds of what is left
+-- one of these rows, after an error and the head, which then leaves: what holds where the head leaves holds of what is left
 pub again-by : (P : State → Type 0) (s : State) → s.mode ≡ mode.AfterHead → Poised s → is_some s.head_elem ≡ true → are_template_modes s.template_modes ≡ true → IsNested s → (before kind : Kind) (a : Action) (e : Conclusion) → again_row kind a e ≡ true → (using : InsertionMode → Token → State → Turn) (t : Token)
     → is_of before t ≡ true → (script : ℕ) → ((n : ℕ) (q : State) → IsAgain n q → P (remove_from_stack n (concluded using e t script (act a t (push_head (Some n) q))).state))
     → P (act RemoveHeadElem t (concluded using e t script (act a t (act (Then ParseError PushHeadElem) t s))).state)

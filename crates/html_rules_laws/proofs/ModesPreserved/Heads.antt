@@ -1,4 +1,4 @@
--- Rows of the modes before the head, in it and behind it leave the parts nested.
+-- Rows of the modes before the head, in it and after it leave the parts nested.
 use Rattle.std.proofs.Common.{◌≡◌, ◌∙◌, ℕ, Bool, true, false, List, [], ◌∷◌, refl, sym, ap, codes}
 use Rattle.std.specs.Prelude.{◌&&◌, not}
 use Rattle.std.proofs.lemmas.Bool.{and_parts}
@@ -229,7 +229,7 @@ noscript-ends using (Then Pop (SwitchTo mode.InHead)) Done h t script s at n = l
 noscript-ends using (Then ParseError Pop) (Reprocess mode.InHead) h t script s at n = left-noscript (parse_error s) (error-mode s ∙ at) (erred-nested s n)
 noscript-ends using a e h t script s at n = no h
 
--- behind the head
+-- after the head
 
 body-part : (name : List ℕ) → is_among name (names_of set.Body) ≡ true → (n : ℕ) → part_of (record { number = n; namespace = Html; name = name }) ≡ BodyPart
 unfolding names_of mathml_names_of svg_names_of

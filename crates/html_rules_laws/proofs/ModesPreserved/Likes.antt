@@ -1,4 +1,4 @@
--- Steps behind which a state is nested in whatever mode; text of an element comes and is over.
+-- Steps after which a state is nested in whatever mode; text of an element comes and is over.
 use Rattle.std.proofs.Common.{◌≡◌, ◌∙◌, ℕ, ◌+◌, Bool, true, false, List, [], ◌∷◌, length, Option, Some, None, refl, sym, ap}
 use Rattle.std.specs.Prelude.{◌&&◌, not}
 use Rattle.std.proofs.lemmas.Bool.{and_parts}
@@ -130,7 +130,7 @@ parts-direct mode.Text e g template o xs h = no (sym e)
 parts-direct mode.InTableText e g template o xs h = no (sym e)
 parts-direct m e g template o xs h = h
 
--- something is open behind the root
+-- something is open after the root
 
 pub direct-nonempty : (m : InsertionMode) → is_first m ≡ false → (g : Ground) (template : Bool) (xs : List Open) → fits_nested g template m xs ≡ true → is_nonempty xs ≡ true
 direct-nonempty m e g template (x ∷ xs) h = refl

@@ -245,7 +245,7 @@ direct-parts g template mode.Text o xs h = no h
 direct-parts g template mode.InTableText o xs h = no h
 direct-parts g template m o xs h = h
 
--- behind steps that leave the parts nested the mode is reset
+-- after steps that leave the parts nested the mode is reset
 pub record IsReset (q : State) : Type 0 where
   pub nested : nested (ground_of q.context_elem) q.open_elems ≡ true
   pub some : is_nonempty q.open_elems ≡ true

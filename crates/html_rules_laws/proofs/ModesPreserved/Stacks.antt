@@ -226,7 +226,7 @@ bounding scope h x b = by (part_of x) refl b where
   by TablePart e b = part-within x TablePart scope refl sets.1.1 e
   by p e b = no b
 
--- nothing loose is in scope behind a part
+-- nothing loose is in scope after a part
 pub blocked : (g : Ground) (scope : TagSet) → is_bounded scope ≡ true → (p : Open → Bool) (xs : List Open) → nested g xs ≡ true → AllOpen (λ x. p x ≡ true → IsLoose x) xs → is_loose (top xs) ≡ false → in_scope scope p xs ≡ false
 blocked g scope s p [] h all l = refl
 blocked g scope s p (x ∷ xs) h all l =

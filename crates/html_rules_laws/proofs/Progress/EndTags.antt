@@ -34,7 +34,7 @@ MayTell (Some t) p = ⊥
 abbrev pub Fits : Option (List ℕ) → Option Token → Stand → Type 0
 Fits last o next = MayTell o next.place × (next.last_start_tag ≡ last)
 
--- What holds inside of a tag of a kind, and behind it where it ends, holds of each item there.
+-- What holds inside of a tag of a kind, and after it where it ends, holds of each item there.
 module _ (P : Option Token → Stand → Type 0) (st : Stand) (Q : TagKind → Type 0) (inside : (tag : Tag) → Q tag.kind → P None (moved st (InTag tag))) (over : (tag : Tag) → Q tag.kind → P (Some (TagToken tag)) (behind_tag st tag)) where
   with-kind : (tag : Tag) (name value : List ℕ) → Q tag.kind → Q (with_attribute tag name value).kind
   with-kind tag name value e = by (has_attribute tag name) where

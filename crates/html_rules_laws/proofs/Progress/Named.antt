@@ -179,7 +179,7 @@ unfolding using_rules_for IsNamed
 using-named zero t m h s raw = absurd raw
 using-named (suc n) t m h s raw = first-named (using_rules_for n) t (using-named n t) (rows m) (modes_named m h) s raw
 
--- behind the head, which is opened again for one token
+-- after the head, which is opened again for one token
 
 abbrev again_rows : Kind → Row → Bool
 again_rows kind r = again_row kind r.does r.ends && (is_silent r.ends || (is_raw r.ends && raw_row kind r.does))

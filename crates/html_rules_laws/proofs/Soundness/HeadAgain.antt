@@ -1,4 +1,4 @@
--- Start tags behind the head that belong into it: the head is opened again for one token.
+-- Start tags after the head that belong into it: the head is opened again for one token.
 use Rattle.std.proofs.Common.{◌≡◌, ◌∙◌, ℕ, suc, Bool, true, false, List, ◌∷◌, length, Option, Some, None, refl, sym, ap, arith, codes, inl, inr, ◌⊎◌}
 use Rattle.std.specs.Prelude.{◌&&◌, not, nat_eq}
 use Rattle.std.proofs.lemmas.Bool.{and_parts, eq-eqb}
@@ -230,7 +230,7 @@ pub push-head-same : (o : Option ℕ) (q : State) → (push_head o q).head_elem 
 push-head-same None q = refl
 push-head-same (Some n) q = refl
 
--- one of these rows, behind an error and the head, which then leaves
+-- one of these rows, after an error and the head, which then leaves
 pub head_again-held : (s : State) → IsCalm s → s.mode ≡ mode.AfterHead → (before : Kind) (kind : Kind) (a : Action) (e : Conclusion) → head_row kind a e ≡ true → (using : InsertionMode → Token → State → Turn) (t : Token) → is_of before t ≡ true → is_of kind t ≡ true → (script : ℕ)
     → Held (act RemoveHeadElem t (concluded using e t script (act a t (act (Then ParseError PushHeadElem) t s))).state)
 unfolding push_head_elem remove_head_elem

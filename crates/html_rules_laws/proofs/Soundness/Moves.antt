@@ -313,7 +313,7 @@ some-head m head context l h = rw l h
 open-later : (s : State) (xs : List Open) → are_template_modes s.template_modes ≡ true → (is_some s.head_elem || not (asks_root s.context_elem)) ≡ true → is_later (mode_of_open s xs) ≡ true
 open-later s xs h k = open-passes (λ m. is_later m ≡ true) (λ m asked. free-later m (asked-free m asked)) s xs h refl (free-later _ (context-free s s.context_elem refl h k))
 
--- by a step behind which the elements stand well
+-- by a step after which the elements stand well
 pub reset-held : (q : State) → are_formatting q.active_formatting ≡ true → is_later_original q.orig_mode ≡ true → are_template_modes q.template_modes ≡ true → (is_some q.head_elem || not (asks_root q.context_elem)) ≡ true → wanted q ≤ length q.template_modes
     → (wanted q ≡ length q.template_modes → has_open set.Html q.open_elems ≡ true → stand_well q.open_elems ≡ true) → Held (reset_insertion_mode q)
 unfolding reset_insertion_mode

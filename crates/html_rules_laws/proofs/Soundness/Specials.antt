@@ -73,7 +73,7 @@ closes-held TemplateOpen (Then ImpliedEndTagsThoroughly (Then (Close set.Templat
 closes-held TemplateOpen (Then ParseError (Then (PopUntil set.Template) (Then ClearToMarker (Then PopTemplateMode ResetMode)))) c t s o later well h = erred-closed s later well h o
 closes-held condition a c t s o later well h = no c
 
--- the mode is reset behind tame steps
+-- the mode is reset after tame steps
 
 abbrev pub resets : Kind → Action → Bool
 resets kind (Then a b) = tame_in kind a && resets kind b

@@ -56,7 +56,7 @@ is_character Characters = true
 is_character NullCharacters = true
 is_character φ = false
 
--- what the mode of a body has; the modes behind it come back to it, but for its end tag
+-- what the mode of a body has; the modes after it come back to it, but for its end tag
 abbrev body_rank : Family → ℕ
 body_rank RootEnd = 2
 body_rank φ = 1

@@ -58,7 +58,7 @@ names_meet _ _ = true
 abbrev may_meet : Class → Class → Bool
 may_meet c d = is_anything c || (is_anything d || (nat_eq (family c) (family d) && names_meet c d))
 
--- how a row ends, where `chain` says of another mode that the chain behind it is short enough
+-- how a row ends, where `chain` says of another mode that the chain after it is short enough
 abbrev ends_by : (Class → InsertionMode → Bool) → Class → Conclusion → Bool
 ends_by chain c (Using m) = chain c m
 ends_by chain c (UsingThen m after) = chain c m

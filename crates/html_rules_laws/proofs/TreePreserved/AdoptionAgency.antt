@@ -38,7 +38,7 @@ part-without (y ∷ xs) b x ys = kept y (xs ++ b ∷ x ∷ ys) (xs ++ b ∷ ys) 
 regroup : (f : Forest) (xs ys zs : List Open) (entries : List Entry) → IsStanding f (xs ++ (ys ++ zs)) entries → IsStanding f (xs ++ ys ++ zs) entries
 regroup f xs ys zs entries h = subst (λ all. IsStanding f all entries) (sym (append_assoc xs ys zs)) h
 
--- what is behind a walk, by its parts
+-- what is after a walk, by its parts
 adopted : (fe : Listed) (block : Open) (w : Walk) (s : State)
     → (let r = remove w.forest w.last_node in
     let f = put r (place_for s.foster_parenting r s.open_elems (current_node (opened_before fe.number s.open_elems))) w.last_node in

@@ -1,4 +1,4 @@
--- The open elements behind a turn of the adoption agency are in order.
+-- The open elements after a turn of the adoption agency are in order.
 use Rattle.std.proofs.Common.{◌≡◌, ℕ, ◌<◌, ◌≤◌, List, [], ◌∷◌, ◌++◌, None, arith, inl, inr, ◌⊎◌}
 use Rattle.markup.specs.Forest.{Above, Forest, above_of, node_count}
 use Rattle.markup.proofs.PutTexts.{KeepsNames, element-IsNode}
@@ -133,7 +133,7 @@ later-apart f0 f g b q copies anc (x ∷ xs) entries tag is made there h a = (cl
           clear x l ys h.1 c.1,
         )
 
--- behind a turn: those later than the block, the new element, the block, the copies, and those before the formatting element
+-- after a turn: those later than the block, the new element, the block, the copies, and those before the formatting element
 pub turn-IsStanding : (f0 f g : Forest) (block : Open) (q : ℕ) (inner copies anc : List Open) (entries0 entries : List Entry) (tag : Tag)
     → IsStanding f0 (inner ++ block ∷ anc) entries0 → Placed f0 f block.number q copies entries → Adopted f g block.number tag → q < node_count f0 → NoneAbove f0 inner q → (Above f0 block.number q → ⊥)
     → (relisted : List Entry) → AreListed g relisted → above_of g 0 ≡ None

@@ -107,7 +107,7 @@ outside-moved f0 block entries left between tag place tree listed is at less out
     }
 
 -- With a block, elements that were opened after it, and those that were opened before the formatting element: where the last node of the walk is put at a
--- place whose parent neither the block nor a later element stands above, all that is open behind the turn is in order.
+-- place whose parent neither the block nor a later element stands above, all that is open after the turn is in order.
 pub outside-standing : (f0 : Forest) (block : Open) (later earlier : List Open) (entries : List Entry) (left : ℕ) (between : List Open) (formatting_element : ℕ) (tag : Tag) (place : Place)
     → IsStanding f0 (later ++ block ∷ earlier) entries
     → IsPlace (remove (walk left between (begun f0 block.number entries)).forest (walk left between (begun f0 block.number entries)).last_node) place

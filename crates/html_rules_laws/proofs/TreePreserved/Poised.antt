@@ -1,4 +1,4 @@
--- States that actions of rows keep, behind the modes in which there is no root yet.
+-- States that actions of rows keep, after the modes in which there is no root yet.
 use Rattle.std.proofs.Common.{◌≡◌, ℕ, Bool, true, false, List, [], ◌∷◌, Option, Some, None, refl, codes}
 use Rattle.std.specs.Prelude.{◌&&◌, not, IfSome}
 use Rattle.std.proofs.lemmas.Bool.{and_parts}

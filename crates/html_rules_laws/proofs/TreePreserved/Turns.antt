@@ -146,7 +146,7 @@ first-left t m e s empty l is =
     (λ inner r k g of fits. first-row (using_rules_for 3) inner r k t g s empty l is)
     (record { upright = is; empty = λ _. empty }) (rows m) kind.0 kind.1.0 kind.1.1
 
--- behind it
+-- after it
 
 poised-left : (s : State) → Poised s → IsLeft s
 poised-left s h = record { upright = h.upright; empty = λ e. absurd (true≢false (sym e ∙ h.mode)) }

@@ -191,7 +191,7 @@ fn stays_failed<S: Serializer>(alloc: Global, serializer: &mut S) -> Result<bool
     Ok(true)
 }
 
-// Whether a write fails, and behind it each call is refused and writes nothing.
+// Whether a write fails, and after it each call is refused and writes nothing.
 fn is_broken(
     alloc: Global,
     serializer: &mut HtmlSerializer<MemWriter>,
@@ -208,7 +208,7 @@ fn breaks(alloc: Global, way: &Way<'_>) -> Result<bool, ParseFault> {
     is_broken(alloc, &mut serializer)
 }
 
-// Whether the whole text is written; or a write fails behind a beginning of it, and each later call is refused.
+// Whether the whole text is written; or a write fails after a beginning of it, and each later call is refused.
 fn ends_well(alloc: Global, way: &Way<'_>) -> Result<bool, ParseFault> {
     let found = written_by(alloc, way, &EACH)?;
     if is_cut_off(&found, EACH_TEXT) {

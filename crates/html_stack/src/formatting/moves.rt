@@ -1,7 +1,7 @@
 //! Elements of a vector change places, and some leave it. Nothing here takes memory.
 ghost use Rattle.std.specs.Prelude.{◌≡◌, ◌++◌, ◌∷◌, ◌+◌, ◌<◌, ◌≤◌, length, take, drop, reverse, slice_index_or, slice_range};
 
-/// What stands at a place comes to a later one, behind all between.
+/// What stands at a place comes to a later one, after all between.
 pub(crate) fn move_up<T>(items: &mut [T], from: usize, to: usize)
     requires order { from ≤ to }
     requires within { to < length items.old }

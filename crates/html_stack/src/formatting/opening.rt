@@ -162,7 +162,7 @@ impl<Sink: TreeSink> Stack<Sink> {
         Ok(())
     }
 
-    /// "Reconstruct the active formatting elements" (HTML Standard, section 13.2.4.3): the elements of the entries behind the last one that
+    /// "Reconstruct the active formatting elements" (HTML Standard, section 13.2.4.3): the elements of the entries after the last one that
     /// is a marker or open are inserted again, in order, and the entries stand for the new ones. Each of these takes a copy of its tag's name
     /// and attributes, since its entry keeps the tag. On [`ParseFault::Memory`], the only fault, some of them, the first ones, may have been
     /// inserted. Each entry that is looked at is looked for among the open elements; where nothing has to be opened, that is one.

@@ -113,7 +113,7 @@ module _ {T : Type 0} (to : Listener T) (rows : List Row) where
   quoted-goes_on absorbs quote st tag name front b s c t e f =
       play-odd to rows absorbs (is_null c) (quoted_after rows quote st tag name front (c ∷ t)) (quoted_after rows quote st tag name (front ++ shown c ∷ []) t) b s c t (quoted-behind rows quote st tag name front c t e f)
 
-  -- the quote that to.ends a value, behind which no attribute may stand
+  -- the quote that to.ends a value, after which no attribute may stand
   pub quoted-closes : (absorbs : Absorbing to.erred) (quote : ℕ) (st : Stand) (tag : Tag) (name front : List ℕ) (b : ℕ) (s : T) (c : ℕ) (t : List ℕ) → nat_eq quote c ≡ true
       → told_item to rows (quoted_after rows quote st tag name front (c ∷ t)) b s (c ∷ t) ≡ told_text to rows (moved st (InTag (with_attribute tag name front))) (b + line_break (nat_eq c 10)) (erred_by to.erred (slight_if (lacks_space t)) s) t
   quoted-closes absorbs quote st tag name front b s c t e =

@@ -1,4 +1,4 @@
--- Before an attribute's value, in it and behind it.
+-- Before an attribute's value, in it and after it.
 use Rattle.std.proofs.Common.{◌≡◌, ◌≢◌, ◌∙◌, ℕ, ◌+◌, nat_eq, true, false, List, [], ◌∷◌, ◌++◌, Option, Some, Result, refl, sym, ap, arith}
 use Rattle.std.specs.Prelude.{not}
 use Rattle.std.proofs.lemmas.Bool.Decides.{nat_tests}
@@ -173,7 +173,7 @@ module _ {K H : Type 0} (Sink : Ghosts K H) where
       (λ b s t. plays Sink (rows_of old) (unquoted_after (rows_of old) (standing old InData) old.tag old.attribute_name (old.attribute_value ++ shown c ∷ []) t) (b + line_break (nat_eq c 10)) s t) from e
       (λ b s t. unquoted-goes_on (listening Sink) (rows_of old) slight-absorbed (standing old InData) old.tag old.attribute_name old.attribute_value b s c t (odd-no_end c e) (odd-no_reference c e))
 
-  -- what stands behind a value in quotes with no space between
+  -- what stands after a value in quotes with no space between
   pub behind-absorbs : (old : Tokenizer K) (c : ℕ) → IsAt old state.AfterAttributeValueQuoted → not (ends_tag_name c) ≡ true → Absorbs Sink old c
   unfolding held_at
   behind-absorbs old c from e =

@@ -43,14 +43,14 @@ end-dashes c (a ∷ t) e f = rw (e, f) refl
 end-bang : (c : ℕ) (t : List ℕ) → nat_eq c 62 ≡ false → comment_end (45 ∷ 45 ∷ 33 ∷ c ∷ t) ≡ None
 end-bang c t e = rw e refl
 
--- behind one dash, or two, or two and "!", that end nothing
+-- after one dash, or two, or two and "!", that end nothing
 dash-letter : (st : Stand) (front : List ℕ) (c : ℕ) (t : List ℕ) → nat_eq c 45 ≡ false → comment_after st front (45 ∷ c ∷ t) ≡ marked true (behind (comment_after st (front ++ 45 ∷ []) (c ∷ t)))
 dash-letter st front c t e = comment-goes_on st front 45 (c ∷ t) (end-dash c t e)
 
 at-dash : (st : Stand) (c : ℕ) (t : List ℕ) → nat_eq 62 c ≡ false → nat_eq c 45 ≡ false → comment_at st (45 ∷ c ∷ t) ≡ marked true (behind (comment_after st (45 ∷ []) (c ∷ t)))
 at-dash st c t e f = rw e (dash-letter st [] c t f)
 
--- an item behind a hyphen that ends nothing
+-- an item after a hyphen that ends nothing
 abbrev dashed : Item → Item
 dashed i = marked true (behind i)
 
@@ -87,7 +87,7 @@ null-fault st front c t e =
     ap (λ i. is_some i.fault) (comment-goes_on st front c t (end-none c t (ap (λ d. nat_eq d 45) null)))
     ∙ marked-some (is_odd_in_comment c) (behind (comment_after st (front ++ shown c ∷ []) t)) (ap is_odd_in_comment null)
 
--- and so has one in which "--" stands, and no ">" behind it
+-- and so has one in which "--" stands, and no ">" after it
 dashes-fault : (st : Stand) (front : List ℕ) (c : ℕ) (t : List ℕ) → nat_eq 62 c ≡ false → is_some (comment_after st front (45 ∷ 45 ∷ c ∷ t)).fault ≡ true
 dashes-fault st front c t e = comment-fault_by (comment_end (45 ∷ 45 ∷ c ∷ t)) _ true st front (λ _. comment_after st (front ++ 45 ∷ []) (45 ∷ c ∷ t)) (rw e refl) refl
 
@@ -111,7 +111,7 @@ module _ {K H : Type 0} (Sink : Ghosts K H) (laws : SinkLaws Sink.is_sound Sink.
   abbrev holding : Tokenizer K → List ℕ → State → Tokenizer K
   holding k front st = record k { comment = front; state = st }
 
-  -- A comment is told next, behind its error if it is fault, and ">" ends it.
+  -- A comment is told next, after its error if it is fault, and ">" ends it.
   abbrev pub CommentSays : State → Tokenizer K → Owed → List ℕ → Type 0
   CommentSays st old owed front = EndSays Sink laws st old (emitted old) owed (CommentToken front)
 
@@ -209,7 +209,7 @@ module _ {K H : Type 0} (Sink : Ghosts K H) (laws : SinkLaws Sink.is_sound Sink.
     end-dash_more front is from = rw is (grows old 45 ok true state.CommentEnd (old.comment ++ 45 ∷ []) from (λ b s t.
         play-odd (listening Sink) (rows_of old) slight-absorbed true _ _ b s 45 (45 ∷ 45 ∷ t) (comment-goes_on (standing old InData) old.comment 45 (45 ∷ 45 ∷ t) (end-dashes 45 t refl refl))))
 
-  -- an item behind a hyphen that ends nothing, which is slight
+  -- an item after a hyphen that ends nothing, which is slight
   behind-dash : (old : Tokenizer K) (i j : Item) (b : ℕ) (s : Sink.State × Notes ℕ) (u : List ℕ) → i ≡ dashed j → plays Sink (rows_of old) i b s (45 ∷ u) ≡ plays Sink (rows_of old) j b (noting_error Slight s) u
   behind-dash old i j b s u is = play-odd (listening Sink) (rows_of old) slight-absorbed true i j b s 45 u is ∙ ap (λ x. plays Sink (rows_of old) j x (noting_error Slight s) u) (no-break b 45 refl)
 

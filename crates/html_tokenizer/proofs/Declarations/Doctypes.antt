@@ -102,7 +102,7 @@ behind-fault : (n : ℕ) (i : Item) → is_some i.fault ≡ true → is_some (be
 behind-fault zero i h = h
 behind-fault (suc n) i h = behind-fault n i h
 
--- where no word ends behind "<!doctype"
+-- where no word ends after "<!doctype"
 doctype-odd : (st : Stand) (c : ℕ) (t : List ℕ) → not (ends_word c) ≡ true → is_some (doctype_at st (c ∷ t)).fault ≡ true
 doctype-odd st c t h = rw h (slighted (doctype_behind st (c ∷ t)).fault)
 
@@ -192,7 +192,7 @@ module _ {K H : Type 0} (Sink : Ghosts K H) (laws : SinkLaws Sink.is_sound Sink.
   abbrev emitted : Tokenizer K → List ℕ → Tokenizer K
   emitted k cs = record k { doctype = no_doctype; temporary = cs; state = state.Data }
 
-  -- A doctype is told next, behind its error if it sets quirks, and ">" ends it; errors may be told of it where it is odd.
+  -- A doctype is told next, after its error if it sets quirks, and ">" ends it; errors may be told of it where it is odd.
   abbrev pub DoctypeSays : State → Tokenizer K → List ℕ → Bool → Doctype → Type 0
   DoctypeSays st old cs odd d = EndSays Sink laws st old (emitted old cs) (owed_for (and_slight_if odd (grave_if d.force_quirks))) (DoctypeToken d)
 

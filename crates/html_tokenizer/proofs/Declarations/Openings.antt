@@ -1,4 +1,4 @@
--- What stands behind "<!", and what the machine makes of it.
+-- What stands after "<!", and what the machine makes of it.
 use Rattle.std.proofs.Common.{◌≡◌, ◌∙◌, ℕ, ◌+◌, length, Bool, true, false, ◌||◌, nat_eq, List, [], ◌∷◌, ◌++◌, drop, Result, refl, sym, ap, append_assoc}
 use Rattle.std.specs.Prelude.{◌&&◌, codes}
 use Rattle.std.specs.List.{list_all}
@@ -36,7 +36,7 @@ pub drop-front : (w t : List ℕ) → drop (length w) (w ++ t) ≡ t
 drop-front [] t = refl
 drop-front (c ∷ w) t = drop-front w t
 
--- an item behind a word of n characters
+-- an item after a word of n characters
 pub behind-word : (next : List ℕ → Item) (w t : List ℕ) (n : ℕ) → length w ≡ n → behind_all n (next (drop n (w ++ t))) ≡ behind_all (length w) (next t)
 behind-word next w t n e = rw (← e, drop-front w t) refl
 
@@ -99,7 +99,7 @@ part-more cs c h = by-word (may_become word.Dashes (cs ++ c ∷ [])) (may_become
 -- STATES
 
 module _ {K H : Type 0} (Sink : Ghosts K H) (laws : SinkLaws Sink.is_sound Sink.step Sink.ended Sink.is_quiet) where
-  -- an item behind characters of words
+  -- an item after characters of words
   pub play-plain : (old : Tokenizer K) (cs t : List ℕ) (j : Item) (b : ℕ) (s : Sink.State × Notes ℕ) → list_all is_plain cs ≡ true
       → plays Sink (rows_of old) (behind_all (length cs) j) b s (cs ++ t) ≡ plays Sink (rows_of old) j b s t
   play-plain old [] t j b s h = refl
@@ -108,7 +108,7 @@ module _ {K H : Type 0} (Sink : Ghosts K H) (laws : SinkLaws Sink.is_sound Sink.
       behind-one Sink laws old c (plain-break c p.0) (behind_all (length (c ∷ cs)) j) (behind_all (length cs) j) b s (cs ++ t) refl
       ∙ play-plain old cs t j b s p.1
 
-  -- a declaration, read from behind what was read of it
+  -- a declaration, read from after what was read of it
   read-declared : (old : Tokenizer K) (cs t : List ℕ) (j : Item) (b : ℕ) (s : Sink.State × Notes ℕ) → list_all is_plain cs ≡ true → declaration_at (Sink.asks_cdata s.0) (standing old InData) (cs ++ t) ≡ behind_all 2 (behind_all (length cs) j)
       → reads Sink (rows_of old) (standing old InData) b s (60 ∷ 33 ∷ (cs ++ t)) ≡ plays Sink (rows_of old) j b s t
   read-declared old cs t j b s h is =

@@ -20,15 +20,15 @@ use Rattle.html_tokenizer.proofs.Steps.RefusedReadings.{noting-refused, every-fa
 use Rattle.html_tokens.specs.Item.{Fault}
 
 module _ {K H : Type 0} (Sink : Ghosts K H) where
-  -- Nothing is to come but the end, behind this fault if there is one.
+  -- Nothing is to come but the end, after this fault if there is one.
   abbrev pub OnlyEnds : Option Fault → State → Tokenizer K → Type 0
   OnlyEnds fault st k = (b : ℕ) (s : Sink.State × Notes ℕ) → at Sink st k b s [] ≡ at_end Sink b (erred_by noting_error fault s)
 
-  -- This token is to come behind what it owes, and then the end.
+  -- This token is to come after what it owes, and then the end.
   abbrev pub TellsLast : State → Tokenizer K → Owed → Token → Type 0
   TellsLast st k owed token = (b : ℕ) (s : Sink.State × Notes ℕ) → Sink.is_sound s.0 → at Sink st k b s [] ≡ (noting Sink.step Sink.is_quiet (s.0, more owed s.1) token (line_number b) >>= λ p. at_end Sink b p.0)
 
-  -- This token is to come, and then the end behind this fault if there is one.
+  -- This token is to come, and then the end after this fault if there is one.
   abbrev pub TellsThen : Option Fault → State → Tokenizer K → Token → Type 0
   TellsThen fault st k token = (b : ℕ) (s : Sink.State × Notes ℕ) → Sink.is_sound s.0 → at Sink st k b s [] ≡ (noting Sink.step Sink.is_quiet s token (line_number b) >>= λ p. at_end Sink b (erred_by noting_error fault p.0))
 
@@ -78,7 +78,7 @@ module _ {K H : Type 0} (Sink : Ghosts K H) where
         (λ h. bind-err (noting Sink.step Sink.is_quiet (Sink.view old.sink, more owed notes) EOFToken (line_number old.stream.breaks)) _ (noting-refused Sink (Sink.view old.sink) (more owed notes) h EOFToken (line_number old.stream.breaks)))),
   )
 
-  -- the same where none is held, and the end comes behind a fault
+  -- the same where none is held, and the end comes after a fault
   pub closes_errs : (fault : Option Fault) (told : Owed) (old new : Tokenizer K) (st : State) (result : Result (Unit {0}) ParseFault) → IsNoMore (owed_for fault) told → IsAt old st → Sink.is_sound (Sink.view old.sink) → OnlyEnds fault st old
       → Errs Sink told old new result → Closes Sink old new result
   closes_errs fault told old new st result less from ok law h = closes_end told (owed_for fault) old new old.char_ref result less ok

@@ -43,7 +43,7 @@ and_none : (a b : Bool) → b ≡ false → (a && b) ≡ false
 and_none true b e = e
 and_none false b e = refl
 
--- what begins no word behind "<!" is a bogus comment
+-- what begins no word after "<!" is a bogus comment
 bogus-by : (a b s : Bool) (st : Stand) (t : List ℕ) → a ≡ false → b ≡ false → s ≡ false → declaration_by a b s st t ≡ behind_all 2 (bogus_comment_after st [] t)
 bogus-by a b s st t e f g = rw (e, f, g) refl
 
@@ -54,7 +54,7 @@ part-declared asks st cs part =
     ∙ ap (λ u. behind_all 2 (bogus_comment_after st [] u)) (sym (append-nil cs))
     ∙ ap (behind_all 2) (bogus-behind st [] cs [] (part-plain cs part))
 
--- where a word begins behind a doctype's name, it may be a keyword
+-- where a word begins after a doctype's name, it may be a keyword
 keyword-word : (st : Stand) (d : Doctype) (x : ℕ) (cs : List ℕ) → is_plain x ≡ true → after_name st d (x ∷ cs) ≡ keyword_by false (begins_any_case (codes "public") (x ∷ cs)) (begins_any_case (codes "system") (x ∷ cs)) st d (x ∷ cs)
 keyword-word st d x cs h =
     stop-white (keyword_at st d) x cs (plain-white x h)
@@ -81,7 +81,7 @@ module _ {K H : Type 0} (Sink : Ghosts K H) (laws : SinkLaws Sink.is_sound Sink.
       → plays Sink (rows_of old) i b s u ≡ (noting Sink.step Sink.is_quiet (s.0, more a_fault s.1) (CommentToken front) (line_number b) >>= λ p. at_end Sink b p.0)
   comment-item old b s h front u n i is unbroken left = end-item Sink laws (Some Grave) old b s h (CommentToken front) u n i tt is unbroken left
 
-  -- a token behind part of a word, which ends the input and so is faulty
+  -- a token after part of a word, which ends the input and so is faulty
   part-told : (old : Tokenizer K) (b : ℕ) (s : Sink.State × Notes ℕ) → Sink.is_sound s.0 → (cs : List ℕ) (token : Token) → IsPart cs → IsNoTag token
       → plays Sink (rows_of old) (behind_all (length cs) (told_as (Some Grave) token 0 (standing old InData))) b s cs ≡ (noting Sink.step Sink.is_quiet (s.0, more a_fault s.1) token (line_number b) >>= λ p. at_end Sink b p.0)
   part-told old b s h cs token part none =
@@ -90,7 +90,7 @@ module _ {K H : Type 0} (Sink : Ghosts K H) (laws : SinkLaws Sink.is_sound Sink.
       ∙ play-plain Sink laws old cs [] item b s (part-plain cs part)
       ∙ end-item Sink laws (Some Grave) old b s h token [] 0 item none refl refl refl
 
-  -- in a comment's text, or behind what could end it, that comment is told
+  -- in a comment's text, or after what could end it, that comment is told
   comment-tells : (old : Tokenizer K) (st : State) → is_comment_part st ≡ true → (st ≡ state.MarkupDeclarationOpen → ⊥) → (st ≡ state.CommentStart → ⊥) → (st ≡ state.CommentStartDash → ⊥) → EndTells Sink st old a_fault (CommentToken old.comment)
   unfolding held_at
   comment-tells old state.BogusComment h x y z b s ok = comment-item old b s ok old.comment [] 0 _ refl refl refl
@@ -117,7 +117,7 @@ module _ {K H : Type 0} (Sink : Ghosts K H) (laws : SinkLaws Sink.is_sound Sink.
   start-tells old st (inl e) b s ok = rw e (comment-item old b s ok [] [] 0 (comment_at (standing old InData) []) refl refl refl)
   start-tells old st (inr e) b s ok = rw e (comment-item old b s ok [] (45 ∷ []) 1 (comment_at (standing old InData) (45 ∷ [])) refl refl refl)
 
-  -- behind "<!" and part of a word, a bogus comment of that part
+  -- after "<!" and part of a word, a bogus comment of that part
   declaration-tells : (old : Tokenizer K) → IsPart old.keyword → EndTells Sink state.MarkupDeclarationOpen old a_fault (CommentToken old.keyword)
   unfolding held_at
   declaration-tells old part b s ok =
@@ -143,7 +143,7 @@ module _ {K H : Type 0} (Sink : Ghosts K H) (laws : SinkLaws Sink.is_sound Sink.
   unfolding held_at
   doctype_name-tells old b s ok = doctype-item old b s ok false (forced (record no_doctype { name = Some old.temporary })) (doctype_name_after (standing old InData) old.temporary []) (rw append-nil refl)
 
-  -- behind its name and part of a keyword, the doctype without that part
+  -- after its name and part of a keyword, the doctype without that part
   keyword-tells : (old : Tokenizer K) → IsPart old.keyword → EndTells Sink state.AfterDoctypeName old a_fault (DoctypeToken (forced old.doctype))
   unfolding held_at
   keyword-tells old part b s ok =

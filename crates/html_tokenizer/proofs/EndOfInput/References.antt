@@ -1,4 +1,4 @@
--- The end of the input behind a reference that is held.
+-- The end of the input after a reference that is held.
 use Rattle.std.proofs.Common.{◌≡◌, ◌∙◌, ℕ, Bool, true, false, List, [], ◌++◌, Option, Some, Result, refl, ap, arith}
 use Rattle.std.specs.Prelude.{is_some}
 use Rattle.std.specs.List.{list_all}

@@ -19,7 +19,7 @@ use Rattle.html_tokenizer.proofs.Steps.Readings.{sum-zero}
 use Rattle.html_tokens.specs.Item.{Grave}
 
 module _ {K H : Type 0} (Sink : Ghosts K H) where
-  -- the end behind no characters more
+  -- the end after no characters more
   end-here : (b : ℕ) (s : Sink.State × Notes ℕ) → at_end Sink (b + 0) s ≡ at_end Sink b s
   end-here b s = ap (λ n. at_end Sink n s) (sum-zero b)
 

@@ -1,4 +1,4 @@
--- The end of the input in text, and behind what may begin markup in it.
+-- The end of the input in text, and after what may begin markup in it.
 use Rattle.std.proofs.Common.{◌≡◌, ◌∙◌, ℕ, Bool, true, false, nat_eq, List, [], ◌∷◌, ◌++◌, Option, Some, None, Result, refl, ap, append-nil, subst, Err, sym, codes}
 use Rattle.std.specs.Prelude.{◌&&◌, map}
 use Rattle.std.specs.Char.{to_ascii_lowercase, is_ascii_alphabetic}
@@ -36,7 +36,7 @@ use Rattle.html_tokens.specs.declared.sink.TokenSink.{Ghosts}
 use Rattle.std.specs.Result.{IsErrAnd}
 use Rattle.html_tokenizer.specs.Listeners.{listening}
 
--- what does not begin so behind a character does not before it
+-- what does not begin so after a character does not before it
 begins_by-none : (same : Bool) (go : Unit {0} → Bool) → go tt ≡ false → begins_by same go ≡ false
 begins_by-none true go h = h
 begins_by-none false go h = refl
@@ -64,7 +64,7 @@ open-word word h = rw (append-nil word, letters-no_name (codes "script") word h)
 slash-word : (word : List ℕ) → list_all is_ascii_alphabetic word ≡ true → kind_behind (kind_behind (raw.ScriptDataEscaped script.DoubleEscaped) 60 (47 ∷ (word ++ []))) 47 (word ++ []) ≡ raw.ScriptDataEscaped script.DoubleEscaped
 slash-word word h = rw (append-nil word, letters-no_name (codes "script") word h) refl
 
--- nothing that ends begins behind "</" and a word
+-- nothing that ends begins after "</" and a word
 slash-behind : (kind : RawKind) (word : List ℕ) → list_all is_ascii_alphabetic word ≡ true → kind_behind (kind_behind kind 60 (47 ∷ (word ++ []))) 47 (word ++ []) ≡ kind
 slash-behind raw.Rcdata word h = refl
 slash-behind raw.Rawtext word h = refl
@@ -72,11 +72,11 @@ slash-behind raw.ScriptData word h = refl
 slash-behind (raw.ScriptDataEscaped script.Escaped) word h = refl
 slash-behind (raw.ScriptDataEscaped script.DoubleEscaped) word h = slash-word word h
 
--- a word behind "<" does not change how a script's text is escaped, while nothing follows it
+-- a word after "<" does not change how a script's text is escaped, while nothing follows it
 word-kind : (word : List ℕ) → list_all is_ascii_alphabetic word ≡ true → kind_after (raw.ScriptDataEscaped script.Escaped) (60 ∷ word) [] ≡ raw.ScriptDataEscaped script.Escaped
 word-kind word h = kind_after-letters (kind_behind (raw.ScriptDataEscaped script.Escaped) 60 (word ++ [])) word [] h ∙ open-word word h
 
--- nor does one behind "</"
+-- nor does one after "</"
 slash-kind : (word : List ℕ) → list_all is_ascii_alphabetic word ≡ true → kind_after (raw.ScriptDataEscaped script.DoubleEscaped) (60 ∷ 47 ∷ word) [] ≡ raw.ScriptDataEscaped script.DoubleEscaped
 slash-kind word h = kind_after-letters (kind_behind (kind_behind (raw.ScriptDataEscaped script.DoubleEscaped) 60 (47 ∷ (word ++ []))) 47 (word ++ [])) word [] h ∙ slash-word word h
 
@@ -97,7 +97,7 @@ module _ {K H : Type 0} (Sink : Ghosts K H) where
   dashes-ends k script.Escaped b s = refl
   dashes-ends k script.DoubleEscaped b s = refl
 
-  -- in a state of told text nothing is to come but the end, behind what is slight where a script's text is escaped
+  -- in a state of told text nothing is to come but the end, after what is slight where a script's text is escaped
   told-ends : (st : State) → is_told_text st ≡ true → (k : Tokenizer K) → list_all is_ascii_alphabetic k.word ≡ true → OnlyEnds Sink (slight_if (is_escaped st)) st k
   unfolding held_at reading_from
   told-ends state.Data h k w b s = refl
@@ -137,7 +137,7 @@ module _ {K H : Type 0} (Sink : Ghosts K H) where
   cdata-closes old new result from ok h = closes_errs Sink (Some Grave) a_fault old new state.CdataSection result (no-more-same a_fault) from ok (cdata-ends old) h
 
 module _ {K H : Type 0} (Sink : Ghosts K H) (laws : SinkLaws Sink.is_sound Sink.step Sink.ended Sink.is_quiet) where
-  -- behind "<" that is to come, and then the end
+  -- after "<" that is to come, and then the end
   open-last : (k : Tokenizer K) → TellsLast Sink state.TagOpen k (owed_for (Some Slight)) (CharacterTokens (60 ∷ []))
   unfolding held_at reading_from
   open-last k b s h =
@@ -149,7 +149,7 @@ module _ {K H : Type 0} (Sink : Ghosts K H) (laws : SinkLaws Sink.is_sound Sink.
   pub open-closes : (old new : Tokenizer K) (result : Result (Unit {0}) ParseFault) → IsAt old state.TagOpen → Sink.is_sound (Sink.view old.sink) → Tells Sink (owed_for (Some Slight)) (CharacterTokens (60 ∷ [])) old new result → Closes Sink old new result
   open-closes old new result from ok told = closes_told Sink (owed_for (Some Slight)) old new state.TagOpen (CharacterTokens (60 ∷ [])) result from ok (open-last old) told
 
-  -- behind "</" those are to come, and then the end
+  -- after "</" those are to come, and then the end
   end_open-last : (k : Tokenizer K) → TellsLast Sink state.EndTagOpen k (owed_for (Some Slight)) (CharacterTokens (60 ∷ 47 ∷ []))
   unfolding held_at reading_from
   end_open-last k b s h =
@@ -184,7 +184,7 @@ module _ {K H : Type 0} (Sink : Ghosts K H) (laws : SinkLaws Sink.is_sound Sink.
       let here = standing k (InRaw kind) in
       reading-text (λ p. Sink.is_sound p.0) (listening Sink) (rows_of k) (noting-lawful Sink.is_sound Sink.step Sink.ended Sink.is_quiet laws) here here b s h 60 [] (line_number b) refl (raw_open-item k kind (Sink.asks_cdata s.0) e)
 
-  -- the same by the state behind it
+  -- the same by the state after it
   raw_open-last : (k : Tokenizer K) (kind : RawKind) → ends_at_tag kind ≡ true → TellsThen Sink (slight_if (is_escaped_kind kind)) (state.RawLessThanSign kind) k (CharacterTokens (60 ∷ []))
   unfolding held_at
   raw_open-last k raw.Rcdata e b s h = raw_open-read k raw.Rcdata b s h e
@@ -209,7 +209,7 @@ module _ {K H : Type 0} (Sink : Ghosts K H) (laws : SinkLaws Sink.is_sound Sink.
       (ap (λ u. ends_at_tag kind && is_fitting_end k.raw_end.name (47 ∷ u)) (append-nil word) ∙ rw (unfit-last k.raw_end.name word w) (and-none (ends_at_tag kind)))
       ∙ ap (λ kind. noting Sink.step Sink.is_quiet s (CharacterTokens (60 ∷ 47 ∷ word)) (line_number b) >>= λ p. reads Sink (rows_of k) (standing k (InRaw kind)) b p.0 []) (slash-behind kind word w)
 
-  -- the same by the states behind "</" and behind the letters
+  -- the same by the states after "</" and after the letters
   raw_end_open-last : (k : Tokenizer K) (kind : RawKind) → TellsThen Sink (slight_if (is_escaped_kind kind)) (state.RawEndTagOpen kind) k (CharacterTokens (60 ∷ 47 ∷ []))
   unfolding held_at
   raw_end_open-last k kind b s h = raw_name-read k kind [] b s h refl
@@ -244,7 +244,7 @@ module _ {K H : Type 0} (Sink : Ghosts K H) (laws : SinkLaws Sink.is_sound Sink.
       let here = standing k InCdata in
       reading-two (λ p. Sink.is_sound p.0) (listening Sink) (rows_of k) (noting-lawful Sink.is_sound Sink.step Sink.ended Sink.is_quiet laws) here here here b s h 93 93 [] (line_number b) refl refl (λ x. refl) (λ x. refl)
 
-  -- the "]" behind which a section does not end was text, and that it does not is an error
+  -- the "]" after which a section does not end was text, and that it does not is an error
   pub bracket-closes : (old mid new : Tokenizer K) (result : Result (Unit {0}) ParseFault) → IsAt old state.CdataSectionBracket → Sink.is_sound (Sink.view old.sink) → Emitted Sink nothing_owed (CharacterTokens (93 ∷ [])) old mid → Errs Sink a_fault mid new result → Closes Sink old new result
   bracket-closes old mid new result from ok told errs = closes_then Sink (Some Grave) a_fault old mid new state.CdataSectionBracket (CharacterTokens (93 ∷ [])) result (no-more-same a_fault) from ok (bracket-last old) told errs
 

@@ -1,4 +1,4 @@
--- How many errors are owed for what is to come, behind so many that were noted.
+-- How many errors are owed for what is to come, after so many that were noted.
 use Rattle.std.proofs.Common.{◌≡◌, ◌∙◌, ℕ, zero, suc, ◌+◌, ◌-◌, Bool, true, false, List, [], ◌∷◌, ◌++◌, take, drop, Option, Some, None, Result, Ok, Err, refl, sym, ap, arith}
 use Rattle.html_tokens.specs.declared.states.RawKind.TheVariants as raw
 use Rattle.html_tokens.specs.declared.states.ScriptEscapeKind.TheVariants as script
@@ -61,7 +61,7 @@ module _ {S : Type 0} (step : Step S) (quiet : S → Token → Bool) (cdata : S 
   said-errors (Some Slight) (Some token) b s notes other f h k = noted-errors (step s token (line_number b)) _ _ f h k
 
   module _ (rows : List Row) where
-    -- a reading behind more errors has as many more at its end
+    -- a reading after more errors has as many more at its end
     pub reading-errors : (n : ℕ) (st : Stand) (b : ℕ) (s : S) (notes other : Notes ℕ) (t : List ℕ) → HasMore notes other
         → OwesMore (reading_from (noting step quiet) noting_error (noting_cdata cdata) (noting_end ends) rows n st b (s, notes) t) (reading_from (noting step quiet) noting_error (noting_cdata cdata) (noting_end ends) rows n st b (s, other) t)
     unfolding reading_from
@@ -80,7 +80,7 @@ module _ {S : Type 0} (step : Step S) (quiet : S → Token → Bool) (cdata : S 
         said-errors i.fault i.token read s notes other (λ p. told_text (noting_listener step quiet cdata ends) rows (next_stand i.next p.1) read p.0 (drop i.len t)) h
         (λ p notes other h. reading-errors 0 (next_stand i.next p.1) read p.0 notes other (drop i.len t) h)
 
-  -- the same of a reading behind something slight
+  -- the same of a reading after something slight
   pub slight-errors : (odd : Bool) (rows : List Row) (st : Stand) (b : ℕ) (s : S) (notes other : Notes ℕ) (t : List ℕ) → HasMore notes other
       → OwesMore (told_text (noting_listener step quiet cdata ends) rows st b (erred_by noting_error (slight_if odd) (s, notes)) t) (told_text (noting_listener step quiet cdata ends) rows st b (erred_by noting_error (slight_if odd) (s, other)) t)
   slight-errors true rows st b s notes other t h = reading-errors rows 0 st b s _ _ t h
@@ -159,7 +159,7 @@ module _ {K S : Type 0} (step : Step S) (quiet : S → Token → Bool) (cdata : 
   held_behind-errors (Some Unknown) st k b s notes other t h = held-errors st k b s _ _ t h
 
 module _ {K H : Type 0} (Sink : Ghosts K H) where
-  -- What is owed before a call for the characters that it takes and those that follow is owed by the items that ended, or behind it.
+  -- What is owed before a call for the characters that it takes and those that follow is owed by the items that ended, or after it.
   pub is-owing : IsOwing Sink
   is-owing = (
     λ c t.

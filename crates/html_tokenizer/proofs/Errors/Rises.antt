@@ -71,7 +71,7 @@ more-more a b notes =
     ap (λ n. record notes { errors = n; is_quiet = a.is_quiet && (b.is_quiet && notes.is_quiet) }) (and_more-twice a.faults b.faults notes.errors)
     ∙ ap (λ q. record notes { errors = and_more (a.faults + b.faults) notes.errors; is_quiet = q }) (and-twice a.is_quiet b.is_quiet notes.is_quiet)
 
--- a token that is heard behind what is owed is owed with it
+-- a token that is heard after what is owed is owed with it
 pub heard-more : (quiet : Bool) (owed : Owed) (notes : Notes ℕ) → heard quiet (more owed notes) ≡ more (and_heard quiet owed) notes
 heard-more quiet owed notes = ap (λ q. record (more owed notes) { is_quiet = q }) (and-between owed.is_quiet notes.is_quiet quiet)
 
@@ -80,7 +80,7 @@ pub record IsNoMore (less greater : Owed) : Type 0 where
   pub faults : less.faults ≤ greater.faults
   pub quiet : less.is_quiet ≡ true → greater.is_quiet ≡ true
 
--- what is owed behind a token that is heard, is so of what says no more
+-- what is owed after a token that is heard, is so of what says no more
 pub no-more-heard : (quiet : Bool) (less greater : Owed) → IsNoMore less greater → IsNoMore (and_heard quiet less) (and_heard quiet greater)
 no-more-heard quiet less greater h = record { faults = h.faults; quiet = λ e. and_from greater.is_quiet quiet (h.quiet (and_parts less.is_quiet quiet e).0) (and_parts less.is_quiet quiet e).1 }
 

@@ -37,7 +37,7 @@ ok-second {A} {B} a b p q h = ap (λ r. (given-or {A = A × B} (a, p) r).1) h
 abbrev owed_in : Notes ℕ → Owed
 owed_in notes = record { faults = notes.errors; is_quiet = notes.is_quiet }
 
--- what is owed behind what was noted is noted with it
+-- what is owed after what was noted is noted with it
 owed-more : (owed : Owed) (notes : Notes ℕ) → owed_in (more owed notes) ≡ together owed (owed_in notes)
 owed-more owed notes = ap (λ n. record { faults = n; is_quiet = owed.is_quiet && notes.is_quiet }) (more-sum owed.faults notes.errors)
 

@@ -55,7 +55,7 @@ module _ {K H : Type 0} (Sink : Ghosts K H) where
   erred-same : {owed : Owed} (old erred : Tokenizer K) (notes : Notes ℕ) (t : List ℕ) → Erred Sink owed old erred → now Sink old old.stream.breaks (Sink.view old.sink, notes) t ≡ now Sink erred erred.stream.breaks (Sink.view erred.sink, notes) t
   erred-same old erred notes t e = erred-now Sink old erred old.stream.breaks notes t e ∙ ap (λ (k : Tokenizer K). now Sink erred k.stream.breaks (Sink.view erred.sink, notes) t) (sym e.changed)
 
-  -- The character was taken behind its own error, if it is told, and then its line was counted.
+  -- The character was taken after its own error, if it is told, and then its line was counted.
   pub passed : (old erred mid : Tokenizer K) (stream : Stream) (c : ℕ) (result : ProcessResult H) → Erred Sink (owed_for_text old.stream.exact_errors (c ∷ [])) old erred → Took Sink erred mid c result
       → stream ≡ record mid.stream { breaks = counted mid.stream.breaks c } → Passed Sink old (record mid { stream = stream }) c result
   passed old erred mid stream c result e h is = rw is (

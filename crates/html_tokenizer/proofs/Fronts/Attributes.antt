@@ -197,7 +197,7 @@ module _ {K H : Type 0} (Sink : Ghosts K H) where
 
   -- VALUES
 
-  -- "=" behind a name
+  -- "=" after a name
   pub equals-front : (old new : Tokenizer K) (inner rest text : List ℕ) → IsAt old state.AttributeName → Sink.is_sound (Sink.view old.sink) → text ≡ 61 ∷ inner → TakesFront Sink (record old { state = state.BeforeAttributeValue }) new inner rest → TakesFront Sink old new text rest
   equals-front old new inner rest text from ok whole h =
       let mid : Tokenizer K = record old { state = state.BeforeAttributeValue } in
@@ -215,7 +215,7 @@ module _ {K H : Type 0} (Sink : Ghosts K H) where
   quote-took old value.SingleQuoted quote from ok is = value_before-apostrophe Sink old quote [] from ok (some-same 39 quote is) refl
   quote-took old value.DoubleQuoted quote from ok is = value_before-quote Sink old quote [] from ok (some-same 34 quote is) refl
 
-  -- a value behind its first quote
+  -- a value after its first quote
   pub quoted-front : (old : Tokenizer K) (kind : AttrValueKind) (quote : ℕ) (value after text made : List ℕ) → IsAt old state.BeforeAttributeValue → Sink.is_sound (Sink.view old.sink) → quote_of kind ≡ Some quote
       → text ≡ value ++ after → IsUtf8 value → Lacks (value_stops kind) (chars value) → made ≡ chars value → TakesFront Sink old (valuing old kind made) (quote ∷ text) after
   quoted-front old kind quote value after text made from ok is whole utf8 lacking e =

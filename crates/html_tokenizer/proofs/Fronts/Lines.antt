@@ -78,7 +78,7 @@ rest-utf8 text run rest utf8 whole cut = subst IsUtf8 (ap (drop (length run)) wh
 pub lines-begun : (text run rest : List ℕ) (b : ℕ) → text ≡ run ++ rest → IsUtf8 run → Lacks data_stops (chars run) → HasLines text rest b b
 lines-begun text run rest b whole utf8 lacks = record { front = run; whole = whole; utf8 = utf8; lines = run-lines (chars run) lacks; counts = sym (run-counts b (chars run) lacks) }
 
--- lines, and behind a line feed a run of one more
+-- lines, and after a line feed a run of one more
 pub lines-more : (text rest after run more : List ℕ) (b m n : ℕ) → HasLines text rest b m → rest ≡ 10 ∷ after → after ≡ run ++ more → IsUtf8 run → Lacks data_stops (chars run) → n ≡ min (m + 1) 0xffff_ffff_ffff_ffff → HasLines text more b n
 lines-more text rest after run more b m n lines feed split utf8 lacks is =
     let spelled : chars (lines.front ++ 10 ∷ run) ≡ chars lines.front ++ 10 ∷ chars run = chars-append lines.front (10 ∷ run) lines.utf8 ∙ ap (λ u. chars lines.front ++ u) (chars-cons 10 run (omega arith)) in
@@ -102,7 +102,7 @@ lines-width text rest b m lines = omega (arith, ap length lines.whole, length-ap
 lines-take : (text rest : List ℕ) (b m : ℕ) → (lines : HasLines text rest b m) → take (length lines.front) text ≡ lines.front
 lines-take text rest b m lines = ap (take (length lines.front)) lines.whole ∙ take-append_seam lines.front rest
 
--- a text may be cut behind them
+-- a text may be cut after them
 pub lines-cut : (text spelled rest : List ℕ) (width b m : ℕ) → IsUtf8 text → text ≡ spelled → width ≡ length text - length rest → HasLines text rest b m → IsCharBoundary spelled width
 lines-cut text spelled rest width b m utf8 e is lines =
     subst (λ u. IsCharBoundary u width) e

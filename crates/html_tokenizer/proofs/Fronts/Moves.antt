@@ -31,7 +31,7 @@ module _ {K H : Type 0} (Sink : Ghosts K H) where
   front-take : (old new : Tokenizer K) (text rest : List ℕ) → (front : TakesFront Sink old new text rest) → take (length front.front) text ≡ front.front
   front-take old new text rest front = ap (take (length front.front)) front.whole ∙ take-append_seam front.front rest
 
-  -- a text may be cut behind it
+  -- a text may be cut after it
   front-cut : (old new : Tokenizer K) (text rest : List ℕ) → IsUtf8 text → (front : TakesFront Sink old new text rest) → IsCharBoundary text (length front.front)
   front-cut old new text rest utf8 front =
       IsCharBoundary-from_take text (length front.front) utf8 (omega (arith, ap length front.whole, length-append front.front rest)) (subst IsUtf8 (sym (front-take old new text rest front)) front.utf8)

@@ -123,7 +123,7 @@ module _ {K H : Type 0} (Sink : Ghosts K H) (laws : SinkLaws Sink.is_sound Sink.
   )
 
 module _ {K H : Type 0} (Sink : Ghosts K H) where
-  -- the machine with what a whole name stands for behind its value
+  -- the machine with what a whole name stands for after its value
   abbrev with_whole : Tokenizer K → List ℕ → Tokenizer K
   with_whole k cs = record k { attribute_value = k.attribute_value ++ resolved true (rows_of k) cs false }
 
@@ -173,7 +173,7 @@ module _ {K H : Type 0} (Sink : Ghosts K H) where
     spelled = spelled name at.utf8 ∙ ap (λ u. 38 ∷ u) (sym e);
   }
 
-  -- the text may be cut behind them
+  -- the text may be cut after them
   pub reference-cut : (name rest text read : List ℕ) (cs : List ℕ) (width : ℕ) → IsUtf8 text → text ≡ read → width ≡ length text - length rest → Spells name rest text cs → IsCharBoundary read width
   reference-cut name rest text read cs width utf8 e is at =
       let front = 38 ∷ (name ++ 59 ∷ []) in

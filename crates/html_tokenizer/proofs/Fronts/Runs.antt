@@ -27,7 +27,7 @@ use Rattle.html_tokenizer.proofs.Feeds.Characters.{passed}
 front-of_both : (text bytes rest : List ℕ) → text ≡ bytes ++ rest → take (length bytes) text ≡ bytes
 front-of_both text bytes rest whole = ap (take (length bytes)) whole ∙ take-append_seam bytes rest
 
--- a text may be cut behind a front of it
+-- a text may be cut after a front of it
 pub run-cut : (text spelled bytes rest : List ℕ) → IsUtf8 text → text ≡ spelled → text ≡ bytes ++ rest → IsUtf8 bytes → IsCharBoundary spelled (length bytes)
 run-cut text spelled bytes rest utf8 e whole cut =
     subst (λ u. IsCharBoundary u (length bytes)) e

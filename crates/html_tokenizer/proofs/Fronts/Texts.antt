@@ -1,4 +1,4 @@
--- Texts that are cut behind characters of ASCII.
+-- Texts that are cut after characters of ASCII.
 use Rattle.std.proofs.Common.{◌≡◌, ◌∙◌, ℕ, zero, suc, ◌<◌, Bool, true, false, List, [], ◌∷◌, ◌++◌, length, get_or, refl, sym, ap, arith}
 use Rattle.std.specs.Prelude.{encode_utf8_all, ◌==◌, not}
 use Rattle.std.specs.Char.{is_ascii_alphabetic}
@@ -22,7 +22,7 @@ chars-cons b bs low =
     chars-append (b ∷ []) bs (IsUtf8-from_ascii (b ∷ []) (ascii-one b low))
     ∙ ap (λ cs. cs ++ chars bs) (chars-IsAscii (b ∷ []) (ascii-one b low))
 
--- a text may be cut behind an ASCII character at its front
+-- a text may be cut after an ASCII character at its front
 pub cut-behind : (bs : List ℕ) (b : ℕ) → IsUtf8 bs → 0 < length bs → get_or bs 0 0 ≡ b → b < 128 → IsCharBoundary bs 1
 cut-behind bs b u some is low = IsCharBoundary-after_ascii bs 0 u some (rw is low)
 

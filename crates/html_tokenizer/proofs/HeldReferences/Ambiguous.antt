@@ -1,4 +1,4 @@
--- How the machine goes on behind "&" and an unknown name.
+-- How the machine goes on after "&" and an unknown name.
 use Rattle.std.proofs.Common.{◌≡◌, ◌∙◌, ℕ, ◌+◌, Bool, true, false, nat_eq, List, [], ◌∷◌, Some, None, Result, Ok, Err, refl, sym, ap}
 use Rattle.std.specs.Prelude.{◌&&◌}
 use Rattle.markup.specs.declared.fault.ParseFault.{ParseFault}
@@ -23,16 +23,16 @@ and-false : (b : Bool) → (b && false) ≡ false
 and-false true = refl
 and-false false = refl
 
--- what is slight is noted before what is owed as behind it
+-- what is slight is noted before what is owed as after it
 slight-behind : (owed : Owed) (notes : Notes ℕ) → more owed (more (owed_for (Some Slight)) notes) ≡ more (owed_for (Some Slight)) (more owed notes)
 slight-behind owed notes = ap (λ q. record notes { errors = and_more owed.faults notes.errors; is_quiet = q }) (and-false owed.is_quiet)
 
--- behind what is not quiet it changes nothing
+-- after what is not quiet it changes nothing
 pub slight-again : (owed : Owed) (notes : Notes ℕ) → owed.is_quiet ≡ false → more owed notes ≡ more (owed_for (Some Slight)) (more owed notes)
 slight-again owed notes e = ap (λ q. record notes { errors = and_more owed.faults notes.errors; is_quiet = q && notes.is_quiet }) e
 
 module _ {K H : Type 0} (Sink : Ghosts K H) where
-  -- what is to come behind an unknown name
+  -- what is to come after an unknown name
   pub now-unknown : (k : Tokenizer K) (b : ℕ) (s : Sink.State × Notes ℕ) (t : List ℕ) → k.char_ref ≡ None → may_hold k.state ≡ true
       → now Sink (record k { char_ref = Some Unknown }) b s t ≡ now Sink k b (s.0, more (owed_for (Some Slight)) s.1) t
   now-unknown k b s t fresh holds =
@@ -90,7 +90,7 @@ module _ {K H : Type 0} (Sink : Ghosts K H) where
       ∙ ap (λ n. now Sink mid old.stream.breaks (Sink.view mid.sink, n) (c ∷ t)) (slight-again heard notes (ap (λ q. q && Sink.is_quiet (Sink.view old.sink) token) wrong))
       ∙ sym (now-unknown mid old.stream.breaks (Sink.view mid.sink, more heard notes) (c ∷ t) (ap (λ k. k.char_ref) told.changed ∙ from.fresh) (ap (λ k. may_hold k.state) told.changed ∙ (ap may_hold from.state ∙ fits)))) h
 
-  -- The input ends behind an unknown name as where none stands before.
+  -- The input ends after an unknown name as where none stands before.
   pub unknown-closes : (old new : Tokenizer K) (result : Result (Unit {0}) ParseFault) → old.char_ref ≡ None → may_hold old.state ≡ true
       → Closes Sink old new result → Closes Sink (record old { char_ref = Some Unknown }) new result
   unknown-closes old new (Ok x) fresh holds h = record {

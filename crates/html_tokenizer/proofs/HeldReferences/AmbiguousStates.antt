@@ -1,4 +1,4 @@
--- The letters and digits of an unknown name behind "&".
+-- The letters and digits of an unknown name after "&".
 use Rattle.std.proofs.Common.{◌≡◌, ◌∙◌, ℕ, ◌+◌, true, false, nat_eq, List, [], ◌∷◌, ◌++◌, Some, Result, refl, sym, ap, arith}
 use Rattle.std.specs.Prelude.{if◌then◌else◌}
 use Rattle.std.specs.Char.{is_ascii_alphanumeric}
@@ -74,7 +74,7 @@ module _ {K H : Type 0} (Sink : Ghosts K H) where
   value-more value.SingleQuoted old c text from ok named is = quoted-more Sink old value.SingleQuoted 39 c text from ok refl (named-apart c 39 named refl) (named-apart c 38 named refl) (value-named old.attribute_value text c named is)
   value-more value.DoubleQuoted old c text from ok named is = quoted-more Sink old value.DoubleQuoted 34 c text from ok refl (named-apart c 34 named refl) (named-apart c 38 named refl) (value-named old.attribute_value text c named is)
 
-  -- it was put behind a value
+  -- it was put after a value
   pub value-unknown : (old : Tokenizer K) (kind : AttrValueKind) (c : ℕ) (text : List ℕ) → IsAt old (state.AttributeValue kind) → Sink.is_sound (Sink.view old.sink) → is_ascii_alphanumeric c ≡ true → text ≡ old.attribute_value ++ c ∷ []
       → Took Sink (record old { char_ref = Some Unknown }) (record old { attribute_value = text; char_ref = Some Unknown }) c flow.Continue
   value-unknown old kind c text from ok named is =

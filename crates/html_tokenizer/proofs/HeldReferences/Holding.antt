@@ -30,7 +30,7 @@ use Rattle.html_tokenizer.proofs.Errors.Rises.{rises-same}
 pub fits-held : (rows : List ReferenceRow) (r : Option Ampersand) (cs : List ℕ) (st : State) → r ≡ Some (Held cs) → fits_in rows r st ≡ true → (is_held_front rows cs ≡ true) × (may_hold st ≡ true)
 fits-held rows r cs st e fits = and_parts (is_held_front rows cs) (may_hold st) (subst (λ x. fits_in rows x st ≡ true) e fits)
 
--- an unknown name is behind `&` where a reference may be held
+-- an unknown name is after `&` where a reference may be held
 pub fits-unknown : (rows : List ReferenceRow) (r : Option Ampersand) (st : State) → r ≡ Some Unknown → fits_in rows r st ≡ true → may_hold st ≡ true
 fits-unknown rows r st e fits = subst (λ x. fits_in rows x st ≡ true) e fits
 

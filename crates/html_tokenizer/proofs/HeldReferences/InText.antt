@@ -42,7 +42,7 @@ module _ {K : Type 0} (k : Tokenizer K) where
   }
 
 module _ {K H : Type 0} (Sink : Ghosts K H) (laws : SinkLaws Sink.is_sound Sink.step Sink.ended Sink.is_quiet) where
-  -- What a reference stands for was told, behind the error that the Standard names, if it names one.
+  -- What a reference stands for was told, after the error that the Standard names, if it names one.
   pub reference-told : (told has : Bool) (old new : Tokenizer K) (cs front text : List ℕ) (o : Option Reference) (result : Result (Unit {0}) ParseFault) → has ≡ told → has ≡ is_faulty false (rows_of old) cs false → text ≡ front ++ resolved_by o cs → front ≡ [] → o ≡ decided false (rows_of old) cs false
       → Tells Sink (owed_for (grave_if told)) (CharacterTokens text) old new result
       → Tells Sink (owed_for (fault_of_reference (rows_of old) cs)) (CharacterTokens (resolved false (rows_of old) cs false)) old new result

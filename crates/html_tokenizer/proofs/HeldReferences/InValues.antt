@@ -26,7 +26,7 @@ use Rattle.html_tokenizer.proofs.Steps.Lawful.{erred-more, slight-absorbed}
 use Rattle.html_tokenizer.proofs.Errors.Rises.{rises-slight}
 use Rattle.html_tokenizer.specs.Listeners.{listening}
 
--- what was pushed behind the value
+-- what was pushed after the value
 pub value-pushed : (rows : List Row) (text front cs : List ℕ) (o : Option Reference) (follows : Bool) (c : ℕ) → text ≡ front ++ resolved_by o cs → o ≡ decided true rows cs follows → follows ≡ goes_on_at (c ∷ [])
     → text ≡ front ++ resolved true rows cs (goes_on_at (c ∷ []))
 value-pushed rows text front cs o follows c e f g = e ∙ ap (λ o. front ++ resolved_by o cs) f ∙ ap (λ b. front ++ resolved true rows cs b) g
@@ -41,7 +41,7 @@ module _ {K H : Type 0} (Sink : Ghosts K H) where
   abbrev pub wronged_by : Tokenizer K → List ℕ → Sink.State × Notes ℕ → Sink.State × Notes ℕ
   wronged_by k cs s = (s.0, more (owed_for (slight_if (is_some (fault_of_reference (rows_of k) cs)))) s.1)
 
-  -- what was held and what follows is read as what was held behind the value, and then what follows
+  -- what was held and what follows is read as what was held after the value, and then what follows
   pub value-resolves : (kind : AttrValueKind) (old : Tokenizer K) (cs u : List ℕ) (follows : Bool) → list_all is_held cs ≡ true → reference_at true (rows_of old) (cs ++ u) ≡ decided true (rows_of old) cs follows → fault_of_reference (rows_of old) (cs ++ u) ≡ fault_of_reference (rows_of old) cs → (b : ℕ) (s : Sink.State × Notes ℕ)
       → at Sink (state.AttributeValue kind) old b s (38 ∷ cs ++ u)
       ≡ at Sink (state.AttributeValue kind) (record old { attribute_value = old.attribute_value ++ resolved true (rows_of old) cs follows }) b (wronged_by old cs s) u
@@ -70,7 +70,7 @@ module _ {K H : Type 0} (Sink : Ghosts K H) where
       now-held Sink old (state.AttributeValue kind) cs b s (c ∷ t) from.state refl
       ∙ value-resolves kind old cs (c ∷ t) (goes_on_at (c ∷ [])) d.held (reference-decided true (rows_of old) cs c t d.checked d.front d.ends) (fault-decided (rows_of old) cs c t d.checked d.front d.ends) b s
 
-  -- the machine with what was held put behind the value
+  -- the machine with what was held put after the value
   abbrev with_resolved : Tokenizer K → List ℕ → ℕ → Tokenizer K
   with_resolved k cs c = record k { attribute_value = k.attribute_value ++ resolved true (rows_of k) cs (goes_on_at (c ∷ [])) }
 
@@ -81,7 +81,7 @@ module _ {K H : Type 0} (Sink : Ghosts K H) where
       value-comes old kind cs c from d old.stream.breaks (Sink.view old.sink, notes) t
       ∙ sym (now-at Sink (with_resolved old cs c) (state.AttributeValue kind) old.stream.breaks (wronged_by old cs (Sink.view old.sink, notes)) (c ∷ t) (record { state = from.state; fresh = from.fresh }))
 
-  -- what was held is put behind the value, and the character is taken there
+  -- what was held is put after the value, and the character is taken there
   value-ended : (old new : Tokenizer K) (kind : AttrValueKind) (cs text : List ℕ) (c : ℕ) (result : Result (ProcessResult H) ParseFault) → IsAt old (state.AttributeValue kind) → IsDecided (rows_of old) cs c
       → text ≡ old.attribute_value ++ resolved true (rows_of old) cs (goes_on_at (c ∷ []))
       → Keeps Sink (record old { attribute_value = text }) new c result → Keeps Sink (record old { char_ref = Some (Held cs) }) new c result
@@ -120,7 +120,7 @@ module _ {K H : Type 0} (Sink : Ghosts K H) where
       (record { sink = h.sink; changed = ap {A = Tokenizer K} (λ k. record k { char_ref = Some (Held cs) }) h.changed; stays = h.stays; rises = h.rises })
       (λ e. value-absorbs old kind cs c from d (faulty-some true (rows_of old) cs follows (sym named ∙ e))) k
 
-  -- what was held is put behind the value behind that error
+  -- what was held is put after the value after that error
   pub value-erred : (told follows : Bool) (old mid new : Tokenizer K) (kind : AttrValueKind) (cs text : List ℕ) (c : ℕ) (result : Result (ProcessResult H) ParseFault) → IsAt old (state.AttributeValue kind) → IsDecided (rows_of old) cs c → told ≡ is_faulty true (rows_of old) cs follows
       → Erred Sink (owed_for (grave_if told)) old mid → text ≡ mid.attribute_value ++ resolved true (rows_of old) cs (goes_on_at (c ∷ []))
       → Keeps Sink (record mid { attribute_value = text }) new c result → Keeps Sink (record old { char_ref = Some (Held cs) }) new c result

@@ -22,7 +22,7 @@ use Rattle.html_tokenizer_parts.specs.Words.{FittingEnd, BeginsEnd}
 
 -- NUMBERS
 
--- of digits with ";" or nothing behind them, all are taken
+-- of digits with ";" or nothing after them, all are taken
 whole-step : (stops : ℕ → Bool) (some : Bool) (d : ℕ) (ds : List ℕ) (b : Bool) → stops d ≡ b → cond b (some && (nat_eq d 59 && is_no_text ds)) (are_digits stops true ds) ≡ true
     → (are_digits stops true ds ≡ true → run stops ds + semicolon (drop (run stops ds) ds) ≡ length ds) → run stops (d ∷ ds) + semicolon (drop (run stops (d ∷ ds)) (d ∷ ds)) ≡ suc (length ds)
 whole-step stops some d ds true e h more =
@@ -50,7 +50,7 @@ digits-taken k base (suc n) m t l e f = (_, refl, let all : k + suc n + semicolo
 digits-whole : (k base m : ℕ) (stops : ℕ → Bool) (d : ℕ) (ds : List ℕ) → are_digits stops false (d ∷ ds) ≡ true → m ≤ k + length (d ∷ ds) → Takes m (numbered_reference (digits_at k base (run stops (d ∷ ds)) (d ∷ ds)))
 digits-whole k base m stops d ds h l = digits-taken k base (run stops (d ∷ ds)) m (d ∷ ds) (some-run stops d ds (stops d) refl h) (whole-run stops false (d ∷ ds) h) l
 
--- a text behind which this makes a reference that takes all of what stands before
+-- a text after which this makes a reference that takes all of what stands before
 abbrev NumberPart : List ℕ → Type 0
 NumberPart hs = (more : List ℕ) × Takes (suc (length hs)) (numbered_reference (numeric (hs ++ more)))
 
@@ -157,7 +157,7 @@ part-of in_value false rows h hs e f =
     let q = named-taken in_value (length (h ∷ hs)) (longest rows ((h ∷ hs) ++ p.0)) ((h ∷ hs) ++ p.0) (longer-text (h ∷ hs) p.0) (longest-named rows ((h ∷ hs) ++ p.0) p.1) in
     record { more = p.0; reference = q.0; is = ap (λ b. reference_by b in_value rows h (hs ++ p.0)) e ∙ q.1; whole = q.2 }
 
--- some text behind the front of a reference makes one of both
+-- some text after the front of a reference makes one of both
 pub held-part : (in_value : Bool) (rows : List ReferenceRow) (cs : List ℕ) → is_held_front rows cs ≡ true → BeginsReference in_value rows cs
 held-part in_value rows [] f =
     let p = number-part [] refl in

@@ -73,7 +73,7 @@ module _ {T : Type 0} (sound : T → Type 0) (to : Listener T) (rows : List Row)
       ∙ ap (λ u. to.step q (CharacterTokens r.chars) (line_number b) >>= λ p. told_text to rows st b p.0 u) (drop-append-le r.len cs t within)
       ∙ told-run st b q h r.chars (drop r.len cs) t (line_number b) reads (held-drop r.len cs held)
 
-  -- a reference that is decided is told with the text that was held behind it
+  -- a reference that is decided is told with the text that was held after it
   pub reading-held : (st : Stand) (b : ℕ) (s : T) (cs : List ℕ) → sound (erred_by to.erred (fault_of_reference rows cs) s) → (c : ℕ) (t : List ℕ) → ReadsHeld rows st → IsDecided rows cs c
       → told_text to rows st b s (38 ∷ cs ++ c ∷ t) ≡ (to.step (erred_by to.erred (fault_of_reference rows cs) s) (CharacterTokens (resolved false rows cs false)) (line_number b) >>= λ p. told_text to rows st b p.0 (c ∷ t))
   reading-held st b s cs h c t reads d =

@@ -25,7 +25,7 @@ abbrev more : ℕ → ℕ → ℕ
 more zero m = m
 more (suc n) m = suc (more n m)
 
--- a value behind n characters that stand for others, in which something may be odd
+-- a value after n characters that stand for others, in which something may be odd
 abbrev later_all : Bool → ℕ → List ℕ → Value → Value
 later_all odd n cs v = record { chars = cs ++ v.chars; len = more n v.len; is_odd = odd || v.is_odd }
 
@@ -46,7 +46,7 @@ quote-more : (n m : ℕ) (st : Stand) (t : List ℕ) → quote_at (more n m) st 
 quote-more zero m st t = refl
 quote-more (suc n) m st t = quote_at-more (more n m) st t ∙ ap behind (quote-more n m st t)
 
--- an item with something odd in it, behind n characters more
+-- an item with something odd in it, after n characters more
 marked-behind_all : (n : ℕ) (odd : Bool) (i : Item) → marked odd (behind_all n i) ≡ behind_all n (marked odd i)
 marked-behind_all zero odd i = refl
 marked-behind_all (suc n) odd i = ap behind (marked-behind_all n odd i)
@@ -147,7 +147,7 @@ module _ (rows : List Row) (st : Stand) (tag : Tag) (name front cs u : List ℕ)
       ∙ ap (marked is_wrong) (marked-behind_all (suc (length cs)) v.is_odd (quote_at v.len next (drop v.len u)))
 
 module _ {T : Type 0} (to : Listener T) (rows : List Row) where
-  -- an item behind characters that were held
+  -- an item after characters that were held
   play-behind_all : (j : Item) (b : ℕ) (s : T) (xs t : List ℕ) → list_all is_held xs ≡ true → told_item to rows (behind_all (length xs) j) b s (xs ++ t) ≡ told_item to rows j b s t
   play-behind_all j b s [] t h = refl
   play-behind_all j b s (x ∷ xs) t h =
@@ -157,7 +157,7 @@ module _ {T : Type 0} (to : Listener T) (rows : List Row) where
       ∙ play-behind_all j b s xs t p.1
 
   module _ (absorbs : Absorbing to.erred) where
-    -- an item behind what was held, with which something may be wrong
+    -- an item after what was held, with which something may be wrong
     play-held : (wrong : Bool) (i j : Item) (b : ℕ) (s : T) (cs t : List ℕ) → list_all is_held cs ≡ true → i ≡ marked wrong (behind_all (suc (length cs)) j) → told_item to rows i b s (38 ∷ cs ++ t) ≡ told_item to rows j b (erred_by to.erred (slight_if wrong) s) t
     play-held wrong i j b s cs t h e =
         let q = erred_by to.erred (slight_if wrong) s in

@@ -33,7 +33,7 @@ use Rattle.html_tokenizer.proofs.RawText.Scripts.{char-says, kind-says}
 use Rattle.html_tokenizer.specs.Listeners.{listening}
 
 module _ {K H : Type 0} (Sink : Ghosts K H) (laws : SinkLaws Sink.is_sound Sink.step Sink.ended Sink.is_quiet) where
-  -- "<" and then another character are told, and the text has this kind behind them
+  -- "<" and then another character are told, and the text has this kind after them
   pub two-says : (old : Tokenizer K) (kind : RawKind) (b : ℕ) (s : Sink.State × Notes ℕ) → Sink.is_sound s.0 → (c : ℕ) (t : List ℕ) → nat_eq c 60 ≡ false → nat_eq c 38 ≡ false → nat_eq c 0 ≡ false → nat_eq c 10 ≡ false → (ends_at_tag kind && is_fitting_end old.raw_end.name (c ∷ t)) ≡ false
       → raw_text Sink old kind b s (60 ∷ c ∷ t) ≡ (noting Sink.step Sink.is_quiet s (CharacterTokens (60 ∷ c ∷ [])) (line_number b) >>= λ p. raw_text Sink old (kind_after kind (60 ∷ c ∷ []) t) b p.0 t)
   two-says old kind b s h c t e f z n fits =
@@ -44,7 +44,7 @@ module _ {K H : Type 0} (Sink : Ghosts K H) (laws : SinkLaws Sink.is_sound Sink.
   pub fits-none : (k : Tokenizer K) (kind : RawKind) (t : List ℕ) → is_fitting_end k.raw_end.name t ≡ false → (ends_at_tag kind && is_fitting_end k.raw_end.name t) ≡ false
   fits-none k kind t e = rw e (and-none (ends_at_tag kind))
 
-  -- "/" behind "<"
+  -- "/" after "<"
   pub slash-taken : (old : Tokenizer K) (kind : RawKind) (c : ℕ) → IsAt old (state.RawLessThanSign kind) → Sink.is_sound (Sink.view old.sink) → ends_at_tag kind ≡ true → c ≡ 47 → Took Sink old (record old { state = state.RawEndTagOpen kind }) c flow.Continue
   unfolding held_at
   slash-taken old kind c from ok h e = rw e (took Sink old (record old { state = state.RawEndTagOpen kind }) 47 (state.RawLessThanSign kind) (state.RawEndTagOpen kind) from (record { state = refl; fresh = from.fresh }) refl refl ok
@@ -88,7 +88,7 @@ module _ {K H : Type 0} (Sink : Ghosts K H) (laws : SinkLaws Sink.is_sound Sink.
   pub letter-told : (old new : Tokenizer K) (word : List ℕ) (c : ℕ) (result : Result (ProcessResult H) ParseFault) → IsAt old (state.RawLessThanSign (raw.ScriptDataEscaped script.Escaped)) → Sink.is_sound (Sink.view old.sink) → is_ascii_alphabetic c ≡ true → word ≡ c ∷ [] → TakesAs Sink nothing_owed (CharacterTokens (60 ∷ c ∷ [])) (record old { word = word; state = state.ScriptDataEscapeStart script.DoubleEscaped }) new result → Keeps Sink old new c result
   letter-told old new word c result from ok l e told = keeps_taken Sink nothing_owed old (record old { word = word; state = state.ScriptDataEscapeStart script.DoubleEscaped }) new c (state.RawLessThanSign (raw.ScriptDataEscaped script.Escaped)) (state.ScriptDataEscapeStart script.DoubleEscaped) (CharacterTokens (60 ∷ c ∷ [])) result from (record { state = refl; fresh = from.fresh }) refl refl ok told (letter-says old word c l e)
 
-  -- behind "<" in text that is escaped twice
+  -- after "<" in text that is escaped twice
   deep_slash-says : (old : Tokenizer K) (word : List ℕ) → word ≡ [] → Says Sink (state.RawLessThanSign (raw.ScriptDataEscaped script.DoubleEscaped)) old 47 nothing_owed (CharacterTokens (47 ∷ [])) (λ b s t. at Sink state.ScriptDataDoubleEscapeEnd (record old { word = word; state = state.ScriptDataDoubleEscapeEnd }) (b + line_break (nat_eq 47 10)) s t)
   unfolding held_at
   deep_slash-says old word e b s h t =
@@ -107,7 +107,7 @@ module _ {K H : Type 0} (Sink : Ghosts K H) (laws : SinkLaws Sink.is_sound Sink.
   pub deep-kept : (old new : Tokenizer K) (c : ℕ) (result : Result (ProcessResult H) ParseFault) → IsAt old (state.RawLessThanSign (raw.ScriptDataEscaped script.DoubleEscaped)) → (c ≡ 47 → ⊥) → Keeps Sink (record old { state = state.RawData (raw.ScriptDataEscaped script.DoubleEscaped) }) new c result → Keeps Sink old new c result
   deep-kept old new c result from e h = keeps_silent Sink old (record old { state = state.RawData (raw.ScriptDataEscaped script.DoubleEscaped) }) new c (state.RawLessThanSign (raw.ScriptDataEscaped script.DoubleEscaped)) (state.RawData (raw.ScriptDataEscaped script.DoubleEscaped)) result from (record { state = refl; fresh = from.fresh }) refl refl (deep-other old c (ne_eqb c 47 e)) h
 
-  -- a letter behind "</"
+  -- a letter after "</"
   pub name-taken : (old : Tokenizer K) (kind : RawKind) (held : FittingEnd) (c : ℕ) → IsAt old (state.RawEndTagOpen kind) → Sink.is_sound (Sink.view old.sink) → is_ascii_alphabetic c ≡ true → held ≡ record old.raw_end { letters = c ∷ [] } → Took Sink old (record old { raw_end = held; state = state.RawEndTagName kind }) c flow.Continue
   unfolding held_at
   name-taken old kind held c from ok l e = rw e (took Sink old (record old { raw_end = record old.raw_end { letters = c ∷ [] }; state = state.RawEndTagName kind }) c (state.RawEndTagOpen kind) (state.RawEndTagName kind) from (record { state = refl; fresh = from.fresh }) refl refl ok

@@ -1,4 +1,4 @@
--- The name behind "</" in raw text.
+-- The name after "</" in raw text.
 use Rattle.std.proofs.Common.{◌≡◌, ◌∙◌, ℕ, ◌+◌, Bool, true, false, nat_eq, List, [], ◌∷◌, ◌++◌, Result, refl, sym, ap, append_assoc, append-nil}
 use Rattle.std.specs.Prelude.{◌&&◌}
 use Rattle.std.specs.Char.{is_ascii_alphabetic}
@@ -90,7 +90,7 @@ module _ {K H : Type 0} (Sink : Ghosts K H) (laws : SinkLaws Sink.is_sound Sink.
       end_tag-run old kind letters b s h (c ∷ t) w refl
       ∙ ap (λ k. noting Sink.step Sink.is_quiet s (CharacterTokens (60 ∷ 47 ∷ letters)) (line_number b) >>= λ p. raw_text Sink old k b p.0 (c ∷ t)) (sym (kind_after-letters behind_slash letters (c ∷ t) w))
 
-  -- behind "</"
+  -- after "</"
   deep_open-says : (old : Tokenizer K) (word : List ℕ) (c : ℕ) → word ≡ []
       → Says Sink (state.RawEndTagOpen (raw.ScriptDataEscaped script.DoubleEscaped)) old c nothing_owed (CharacterTokens (60 ∷ 47 ∷ [])) (λ b s t. at Sink state.ScriptDataDoubleEscapeEnd (record old { word = word; state = state.ScriptDataDoubleEscapeEnd }) b s (c ∷ t))
   unfolding held_at
@@ -105,7 +105,7 @@ module _ {K H : Type 0} (Sink : Ghosts K H) (laws : SinkLaws Sink.is_sound Sink.
       → Falls Sink old.sink new.sink (Sink.step (Sink.view old.sink) (CharacterTokens (60 ∷ 47 ∷ [])) (line_number old.stream.breaks)) fault → Keeps Sink old new c result
   deep_open-failed old new kind c result fault from ok e is fails = not-told_from Sink nothing_owed old old new c (state.RawEndTagOpen (raw.ScriptDataEscaped script.DoubleEscaped)) (CharacterTokens (60 ∷ 47 ∷ [])) result fault _ (rw (double_escaped kind e) at from) refl refl ok is fails (deep_open-says old [] c refl)
 
-  -- behind letters
+  -- after letters
   deep-says : (old : Tokenizer K) (word : List ℕ) (c : ℕ) → list_all is_ascii_alphabetic old.raw_end.letters ≡ true → word ≡ old.raw_end.letters
       → Says Sink (state.RawEndTagName (raw.ScriptDataEscaped script.DoubleEscaped)) old c nothing_owed (CharacterTokens (60 ∷ 47 ∷ old.raw_end.letters)) (λ b s t. at Sink state.ScriptDataDoubleEscapeEnd (record old { word = word; state = state.ScriptDataDoubleEscapeEnd }) b s (c ∷ t))
   unfolding held_at

@@ -27,7 +27,7 @@ use Rattle.html_tokenizer_parts.proofs.RawKinds.{letter-no_open, letter-no_refer
 use Rattle.html_tokenizer.proofs.RawText.States.{raw_text, raw-char}
 
 module _ {K H : Type 0} (Sink : Ghosts K H) (laws : SinkLaws Sink.is_sound Sink.step Sink.ended Sink.is_quiet) where
-  -- a character is told, and the text has this kind behind it
+  -- a character is told, and the text has this kind after it
   pub char-says : (old : Tokenizer K) (kind next : RawKind) (b : ℕ) (s : Sink.State × Notes ℕ) → Sink.is_sound s.0 → (c : ℕ) (t : List ℕ) → nat_eq c 60 ≡ false → nat_eq c 38 ≡ false → nat_eq c 0 ≡ false → kind_behind kind c t ≡ next
       → raw_text Sink old kind b s (c ∷ t) ≡ (noting Sink.step Sink.is_quiet s (CharacterTokens (c ∷ [])) (line_number b) >>= λ p. raw_text Sink old next (b + line_break (nat_eq c 10)) p.0 t)
   char-says old kind next b s h c t e f z k =
@@ -38,7 +38,7 @@ module _ {K H : Type 0} (Sink : Ghosts K H) (laws : SinkLaws Sink.is_sound Sink.
   pub kind-says : (old : Tokenizer K) (kind next : RawKind) (b : ℕ) (s : Sink.State × Notes ℕ) (t : List ℕ) → kind ≡ next → raw_text Sink old kind b s t ≡ raw_text Sink old next b s t
   kind-says old kind next b s t e = ap (λ k. raw_text Sink old k b s t) e
 
-  -- behind "<!"
+  -- after "<!"
   start-dash : (old : Tokenizer K) → Says Sink (state.ScriptDataEscapeStart script.Escaped) old 45 nothing_owed (CharacterTokens (45 ∷ [])) (λ b s t. at Sink state.ScriptDataEscapeStartDash (record old { state = state.ScriptDataEscapeStartDash }) (b + line_break (nat_eq 45 10)) s t)
   unfolding held_at
   start-dash old b s h t = char-says old (kind_after raw.ScriptData (60 ∷ 33 ∷ []) (45 ∷ t)) (kind_after raw.ScriptData (60 ∷ 33 ∷ 45 ∷ []) t) b s h 45 t refl refl refl refl
@@ -53,7 +53,7 @@ module _ {K H : Type 0} (Sink : Ghosts K H) (laws : SinkLaws Sink.is_sound Sink.
   pub start-kept : (old new : Tokenizer K) (c : ℕ) (result : Result (ProcessResult H) ParseFault) → IsAt old (state.ScriptDataEscapeStart script.Escaped) → (c ≡ 45 → ⊥) → Keeps Sink (record old { state = state.RawData raw.ScriptData }) new c result → Keeps Sink old new c result
   start-kept old new c result from e h = keeps_silent Sink old (record old { state = state.RawData raw.ScriptData }) new c (state.ScriptDataEscapeStart script.Escaped) (state.RawData raw.ScriptData) result from (record { state = refl; fresh = from.fresh }) refl refl (start-other old c (ne_eqb 45 c (λ x. e (sym x)))) h
 
-  -- behind "<!-"
+  -- after "<!-"
   dash-dash : (old : Tokenizer K) → Says Sink state.ScriptDataEscapeStartDash old 45 nothing_owed (CharacterTokens (45 ∷ [])) (λ b s t. at Sink (state.ScriptDataEscapedDashDash script.Escaped) (record old { state = state.ScriptDataEscapedDashDash script.Escaped }) (b + line_break (nat_eq 45 10)) s t)
   unfolding held_at
   dash-dash old b s h t = char-says old (kind_after raw.ScriptData (60 ∷ 33 ∷ 45 ∷ []) (45 ∷ t)) (kind_after (raw.ScriptDataEscaped script.Escaped) (45 ∷ 45 ∷ []) t) b s h 45 t refl refl refl refl
@@ -68,7 +68,7 @@ module _ {K H : Type 0} (Sink : Ghosts K H) (laws : SinkLaws Sink.is_sound Sink.
   pub dash-kept : (old new : Tokenizer K) (c : ℕ) (result : Result (ProcessResult H) ParseFault) → IsAt old state.ScriptDataEscapeStartDash → (c ≡ 45 → ⊥) → Keeps Sink (record old { state = state.RawData raw.ScriptData }) new c result → Keeps Sink old new c result
   dash-kept old new c result from e h = keeps_silent Sink old (record old { state = state.RawData raw.ScriptData }) new c state.ScriptDataEscapeStartDash (state.RawData raw.ScriptData) result from (record { state = refl; fresh = from.fresh }) refl refl (dash-other old c (ne_eqb 45 c (λ x. e (sym x)))) h
 
-  -- behind "-" in escaped text
+  -- after "-" in escaped text
   escaped-dash : (old : Tokenizer K) (kind : ScriptEscapeKind) → Says Sink (state.ScriptDataEscapedDash kind) old 45 nothing_owed (CharacterTokens (45 ∷ [])) (λ b s t. at Sink (state.ScriptDataEscapedDashDash kind) (record old { state = state.ScriptDataEscapedDashDash kind }) (b + line_break (nat_eq 45 10)) s t)
   unfolding held_at
   escaped-dash old kind b s h t = char-says old (kind_after (raw.ScriptDataEscaped kind) (45 ∷ []) (45 ∷ t)) (kind_after (raw.ScriptDataEscaped kind) (45 ∷ 45 ∷ []) t) b s h 45 t refl refl refl refl
@@ -87,7 +87,7 @@ module _ {K H : Type 0} (Sink : Ghosts K H) (laws : SinkLaws Sink.is_sound Sink.
   pub escaped-kept : (old new : Tokenizer K) (kind : ScriptEscapeKind) (c : ℕ) (result : Result (ProcessResult H) ParseFault) → IsAt old (state.ScriptDataEscapedDash kind) → (c ≡ 45 → ⊥) → Keeps Sink (record old { state = state.RawData (raw.ScriptDataEscaped kind) }) new c result → Keeps Sink old new c result
   escaped-kept old new kind c result from e h = keeps_silent Sink old (record old { state = state.RawData (raw.ScriptDataEscaped kind) }) new c (state.ScriptDataEscapedDash kind) (state.RawData (raw.ScriptDataEscaped kind)) result from (record { state = refl; fresh = from.fresh }) refl refl (escaped-other old kind c (ne_eqb 45 c (λ x. e (sym x)))) h
 
-  -- behind "--" in escaped text
+  -- after "--" in escaped text
   dashes-kind : (kind : ScriptEscapeKind) (t : List ℕ) → kind_after (raw.ScriptDataEscaped kind) (45 ∷ 45 ∷ 45 ∷ []) t ≡ kind_after (raw.ScriptDataEscaped kind) (45 ∷ 45 ∷ []) t
   dashes-kind script.Escaped t = refl
   dashes-kind script.DoubleEscaped t = refl
@@ -121,7 +121,7 @@ module _ {K H : Type 0} (Sink : Ghosts K H) (laws : SinkLaws Sink.is_sound Sink.
   pub dashes-kept : (old new : Tokenizer K) (kind : ScriptEscapeKind) (c : ℕ) (result : Result (ProcessResult H) ParseFault) → IsAt old (state.ScriptDataEscapedDashDash kind) → (c ≡ 45 → ⊥) → (c ≡ 62 → ⊥) → Keeps Sink (record old { state = state.RawData (raw.ScriptDataEscaped kind) }) new c result → Keeps Sink old new c result
   dashes-kept old new kind c result from e f h = keeps_silent Sink old (record old { state = state.RawData (raw.ScriptDataEscaped kind) }) new c (state.ScriptDataEscapedDashDash kind) (state.RawData (raw.ScriptDataEscaped kind)) result from (record { state = refl; fresh = from.fresh }) refl refl (dashes-other old kind c (ne_eqb 45 c (λ x. e (sym x))) (ne_eqb 62 c (λ x. f (sym x)))) h
 
-  -- in the word behind "<"
+  -- in the word after "<"
   word-letter : (old : Tokenizer K) (word : List ℕ) (c : ℕ) → is_ascii_alphabetic c ≡ true → word ≡ old.word ++ c ∷ [] → Says Sink (state.ScriptDataEscapeStart script.DoubleEscaped) old c nothing_owed (CharacterTokens (c ∷ [])) (λ b s t. at Sink (state.ScriptDataEscapeStart script.DoubleEscaped) (record old { word = word }) (b + line_break (nat_eq c 10)) s t)
   unfolding held_at
   word-letter old word c l e b s h t =
@@ -141,7 +141,7 @@ module _ {K H : Type 0} (Sink : Ghosts K H) (laws : SinkLaws Sink.is_sound Sink.
       → kind ≡ raw.ScriptDataEscaped (if ends_script old.word c then script.DoubleEscaped else script.Escaped) → Keeps Sink (record old { state = state.RawData kind }) new c result → Keeps Sink old new c result
   word-kept old new kind c result from w l e h = keeps_silent Sink old (record old { state = state.RawData kind }) new c (state.ScriptDataEscapeStart script.DoubleEscaped) (state.RawData kind) result from (record { state = refl; fresh = from.fresh }) refl refl (word-other old kind c w l e) h
 
-  -- in the word behind "</" in text that is escaped twice
+  -- in the word after "</" in text that is escaped twice
   end_word-letter : (old : Tokenizer K) (word : List ℕ) (c : ℕ) → is_ascii_alphabetic c ≡ true → word ≡ old.word ++ c ∷ [] → Says Sink state.ScriptDataDoubleEscapeEnd old c nothing_owed (CharacterTokens (c ∷ [])) (λ b s t. at Sink state.ScriptDataDoubleEscapeEnd (record old { word = word }) (b + line_break (nat_eq c 10)) s t)
   unfolding held_at
   end_word-letter old word c l e b s h t =

@@ -185,7 +185,7 @@ module _ {K T : Type 0} (to : Listener T) where
   held-other state.CdataSectionEnd k sink stream b s t e = rw e refl
 
 module _ {K H : Type 0} (Sink : Ghosts K H) where
-  -- What is to come where a token is told next, behind its error if it is faulty, and what follows then.
+  -- What is to come where a token is told next, after its error if it is faulty, and what follows then.
   abbrev pub Says : State → Tokenizer K → ℕ → Owed → Token → (ℕ → Sink.State × Notes ℕ → List ℕ → Result (Sink.State × Notes ℕ) (Refusal × ℕ)) → Type 0
   Says st old c owed token next = (b : ℕ) (s : Sink.State × Notes ℕ) → Sink.is_sound s.0 → (t : List ℕ) → at Sink st old b s (c ∷ t) ≡ (noting Sink.step Sink.is_quiet (s.0, more owed s.1) token (line_number b) >>= λ p. next b p.0 t)
 
@@ -217,7 +217,7 @@ module _ {K H : Type 0} (Sink : Ghosts K H) where
             (now-at Sink old st old.stream.breaks (Sink.view old.sink, notes) (c ∷ t) from ∙ law old.stream.breaks (Sink.view old.sink, notes) ok t),
       )
 
-  -- what is to come where a token was told behind what is owed
+  -- what is to come where a token was told after what is owed
   pub told-next : {owed : Owed} (owing : Owed) (old mid : Tokenizer K) (token : Token) (notes : Notes ℕ) (next : Sink.State × Notes ℕ → Result (Sink.State × Notes ℕ) (Refusal × ℕ)) → Emitted Sink owed token old mid
       → (noting Sink.step Sink.is_quiet (Sink.view old.sink, more owing notes) token (line_number old.stream.breaks) >>= λ p. next p.0) ≡ next (Sink.view mid.sink, more (and_heard (Sink.is_quiet (Sink.view old.sink) token) owing) notes)
   told-next owing old mid token notes next told =

@@ -53,7 +53,7 @@ slight-absorbed Grave s = refl
 slight-absorbed Slight s = refl
 
 module _ {S : Type 0} (step : Step S) (quiet : S → Token → Bool) where
-  -- text that is noted, and then text that is heard as this behind it
+  -- text that is noted, and then text that is heard as this after it
   noted-then : (notes : Notes ℕ) (r : Result (S × Reply) Refusal) (token : Token) (line : ℕ) (all : Bool) → IfOk r (λ p. p.1 ≡ Continue) → IfOk r (λ p. (notes.is_quiet && quiet p.0 token) ≡ all)
       → (noted notes r >>= λ p. noting step quiet p.0 token line) ≡ noted (record notes { is_quiet = all }) (r >>= λ p. step p.0 token line)
   noted-then notes (Ok p) token line all h k = ap (λ reply. noted (heard (quiet p.0 token) (record notes { pauses = paused notes.pauses reply })) (step p.0 token line)) h ∙ ap (λ q. noted (record notes { is_quiet = q }) (step p.0 token line)) k
@@ -68,7 +68,7 @@ module _ {S : Type 0} (is_sound : S → Type 0) (step : Step S) (ended : S → S
       bind-within (step s (CharacterTokens a) k) (λ p. step p.0 (CharacterTokens b) l) (λ p. step p.0 (CharacterTokens b) k) (IfOk-weaker (step s (CharacterTokens a) k) _ _ (λ p e. laws.lines p.0 e b l k) (laws.keeps s h (CharacterTokens a) k))
       ∙ (laws.pieces s h a b k ∙ laws.lines s h (a ++ b) k m)
 
-  -- where a text is quiet, and one behind it, both are
+  -- where a text is quiet, and one after it, both are
   both-quiet : (notes : Notes ℕ) (s : S) → is_sound s → (a b : List ℕ) (line : ℕ)
       → IfOk (step s (CharacterTokens a) line) (λ p. ((notes.is_quiet && quiet s (CharacterTokens a)) && quiet p.0 (CharacterTokens b)) ≡ (notes.is_quiet && quiet s (CharacterTokens (a ++ b))))
   both-quiet notes s h a b line = IfOk-weaker (step s (CharacterTokens a) line) _ _ (λ p e. both notes.is_quiet _ _ _ e) (laws.quiet s h a b line)

@@ -21,7 +21,7 @@ use Rattle.html_tokenizer.specs.declared.tokenizer.Tokenizer.{Tokenizer}
 use Rattle.html_tokenizer.specs.Rest.{rows_of, standing, held_at}
 use Rattle.html_tokenizer.specs.Listeners.{Listener, told_text, told_item}
 
--- Behind so many line breaks, or so many, and any number more, the line is the same.
+-- After so many line breaks, or so many, and any number more, the line is the same.
 abbrev pub SameLines : ℕ → ℕ → Type 0
 SameLines b d = (n : ℕ) → line_number (b + n) ≡ line_number (d + n)
 
@@ -68,7 +68,7 @@ module _ {T : Type 0} (to : Listener T) (rows : List Row) where
       (λ p. reading-lines 0 (next_stand i.next p.1) (b + m) (d + m) p.0 (drop i.len t) (lines-behind b d m h))
 
 module _ {K T : Type 0} (to : Listener T) where
-  -- what is held makes of a text what it makes behind other line breaks with the same lines
+  -- what is held makes of a text what it makes after other line breaks with the same lines
   pub held-lines : (st : State) (k : Tokenizer K) (b d : ℕ) (s : T) (t : List ℕ) → SameLines b d → held_at to st k b s t ≡ held_at to st k d s t
   unfolding held_at
   held-lines state.Data k b d s t h = reading-lines to (rows_of k) 0 _ b d s _ h

@@ -21,7 +21,7 @@ pub sum-zero : (b : ℕ) → b + 0 ≡ b
 sum-zero b = omega arith
 
 module _ {T : Type 0} (to : Listener T) (rows : List Row) where
-  -- an item behind one character more, read from that character on
+  -- an item after one character more, read from that character on
   play-behind : (j : Item) (b : ℕ) (s : T) (c : ℕ) (t : List ℕ) → told_item to rows (behind j) b s (c ∷ t) ≡ told_item to rows j (b + line_break (nat_eq c 10)) s t
   play-behind j b s c t = ap (λ read. said to.step to.erred j.fault j.token read s >>= λ p. told_text to rows (next_stand j.next p.1) read p.0 (drop j.len t)) (sum-first b (line_break (nat_eq c 10)) (line_breaks (take j.len t)))
 
@@ -68,13 +68,13 @@ module _ {T : Type 0} (to : Listener T) (rows : List Row) (absorbs : Absorbing t
   said-odd odd fault None n s = ap (λ q. Ok (q, Continue)) (marked-erred odd fault s)
   said-odd odd fault (Some token) n s = ap (λ q. to.step q token (line_number n)) (marked-erred odd fault s)
 
-  -- an item in which something is odd is the item behind something slight
+  -- an item in which something is odd is the item after something slight
   pub play-marked : (odd : Bool) (i : Item) (b : ℕ) (s : T) (t : List ℕ) → told_item to rows (marked odd i) b s t ≡ told_item to rows i b (erred_by to.erred (slight_if odd) s) t
   play-marked odd i b s t =
       let read = b + line_breaks (take i.len t) in
       ap (λ r. r >>= λ p. told_text to rows (next_stand i.next p.1) read p.0 (drop i.len t)) (said-odd odd i.fault i.token read s)
 
-  -- an item behind one character more, which may be odd
+  -- an item after one character more, which may be odd
   pub play-odd : (odd : Bool) (i j : Item) (b : ℕ) (s : T) (c : ℕ) (t : List ℕ) → i ≡ marked odd (behind j) → told_item to rows i b s (c ∷ t) ≡ told_item to rows j (b + line_break (nat_eq c 10)) (erred_by to.erred (slight_if odd) s) t
   play-odd odd i j b s c t e =
       ap (λ i. told_item to rows i b s (c ∷ t)) e

@@ -49,7 +49,7 @@ module _ {K H : Type 0} (Sink : Ghosts K H) where
   pub noting-refused : (s : Sink.State) (notes : Notes ℕ) → ((token : Token) (line : ℕ) → IsErr (Sink.step s token line)) → (token : Token) (line : ℕ) → IsErr (noting Sink.step Sink.is_quiet (s, notes) token line)
   noting-refused s notes h token line = noted-err (heard (Sink.is_quiet s token) notes) (Sink.step s token line) (h token line)
 
-  -- the same behind a fault
+  -- the same after a fault
   pub noting-errs : (fault : Fault) (s : Sink.State × Notes ℕ) → AllRefused (noting Sink.step Sink.is_quiet) s → AllRefused (noting Sink.step Sink.is_quiet) (noting_error fault s)
   noting-errs fault s h token line = noted-err _ (Sink.step s.0 token line) (err-noted (heard (Sink.is_quiet s.0 token) s.1) (Sink.step s.0 token line) (h token line))
 

@@ -37,7 +37,7 @@ module _ {T : Type 0} (sound : T → Type 0) (to : Listener T) (rows : List Row)
       reading-char sound to rows laws st next b s h c c t l e
       ∙ ap (λ n. to.step s (CharacterTokens (c ∷ [])) l >>= λ p. told_text to rows next n p.0 t) (no-break b c unbroken)
 
-  -- text, and then one character more of it, behind which so many line breaks were read
+  -- text, and then one character more of it, after which so many line breaks were read
   pub told-then : (st next : Stand) (b d : ℕ) (s : T) → sound s → (a : List ℕ) (c : ℕ) (t : List ℕ) (l : ℕ)
       → ((s : T) → sound s → told_text to rows st b s (c ∷ t) ≡ (to.step s (CharacterTokens (c ∷ [])) l >>= λ p. told_text to rows next d p.0 t))
       → (to.step s (CharacterTokens a) l >>= λ p. told_text to rows st b p.0 (c ∷ t)) ≡ (to.step s (CharacterTokens (a ++ c ∷ [])) l >>= λ p. told_text to rows next d p.0 t)

@@ -48,11 +48,11 @@ module _ {K H : Type 0} (Sink : Ghosts K H) (laws : SinkLaws Sink.is_sound Sink.
   pub same-text : (old : Tokenizer K) (i : Item) (b : ℕ) (s : Sink.State × Notes ℕ) (u : List ℕ) → plays Sink (rows_of old) i b s u ≡ plays Sink (rows_of old) i (b + 0) s u
   same-text old i b s u = ap (λ x. plays Sink (rows_of old) i x s u) (sym (sum-zero b))
 
-  -- an item behind a character that breaks no line
+  -- an item after a character that breaks no line
   pub behind-one : (old : Tokenizer K) (d : ℕ) → nat_eq d 10 ≡ false → (i j : Item) (b : ℕ) (s : Sink.State × Notes ℕ) (u : List ℕ) → i ≡ behind j → plays Sink (rows_of old) i b s (d ∷ u) ≡ plays Sink (rows_of old) j b s u
   behind-one old d e i j b s u is = play-is (listening Sink) (rows_of old) i j b s d u is ∙ ap (λ x. plays Sink (rows_of old) j x s u) (no-break b d e)
 
-  -- an item behind one character more
+  -- an item after one character more
   pub behind-any : (old : Tokenizer K) (i j : Item) (b : ℕ) (s : Sink.State × Notes ℕ) (c : ℕ) (t : List ℕ) → i ≡ behind j → plays Sink (rows_of old) i b s (c ∷ t) ≡ plays Sink (rows_of old) j (b + line_break (nat_eq c 10)) s t
   behind-any old i j b s c t is = play-is (listening Sink) (rows_of old) i j b s c t is
 

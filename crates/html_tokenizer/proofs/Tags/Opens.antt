@@ -1,4 +1,4 @@
--- What stands behind "<" and "</", and what the machine makes of it.
+-- What stands after "<" and "</", and what the machine makes of it.
 use Rattle.std.proofs.Common.{◌≡◌, ◌∙◌, ℕ, ◌+◌, Bool, true, false, nat_eq, List, [], ◌∷◌, Result, Ok, None, refl, sym, ap, Some}
 use Rattle.std.specs.Char.{is_ascii_alphabetic}
 use Rattle.std.specs.Result.{IsErrAnd}
@@ -33,7 +33,7 @@ use Rattle.html_tokenizer.specs.Listeners.{listening}
 is-letter : (c : ℕ) → is_ascii_alphabetic c ≡ true → opening c ≡ Letter
 is-letter c e = rw e refl
 
--- what is no markup behind "<"
+-- what is no markup after "<"
 pub data IsText (o : Opening) : Type 0 where
   close : o ≡ Close → IsText o
   other : o ≡ Other → IsText o
@@ -46,7 +46,7 @@ open-text : (o : Opening) (cdata : Bool) (st : Stand) (c : ℕ) (t : List ℕ) �
 open-text o cdata st c t (close e) = rw e refl
 open-text o cdata st c t (other e) = rw e refl
 
--- what stands behind "</" but a letter and ">" begins a bogus comment
+-- what stands after "</" but a letter and ">" begins a bogus comment
 pub data Opens (c : ℕ) : Type 0 where
   slash : opening c ≡ Slash → Opens c
   mark : opening c ≡ Mark → Opens c

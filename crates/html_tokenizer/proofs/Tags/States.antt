@@ -96,7 +96,7 @@ module _ {K H : Type 0} (Sink : Ghosts K H) where
       (λ b s t. plays Sink (rows_of old) (name_after (standing old InData) tag t) (b + line_break (nat_eq c 10)) s t) from e
       (λ b s t. name-more (listening Sink) (rows_of old) slight-absorbed (standing old InData) old.tag b s c t (null-none c e))
 
-  -- so is what stands behind "/" in a tag, where it is not its end
+  -- so is what stands after "/" in a tag, where it is not its end
   pub slash-absorbs : (old : Tokenizer K) (c : ℕ) → IsAt old state.SelfClosingStartTag → not (nat_eq c 62) ≡ true → Absorbs Sink old c
   unfolding held_at
   slash-absorbs old c from ne =

@@ -36,7 +36,7 @@ module _ {K H : Type 0} (Sink : Ghosts K H) where
       let p = err_from_is_err_and result is in
       rw (p.1, p.2) (fails.0, fails.1 (TagToken old.tag) (line_number old.stream.breaks))
 
-  -- what is read behind a tag is what the machine reads where the reply has it
+  -- what is read after a tag is what the machine reads where the reply has it
   reads-behind : (k : Tokenizer K) (reply : TokenSinkResult H) (b : ℕ) (s : Sink.State) (notes : Notes ℕ) (t : List ℕ)
       → reads Sink (rows_of k) (next_stand (standing k InData) (numbered Sink.number reply)) b (s, record notes { pauses = paused notes.pauses (numbered Sink.number reply) }) t
       ≡ at Sink (state_behind reply) k b (s, noted_by Sink.number nothing_owed notes (answer_to reply)) t
@@ -80,7 +80,7 @@ module _ {K H : Type 0} (Sink : Ghosts K H) where
         paused = paused-behind reply new (Sink.view old.sink) old.tag (line_number old.stream.breaks) to sound gives;
       }
 
-  -- The tag was told behind its error, if it has one. What is left of it is anything.
+  -- The tag was told after its error, if it has one. What is left of it is anything.
   pub tag-ended : (old mid new : Tokenizer K) (after : K) (last : FittingEnd) (left : Tag) (line : ℕ) (reply : TokenSinkResult H) (result : ProcessResult H) → old.char_ref ≡ None → Sink.is_sound (Sink.view old.sink) → Erred Sink (owed_for (grave_if (is_faulty_tag old.tag))) old mid
       → last.name ≡ last_name old.tag.kind old.tag.name old.raw_end.name → line ≡ line_number mid.stream.breaks
       → Sink.step (Sink.view mid.sink) (TagToken mid.tag) line ≡ Ok (Sink.view after, numbered Sink.number reply) → Sink.is_sound (Sink.view after) → Stays Sink mid.sink after → Rises Sink.errors (and_heard (Sink.is_quiet (Sink.view mid.sink) (TagToken mid.tag)) nothing_owed) mid.sink after
@@ -98,7 +98,7 @@ module _ {K H : Type 0} (Sink : Ghosts K H) where
       (record { state = refl; fresh = ap (λ (k : Tokenizer K). k.char_ref) erred.changed ∙ fresh })
       (ap (λ (k : Tokenizer K). k.stream) erred.changed) is_last gives' ok (stays-then Sink old.sink mid.sink after erred.stays stays) (subst (λ q. Rises Sink.errors (and_heard q (owed_for (grave_if (is_faulty_tag old.tag)))) old.sink after) same_quiet (rises-heard Sink.errors (Sink.is_quiet (Sink.view mid.sink) (TagToken mid.tag)) old.sink mid.sink after erred.rises rises)))
 
-  -- The tag was refused, behind its error if it has one.
+  -- The tag was refused, after its error if it has one.
   pub tag-refused : (old mid new : Tokenizer K) (line : ℕ) (result : Result (ProcessResult H) ParseFault) (fault : ParseFault) → Erred Sink (owed_for (grave_if (is_faulty_tag old.tag))) old mid → line ≡ line_number mid.stream.breaks → IsErrAnd result (λ y. y ≡ fault)
       → Fell Sink mid.sink new.sink → FailsAmong Sink IsOfText mid.sink new.sink (Sink.step (Sink.view mid.sink) (TagToken mid.tag) line) fault → EndsTag Sink old new result
   tag-refused old mid new line result fault erred is_line is fell fails =

@@ -211,7 +211,7 @@ module _ {K H : Type 0} (Sink : Ghosts K H) where
     stays = stays-then Sink old.sink mid.sink new.sink h.stays took.stays;
   }
 
-  -- A machine by what it holds of a text, where each character that is not in a set is held behind the others, and is quiet only
+  -- A machine by what it holds of a text, where each character that is not in a set is held after the others, and is quiet only
   -- where it is not odd.
   module _ (machine : List ℕ → Tokenizer K) (bits : ℕ) (odd : ℕ → Bool) (unbroken : has bits 10 ≡ true) (ok : (front : List ℕ) → Sink.is_sound (Sink.view (machine front).sink)) (fits : (front : List ℕ) → fits_in (rows_of (machine front)) (machine front).char_ref (machine front).state ≡ true)
       (each : (front : List ℕ) (c : ℕ) → has bits c ≡ false → (took : Took Sink (machine front) (machine (front ++ c ∷ [])) c flow.Continue) × (took.owed.is_quiet ≡ true → odd c ≡ false)) where

@@ -30,7 +30,7 @@ all-pass p q f (c ∷ w) h =
     and_both (q c) (list_all q w) (f c parts.0) (all-pass p q f w parts.1)
 
 module _ {T : Type 0} (to : Listener T) (rows : List Row) where
-  -- an item behind characters that end no line
+  -- an item after characters that end no line
   pub play-inline : (cs t : List ℕ) (j : Item) (b : ℕ) (s : T) → list_all is_inline cs ≡ true → told_item to rows (behind_all (length cs) j) b s (cs ++ t) ≡ told_item to rows j b s t
   play-inline [] t j b s h = refl
   play-inline (c ∷ cs) t j b s h =

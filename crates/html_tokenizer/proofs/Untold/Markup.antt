@@ -57,7 +57,7 @@ identifies-none cs = rw (no-part word.Public cs, no-part word.System cs) refl
 plain-inline : (cs : List ℕ) → list_all is_plain cs ≡ true → list_all is_inline cs ≡ true
 plain-inline cs h = all-pass is_plain is_inline (λ c p. rw (plain-break c p) refl) cs h
 
--- ">" behind the front of a word makes a bogus comment behind "<!", and junk in a doctype
+-- ">" after the front of a word makes a bogus comment after "<!", and junk in a doctype
 word-bogus : (asks : Bool) (st : Stand) (cs t : List ℕ) → IsPart cs → declaration_at asks st (cs ++ 62 ∷ t) ≡ behind_all 2 (behind_all (length cs) (told_as (Some Grave) (CommentToken cs) 1 st))
 word-bogus asks st cs t part = bogus-declared asks st cs 62 t part (nothing-begun asks cs 62 part (record { dashes = no-word word.Dashes cs; doctype = no-word word.Doctype cs; cdata = no-word word.Cdata cs }) (declares-none cs))
 
@@ -67,7 +67,7 @@ word-junk st d x cs t part =
     ∙ junk-read st d (x ∷ cs) 62 t part (record { public_word = no-word word.Public (x ∷ cs); system_word = no-word word.System (x ∷ cs) }) (identifies-none (x ∷ cs))
 
 module _ {T : Type 0} (to : Listener T) (rows : List Row) where
-  -- an item behind "<!" and characters of words
+  -- an item after "<!" and characters of words
   play-declared : (cs t : List ℕ) (j : Item) (b : ℕ) (s : T) → list_all is_plain cs ≡ true → told_item to rows (behind_all 2 (behind_all (length cs) j)) b s (60 ∷ 33 ∷ (cs ++ t)) ≡ told_item to rows j b s t
   play-declared cs t j b s h =
       let all = behind_all (length cs) j in
@@ -123,7 +123,7 @@ module _ (T : Type 0) {K : Type 0} (k : Tokenizer K) where
   unfolding held_at
   comment_start_dash-front = by-mark T k state.CommentStartDash (told_as (Some Grave) (CommentToken []) 1 (standing k InData)) refl refl (λ to b s t. refl)
 
-  -- in a comment, behind what may open another or not
+  -- in a comment, after what may open another or not
   abbrev InComment : State → Type 0
   InComment st = (to : Listener T) (b : ℕ) (s : T) (t : List ℕ) → held_at to st k b s t ≡ played to (comment_after (standing k InData) k.comment t) k b s t
 
@@ -151,7 +151,7 @@ module _ (T : Type 0) {K : Type 0} (k : Tokenizer K) where
   unfolding held_at
   comment_bang-front = comment-front_at state.CommentLessThanSignBang (λ to b s t. refl)
 
-  -- behind "-" in one
+  -- after "-" in one
   abbrev BehindDash : State → Type 0
   BehindDash st = (to : Listener T) (b : ℕ) (s : T) (t : List ℕ) → held_at to st k b s t ≡ played to (comment_after (standing k InData) k.comment (45 ∷ t)) k b s (45 ∷ t)
 
@@ -175,7 +175,7 @@ module _ (T : Type 0) {K : Type 0} (k : Tokenizer K) where
   unfolding held_at
   comment_end_dash-front = dash-front_at state.CommentEndDash (λ to b s t. refl)
 
-  -- behind "--", and "--!"
+  -- after "--", and "--!"
   pub comment_bang_dashes-front : Untold T state.CommentLessThanSignBangDashDash k
   unfolding held_at
   comment_bang_dashes-front = by-mark T k state.CommentLessThanSignBangDashDash (told_as None (CommentToken k.comment) 1 (standing k InData)) refl refl (λ to b s t. ap (λ i. played to i k b s (45 ∷ 45 ∷ 62 ∷ t)) (comment-closed (standing k InData) k.comment t))
@@ -203,7 +203,7 @@ module _ (T : Type 0) {K : Type 0} (k : Tokenizer K) where
       let d : Doctype = record no_doctype { name = Some (k.temporary ++ []) } in
       by-mark T k state.DoctypeName (given (standing k InData) d 1) refl refl (λ to b s t. refl)
 
-  -- behind the name: no keyword, or the front of one
+  -- after the name: no keyword, or the front of one
   pub after_doctype_name-front : IsPart k.keyword → Untold T state.AfterDoctypeName k
   unfolding held_at
   after_doctype_name-front part = by-keyword k.keyword refl part

@@ -1,4 +1,4 @@
--- "<" in raw text, and the front of an end tag behind it: the rest of the name and ">" make it whole, where an end tag ends the text.
+-- "<" in raw text, and the front of an end tag after it: the rest of the name and ">" make it whole, where an end tag ends the text.
 use Rattle.std.proofs.Common.{◌≡◌, ◌∙◌, ℕ, zero, suc, ◌<◌, length, Bool, true, false, nat_eq, List, [], ◌∷◌, ◌++◌, take, Option, Some, None, refl, sym, ap, arith, append_assoc, length-append}
 use Rattle.std.specs.Char.{is_ascii_alphabetic, to_ascii_lowercase}
 use Rattle.std.specs.List.{list_all}
@@ -110,7 +110,7 @@ name-read st tag word t h =
     ∙ ap (λ odd. marked odd (silent (length word) (next word))) (no-null word h)
     ∙ silent-behind (length word) (next word)
 
--- a tag that ends behind some text and ">"
+-- a tag that ends after some text and ">"
 ends-later : (st : Stand) (tag : Tag) (w : List ℕ) → behind_all (length w) (tag_end st tag 1) ≡ tag_end st tag (length (w ++ 62 ∷ []))
 ends-later st tag [] = refl
 ends-later st tag (c ∷ w) = ap behind (ends-later st tag w)

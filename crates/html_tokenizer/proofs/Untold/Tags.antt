@@ -1,4 +1,4 @@
--- A tag whose front is held ends at a ">", behind a value's end where one is read.
+-- A tag whose front is held ends at a ">", after a value's end where one is read.
 use Rattle.std.proofs.Common.{◌≡◌, ◌∙◌, ℕ, ◌+◌, true, nat_eq, List, [], ◌∷◌, ◌++◌, refl, sym, lit<}
 use Rattle.std.specs.Prelude.{codes}
 use Rattle.html_tokens.specs.declared.states.AttrValueKind.{AttrValueKind}
@@ -22,7 +22,7 @@ module _ {T : Type 0} (to : Listener T) (rows : List Row) where
   pub tag-closed : (st : Stand) (tag : Tag) (b : ℕ) (s : T) (t : List ℕ) → told_text to rows (moved st (InTag tag)) b s (62 ∷ t) ≡ told_item to rows (tag_end st tag 1) b s (62 ∷ t)
   tag-closed st tag b s t = reading-item to.step to.erred to.cdata to.ends rows (moved st (InTag tag)) b s 62 t
 
-  -- the same behind a part of it that to.ends here, or with the next character
+  -- the same after a part of it that to.ends here, or with the next character
   pub part-closed : (st : Stand) (tag : Tag) (b : ℕ) (s : T) (t : List ℕ) → told_item to rows (silent 0 (moved st (InTag tag))) b s (62 ∷ t) ≡ told_item to rows (tag_end st tag 1) b s (62 ∷ t)
   part-closed st tag b s t = play-nothing to rows (moved st (InTag tag)) b s (62 ∷ t) ∙ tag-closed st tag b s t
 

@@ -54,7 +54,7 @@ module _ (T : Type 0) {K : Type 0} (k : Tokenizer K) where
   unfolding held_at
   double_escape_end-told = Nothing (record { place = λ t. InRaw (kind_after (raw.ScriptDataEscaped script.DoubleEscaped) (60 ∷ 47 ∷ k.word) t); in_text = λ t. refl; same = λ to b s t. refl })
 
-  -- CDATA sections: "]>" behind "]", and ">" behind "]]"
+  -- CDATA sections: "]>" after "]", and ">" after "]]"
   pub cdata-told : Untold T state.CdataSection k
   unfolding held_at
   cdata-told = Nothing (record { place = λ t. InCdata; in_text = λ t. refl; same = λ to b s t. refl })

@@ -1,4 +1,4 @@
-//! What the calls answer before, at and behind the end of the input.
+//! What the calls answer before, at and after the end of the input.
 
 ghost use Rattle.html_tokenizer.specs.Calls.{IsReadyIf, refusal};
 
@@ -24,7 +24,7 @@ pub fn feed_text<S: TokenSink>(
     feed_piece(tokenizer, &mut BufferQueue::new(), piece)
 }
 
-// Texts, and whether nothing is pending behind them.
+// Texts, and whether nothing is pending after them.
 const PENDING: &[(&str, bool)] = &[
     ("", true),
     ("a", true),
@@ -67,7 +67,7 @@ const PENDING: &[(&str, bool)] = &[
     ("<plaintext>&</plaintext", true),
 ];
 
-/// Whether nothing is pending at the start, and nothing or something behind a text that is fed.
+/// Whether nothing is pending at the start, and nothing or something after a text that is fed.
 fn is_pending_behind<S: TokenSink>(
     alloc: Global,
     tokenizer: &mut Tokenizer<S>,
@@ -137,7 +137,7 @@ fn parts_of_items_are_pending(rt: HostRuntime) {
     }
 }
 
-/// A text, and what is told of it before the end is: tokens, and text behind them.
+/// A text, and what is told of it before the end is: tokens, and text after them.
 type Told = (&'static str, &'static str, &'static str);
 
 const TOLD: &[Told] = &[
@@ -170,7 +170,7 @@ const TOLD: &[Told] = &[
     ("<script><!--<scr", "start script", "<!--<scr"),
 ];
 
-// Raw text behind a start tag of a title.
+// Raw text after a start tag of a title.
 const TOLD_IN_TITLES: &[Told] = &[
     ("</ab", "", "</ab"),
     ("</ti", "", ""),
@@ -262,7 +262,7 @@ fn is_ended<S: TokenSink>(tokenizer: &mut Tokenizer<S>, input: &mut BufferQueue)
     refuses(tokenizer, input, ParseFault::Ended) && has_ended
 }
 
-/// Whether each call behind a text and the end is refused.
+/// Whether each call after a text and the end is refused.
 fn is_refused_behind<S: TokenSink>(
     alloc: Global,
     tokenizer: &mut Tokenizer<S>,
@@ -299,7 +299,7 @@ fn has_left_all(alloc: Global, sink: &Listed, input: &BufferQueue) -> bool {
     sink.has_ended && is_in_words(alloc, sink, "text \"a<\"; eof") && input.as_str() == "b"
 }
 
-/// Whether calls behind the end are refused, and leave the input, which was empty, and the sink as they are.
+/// Whether calls after the end are refused, and leave the input, which was empty, and the sink as they are.
 fn are_refused_behind(alloc: Global, input: &mut BufferQueue) -> bool {
     if put(alloc, input, "b").is_err() {
         return false;
@@ -339,7 +339,7 @@ fn turn_plain<S: TokenSink>(tokenizer: &mut Tokenizer<S>) -> Result<(), ParseFau
     Ok(())
 }
 
-/// Whether a text is read, then one that is all text, behind which nothing is pending, and the end, and the tokens are
+/// Whether a text is read, then one that is all text, after which nothing is pending, and the end, and the tokens are
 /// told.
 fn is_fed_plainly<S: TokenSink + Spoken>(
     alloc: Global,

@@ -9,7 +9,7 @@ use std::alloc::Global;
 use std::process::Abort;
 use text_pieces::in_two;
 
-/// A text, and the codes of its errors, each behind a space.
+/// A text, and the codes of its errors, each after a space.
 type Row = (&'static str, &'static str);
 
 /// What a sink is told that keeps the codes of the errors of a text in these pieces.

@@ -24,7 +24,7 @@ fn are_pieces_on(alloc: Global, pieces: &[&str], lines: &[u64]) -> bool {
     }
 }
 
-// Four tags, each with a line end behind it.
+// Four tags, each with a line end after it.
 const PIECES: &[&[&str]] = &[
     &["<a>\r\n", "<b>\r\n", "</b>\r\n", "</a>\r\n"],
     &["<a>\n", "<b>\n", "</b>\n", "</a>\n"],

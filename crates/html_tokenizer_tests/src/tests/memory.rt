@@ -1,4 +1,4 @@
-//! Want of memory, and sinks that refuse: what a tokenizer answers then and behind it.
+//! Want of memory, and sinks that refuse: what a tokenizer answers then and after it.
 
 ghost use Rattle.html_tokenizer.specs.Calls.{IsReadyIf, refusal};
 
@@ -125,7 +125,7 @@ fn memory_may_want(rt: HostRuntime) {
     }
 }
 
-/// Whether a text is refused by this fault, or the end behind it.
+/// Whether a text is refused by this fault, or the end after it.
 fn refuses_text<S: TokenSink>(
     alloc: Global,
     tokenizer: &mut Tokenizer<S>,
@@ -143,7 +143,7 @@ fn refuses_text<S: TokenSink>(
     answer.is_ok() && tokenizer.end() == Err(fault)
 }
 
-/// Whether a sink's refusal of a text is passed on, or of what is told at the end behind it, and the tokenizer serves no
+/// Whether a sink's refusal of a text is passed on, or of what is told at the end after it, and the tokenizer serves no
 /// more.
 fn passes_on<S: TokenSink>(
     alloc: Global,
@@ -201,7 +201,7 @@ const IN_TEXT: Refusing = Refusing { is_shape: false };
 
 const OF_SHAPE: Refusing = Refusing { is_shape: true };
 
-/// Whether each refusal of a text is passed on, or of the end behind it.
+/// Whether each refusal of a text is passed on, or of the end after it.
 fn are_refused(alloc: Global, text: &str, at_end: bool) -> bool {
     is_refused(alloc, IN_TEXT, text, at_end, ParseFault::TokenInText)
         && is_refused(alloc, OF_SHAPE, text, at_end, ParseFault::Shape)

@@ -181,7 +181,7 @@ fn are_paused<S: TokenSink<Handle = u64> + Spoken>(
     true
 }
 
-/// Whether a text pauses so, and is read on behind its pauses.
+/// Whether a text pauses so, and is read on after its pauses.
 fn is_read_on<S: TokenSink<Handle = u64> + Spoken>(
     alloc: Global,
     tokenizer: &mut Tokenizer<S>,

@@ -16,7 +16,7 @@ pub struct Naming {
     asks_cdata: bool,
     // The text that was told, in one.
     text: Text,
-    /// The codes of the errors that were told, each behind a space.
+    /// The codes of the errors that were told, each after a space.
     pub codes: Text,
     errors: u64,
     has_failed: bool,

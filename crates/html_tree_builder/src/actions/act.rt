@@ -262,7 +262,7 @@ impl<Sink: TreeSink> Construction<Sink> {
         Ok(())
     }
 
-    /// The same, with what stands behind it.
+    /// The same, with what stands after it.
     pub(crate) fn perform(
         &mut self,
         sink: &mut Sink,

@@ -8,7 +8,7 @@ use Rattle.html_nodes.proofs.Levels.{below-other}
 use Rattle.html_nodes.proofs.Walking.{among-behind, child-is, childless, inner-cut, turn}
 use Rattle.html_nodes.proofs.walk.following.Goals as goal
 
--- where a walk goes on from a node: at its first child, or else at what comes behind it
+-- where a walk goes on from a node: at its first child, or else at what comes after it
 goes_on : (f : Forest) → IsForest f → (top n : ℕ) → is_among n (below f top) ≡ true → (o : Option ℕ) → ((rest : List ℕ) → Behind f top n rest → o ≡ first_of (below f n ++ rest))
     → (is_on o (below f top) ≡ true) × (from_on (Some n) (below f top) ≡ n ∷ from_on o (below f top))
 goes_on f is top n among o next =

@@ -13,7 +13,7 @@ more : (parts : List (Bor (List ℕ))) (i : ℕ) (d : Bor (List ℕ)) → i < le
 more parts i d less =
     ap joined (take_more parts i d less) ∙ joined-append (take i parts) (get_or parts i d ∷ []) ∙ ap (λ (bytes : List ℕ). joined (take i parts) ++ bytes) (append-nil (get_or parts i d).now)
 
--- the parts before one, it, and those behind
+-- the parts before one, it, and those after
 around : (parts : List (Bor (List ℕ))) (i : ℕ) (d : Bor (List ℕ)) → i < length parts → joined parts ≡ joined (take i parts) ++ ((get_or parts i d).now ++ joined (drop (i + 1) parts))
 around parts i d less =
     ap joined (sym (take-append-drop i parts)) ∙ joined-append (take i parts) (drop i parts)
