@@ -25,8 +25,8 @@ use Rattle.html_rules.specs.Step.{refusal_of, step, step_by, taken}
 use Rattle.html_rules.specs.Table.{Row, Class, StartTags, EndTags, Conclusion, Done, Acknowledged, Reprocess, ReprocessInOriginal, ReprocessInMode, Using, UsingThen, UsingCurrentMode, RawText, PlainText, RunScript, ReportEncoding}
 use Rattle.html_rules.specs.Tokens.{class_fits}
 use Rattle.html_rules.specs.declared.insertion_mode.InsertionMode.{InsertionMode}
-use Rattle.html_rules.specs.declared.insertion_mode.InsertionMode.TheVariants.{Initial, BeforeHtml, BeforeHead, InHead, InHeadNoscript, AfterHead, InBody, Text, InTable, InTableText, InCaption, InColumnGroup, InTableBody, InRow, InCell, InTemplate, AfterBody, InFrameset, AfterFrameset, AfterAfterBody, AfterAfterFrameset}
 use Rattle.html_rules_laws.proofs.FirstFit.{by_fit, class_of_fits}
+use Rattle.html_rules_laws.proofs.EachMode.{each-mode}
 
 abbrev pub is_unsafe : List ℕ → Bool
 is_unsafe name = not (is_safe_name name)
@@ -51,27 +51,7 @@ all_reply_well (r ∷ rs) = replies_well r.on r.ends && all_reply_well rs
 
 modes-reply_well : (m : InsertionMode) → all_reply_well (rows m) ≡ true
 unfolding rows names_of is_safe_name
-modes-reply_well Initial = refl
-modes-reply_well BeforeHtml = refl
-modes-reply_well BeforeHead = refl
-modes-reply_well InHead = refl
-modes-reply_well InHeadNoscript = refl
-modes-reply_well AfterHead = refl
-modes-reply_well InBody = refl
-modes-reply_well Text = refl
-modes-reply_well InTable = refl
-modes-reply_well InTableText = refl
-modes-reply_well InCaption = refl
-modes-reply_well InColumnGroup = refl
-modes-reply_well InTableBody = refl
-modes-reply_well InRow = refl
-modes-reply_well InCell = refl
-modes-reply_well InTemplate = refl
-modes-reply_well AfterBody = refl
-modes-reply_well InFrameset = refl
-modes-reply_well AfterFrameset = refl
-modes-reply_well AfterAfterBody = refl
-modes-reply_well AfterAfterFrameset = refl
+modes-reply_well = each-mode (λ m. all_reply_well (rows m)) refl
 
 foreign-reply_well : all_reply_well in_foreign_content ≡ true
 unfolding names_of is_safe_name

@@ -1,6 +1,7 @@
 pub mod Bools
 pub mod BuilderSteps
 pub mod CharacterTurns
+pub mod EachMode
 pub mod ErrorsMonotone
 pub mod FirstFit
 pub mod Frames

@@ -30,6 +30,7 @@ use Rattle.html_rules_laws.proofs.Soundness.Acts.{act-aside, tame_in}
 use Rattle.html_rules_laws.proofs.Bools.{no, not_true, or_by}
 use Rattle.html_rules_laws.proofs.Frames.KeptBySteps.{for_tag-keeps, foreign-keeps, push_head-keeps, template-keeps}
 use Rattle.html_rules_laws.proofs.ResetModes.{context-passes, is_asked, open-passes}
+use Rattle.html_rules_laws.proofs.EachMode.{each-mode}
 
 abbrev pub is_text : InsertionMode → Bool
 is_text mode.Text = true
@@ -160,27 +161,7 @@ all_out (r ∷ rs) = row_out r && all_out rs
 
 modes-out : (m : InsertionMode) → all_out (rows m) ≡ true
 unfolding rows names_of
-modes-out mode.Initial = refl
-modes-out mode.BeforeHtml = refl
-modes-out mode.BeforeHead = refl
-modes-out mode.InHead = refl
-modes-out mode.InHeadNoscript = refl
-modes-out mode.AfterHead = refl
-modes-out mode.InBody = refl
-modes-out mode.Text = refl
-modes-out mode.InTable = refl
-modes-out mode.InTableText = refl
-modes-out mode.InCaption = refl
-modes-out mode.InColumnGroup = refl
-modes-out mode.InTableBody = refl
-modes-out mode.InRow = refl
-modes-out mode.InCell = refl
-modes-out mode.InTemplate = refl
-modes-out mode.AfterBody = refl
-modes-out mode.InFrameset = refl
-modes-out mode.AfterFrameset = refl
-modes-out mode.AfterAfterBody = refl
-modes-out mode.AfterAfterFrameset = refl
+modes-out = each-mode (λ m. all_out (rows m)) refl
 
 -- what a turn ends with where raw text follows
 

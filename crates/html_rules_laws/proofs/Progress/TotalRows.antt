@@ -10,8 +10,8 @@ use Rattle.html_rules.specs.State.{State}
 use Rattle.html_rules.specs.Table.{Row, Class, AnythingElse, Condition, Always}
 use Rattle.html_rules.specs.Tokens.{class_fits}
 use Rattle.html_rules.specs.declared.insertion_mode.InsertionMode.{InsertionMode}
-use Rattle.html_rules.specs.declared.insertion_mode.InsertionMode.TheVariants.{Initial, BeforeHtml, BeforeHead, InHead, InHeadNoscript, AfterHead, InBody, Text, InTable, InTableText, InCaption, InColumnGroup, InTableBody, InRow, InCell, InTemplate, AfterBody, InFrameset, AfterFrameset, AfterAfterBody, AfterAfterFrameset}
 use Rattle.html_rules_laws.specs.WholeTable.{IsEachTokenTaken, TakesEachToken, is_always}
+use Rattle.html_rules_laws.proofs.EachMode.{each-mode}
 
 abbrev is_anything_else : Class → Bool
 is_anything_else AnythingElse = true
@@ -46,27 +46,7 @@ takes_each (r ∷ rs) h t s =
 
 modes_have_anything_else : (m : InsertionMode) → has_anything_else (rows m) ≡ true
 unfolding rows
-modes_have_anything_else Initial = refl
-modes_have_anything_else BeforeHtml = refl
-modes_have_anything_else BeforeHead = refl
-modes_have_anything_else InHead = refl
-modes_have_anything_else InHeadNoscript = refl
-modes_have_anything_else AfterHead = refl
-modes_have_anything_else InBody = refl
-modes_have_anything_else Text = refl
-modes_have_anything_else InTable = refl
-modes_have_anything_else InTableText = refl
-modes_have_anything_else InCaption = refl
-modes_have_anything_else InColumnGroup = refl
-modes_have_anything_else InTableBody = refl
-modes_have_anything_else InRow = refl
-modes_have_anything_else InCell = refl
-modes_have_anything_else InTemplate = refl
-modes_have_anything_else AfterBody = refl
-modes_have_anything_else InFrameset = refl
-modes_have_anything_else AfterFrameset = refl
-modes_have_anything_else AfterAfterBody = refl
-modes_have_anything_else AfterAfterFrameset = refl
+modes_have_anything_else = each-mode (λ m. has_anything_else (rows m)) refl
 
 pub each_token_is_taken : IsEachTokenTaken
 each_token_is_taken = (λ m. takes_each (rows m) (modes_have_anything_else m), takes_each in_foreign_content refl)

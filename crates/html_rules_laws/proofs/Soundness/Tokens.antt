@@ -24,6 +24,7 @@ use Rattle.html_rules_laws.proofs.Soundness.Rows.{IsCalm, StandsWell, act-calm, 
 use Rattle.html_rules_laws.proofs.Soundness.Scan.{scan, scan-holds}
 use Rattle.html_rules_laws.proofs.Soundness.Specials.{before_head-held, before_head_ok, before_html-held, before_html_ok, calm-well, closes-held, in_head-held, in_head_ok, noscript-ends, noscript_ok, resets, resets-held, table_text-ends, table_text_ok, text-ends, text_ok}
 use Rattle.html_rules_laws.proofs.Bools.{both, no, or_by}
+use Rattle.html_rules_laws.proofs.EachMode.{each-mode}
 
 -- what is tested of rows
 
@@ -138,27 +139,7 @@ each_kind p = p (Starts root_names) && (p (Starts head_names) && (p (Starts temp
 
 pub modes_sound : (m : InsertionMode) → each_kind (mode_sound m) ≡ true
 unfolding mode_sound uses_sound rows names_of mathml_names_of svg_names_of
-modes_sound mode.Initial = refl
-modes_sound mode.BeforeHtml = refl
-modes_sound mode.BeforeHead = refl
-modes_sound mode.InHead = refl
-modes_sound mode.InHeadNoscript = refl
-modes_sound mode.AfterHead = refl
-modes_sound mode.InBody = refl
-modes_sound mode.Text = refl
-modes_sound mode.InTable = refl
-modes_sound mode.InTableText = refl
-modes_sound mode.InCaption = refl
-modes_sound mode.InColumnGroup = refl
-modes_sound mode.InTableBody = refl
-modes_sound mode.InRow = refl
-modes_sound mode.InCell = refl
-modes_sound mode.InTemplate = refl
-modes_sound mode.AfterBody = refl
-modes_sound mode.InFrameset = refl
-modes_sound mode.AfterFrameset = refl
-modes_sound mode.AfterAfterBody = refl
-modes_sound mode.AfterAfterFrameset = refl
+modes_sound = each-mode (λ m. each_kind (mode_sound m)) refl
 
 -- rows
 

@@ -22,6 +22,7 @@ use Rattle.html_rules_laws.proofs.Termination.Kinds.{Kind, Starts, StartsBut, En
 use Rattle.html_rules_laws.proofs.Termination.Matters.{all_pay, all_pay_or_root, tells}
 use Rattle.html_rules_laws.proofs.Termination.Steps.{brought, closes, is_known, is_mild, resets}
 use Rattle.html_rules_laws.proofs.Bools.{both}
+use Rattle.html_rules_laws.proofs.EachMode.{each-mode}
 
 -- `td` and `th`; `tr`; `col`; other start tags; `</html>`; other end tags; characters; U+0000; the end; any other token
 pub data Family : Type 0 where
@@ -235,27 +236,7 @@ each p h φ =
 
 modes_ok : (m : InsertionMode) → every (mode_ok m) ≡ true
 unfolding mode_ok uses_ok rows names_of mathml_names_of svg_names_of
-modes_ok Initial = refl
-modes_ok BeforeHtml = refl
-modes_ok BeforeHead = refl
-modes_ok InHead = refl
-modes_ok InHeadNoscript = refl
-modes_ok AfterHead = refl
-modes_ok InBody = refl
-modes_ok Text = refl
-modes_ok InTable = refl
-modes_ok InTableText = refl
-modes_ok InCaption = refl
-modes_ok InColumnGroup = refl
-modes_ok InTableBody = refl
-modes_ok InRow = refl
-modes_ok InCell = refl
-modes_ok InTemplate = refl
-modes_ok AfterBody = refl
-modes_ok InFrameset = refl
-modes_ok AfterFrameset = refl
-modes_ok AfterAfterBody = refl
-modes_ok AfterAfterFrameset = refl
+modes_ok = each-mode (λ m. every (mode_ok m)) refl
 
 pub mode-ok : (φ : Family) (m : InsertionMode) → mode_ok m φ ≡ true
 mode-ok φ m = each (mode_ok m) (modes_ok m) φ

@@ -11,7 +11,7 @@ use Rattle.html_rules.specs.Stack.{parse_error, without_current}
 use Rattle.html_rules.specs.State.{Open, State}
 use Rattle.html_rules.specs.Step.{behind, behind_line_feed, taken, taken_by, text_taken, untouched}
 use Rattle.html_rules.specs.declared.insertion_mode.InsertionMode.{InsertionMode}
-use Rattle.html_rules.specs.declared.insertion_mode.InsertionMode.TheVariants.{Initial, BeforeHtml, BeforeHead, InHead, InHeadNoscript, AfterHead, InBody, Text, InTable, InTableText, InCaption, InColumnGroup, InTableBody, InRow, InCell, InTemplate, AfterBody, InFrameset, AfterFrameset, AfterAfterBody, AfterAfterFrameset}
+use Rattle.html_rules.specs.declared.insertion_mode.InsertionMode.TheVariants.{Text, InTableText}
 use Rattle.html_rules_laws.specs.Ready.{Ready, are_formatting}
 use Rattle.html_rules_laws.specs.Settled.{IsEachTokenSettled, are_template_modes}
 use Rattle.html_rules_laws.proofs.Frames.Aside.{IsRest, act-rest, rest-after, rest-same, sets_template_modes}
@@ -20,32 +20,13 @@ use Rattle.html_rules_laws.proofs.Frames.KeptByRows.{IsKept, all_pass, settle-ke
 use Rattle.html_rules_laws.proofs.Termination.Ranks.{Family, family, is_text_mode, rank}
 use Rattle.html_rules_laws.proofs.Termination.Turns.{Settling, mode-is, settle-settled}
 use Rattle.html_rules_laws.proofs.Bools.{both}
+use Rattle.html_rules_laws.proofs.EachMode.{each-mode}
 
 -- what a token keeps
 
 modes_pass : (m : InsertionMode) → all_pass sets_template_modes (rows m) ≡ true
 unfolding rows
-modes_pass Initial = refl
-modes_pass BeforeHtml = refl
-modes_pass BeforeHead = refl
-modes_pass InHead = refl
-modes_pass InHeadNoscript = refl
-modes_pass AfterHead = refl
-modes_pass InBody = refl
-modes_pass Text = refl
-modes_pass InTable = refl
-modes_pass InTableText = refl
-modes_pass InCaption = refl
-modes_pass InColumnGroup = refl
-modes_pass InTableBody = refl
-modes_pass InRow = refl
-modes_pass InCell = refl
-modes_pass InTemplate = refl
-modes_pass AfterBody = refl
-modes_pass InFrameset = refl
-modes_pass AfterFrameset = refl
-modes_pass AfterAfterBody = refl
-modes_pass AfterAfterFrameset = refl
+modes_pass = each-mode (λ m. all_pass sets_template_modes (rows m)) refl
 
 moved-rest : (m : InsertionMode) (s : State) → IsRest s (set_mode m s)
 unfolding set_mode

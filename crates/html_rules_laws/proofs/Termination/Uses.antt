@@ -14,10 +14,10 @@ use Rattle.html_rules.specs.State.{State, current_number}
 use Rattle.html_rules.specs.Table.{Row, Class, StartTags, EndTags, AnyStartTag, AnyEndTag, WhiteSpace, Character, Null, Comment, EndOfFile, AnythingElse, Conclusion, Done, Acknowledged, Reprocess, ReprocessInOriginal, ReprocessInMode, Using, UsingThen, UsingCurrentMode, RawText, PlainText, RunScript, ReportEncoding}
 use Rattle.html_rules.specs.Tokens.{class_fits}
 use Rattle.html_rules.specs.declared.insertion_mode.InsertionMode.{InsertionMode}
-use Rattle.html_rules.specs.declared.insertion_mode.InsertionMode.TheVariants.{Initial, BeforeHtml, BeforeHead, InHead, InHeadNoscript, AfterHead, InBody, Text, InTable, InTableText, InCaption, InColumnGroup, InTableBody, InRow, InCell, InTemplate, AfterBody, InFrameset, AfterFrameset, AfterAfterBody, AfterAfterFrameset}
 use Rattle.html_rules_laws.specs.WholeTable.{IsEachUseEnding}
 use Rattle.html_rules_laws.proofs.FirstFit.{by_fit, class_of_fits}
 use Rattle.html_rules_laws.proofs.Names.{shares, shares_name}
+use Rattle.html_rules_laws.proofs.EachMode.{each-mode}
 
 -- which tokens are alike for classes
 abbrev family_of_tag : TagKind → ℕ
@@ -161,27 +161,7 @@ uses-enough (suc k) n c m t s h e = first-same k n c t s h (λ d fits m s e. use
 
 modes-end : (m : InsertionMode) → ends_within 4 AnythingElse m ≡ true
 unfolding ends_within rows names_of
-modes-end Initial = refl
-modes-end BeforeHtml = refl
-modes-end BeforeHead = refl
-modes-end InHead = refl
-modes-end InHeadNoscript = refl
-modes-end AfterHead = refl
-modes-end InBody = refl
-modes-end Text = refl
-modes-end InTable = refl
-modes-end InTableText = refl
-modes-end InCaption = refl
-modes-end InColumnGroup = refl
-modes-end InTableBody = refl
-modes-end InRow = refl
-modes-end InCell = refl
-modes-end InTemplate = refl
-modes-end AfterBody = refl
-modes-end InFrameset = refl
-modes-end AfterFrameset = refl
-modes-end AfterAfterBody = refl
-modes-end AfterAfterFrameset = refl
+modes-end = each-mode (λ m. ends_within 4 AnythingElse m) refl
 
 pub each_use_ends : IsEachUseEnding
 unfolding more

@@ -22,6 +22,7 @@ use Rattle.html_rules_laws.proofs.Soundness.Acts.{act-aside, tame_in}
 use Rattle.html_rules_laws.proofs.Soundness.Scan.{scan, scan-holds}
 use Rattle.html_rules_laws.proofs.TreePreserved.Rows.{head_contents}
 use Rattle.html_rules_laws.proofs.Bools.{no}
+use Rattle.html_rules_laws.proofs.EachMode.{each-mode}
 
 -- modes that are not come to again
 abbrev avoids : InsertionMode → Bool
@@ -162,27 +163,7 @@ mode_avoiding m = next_ok (Starts head_contents) m && scan (foreign_row m) (Star
 
 modes-avoid : (m : InsertionMode) → mode_avoiding m ≡ true
 unfolding mode_avoiding uses_avoiding rows names_of mathml_names_of svg_names_of
-modes-avoid mode.Initial = refl
-modes-avoid mode.BeforeHtml = refl
-modes-avoid mode.BeforeHead = refl
-modes-avoid mode.InHead = refl
-modes-avoid mode.InHeadNoscript = refl
-modes-avoid mode.AfterHead = refl
-modes-avoid mode.InBody = refl
-modes-avoid mode.Text = refl
-modes-avoid mode.InTable = refl
-modes-avoid mode.InTableText = refl
-modes-avoid mode.InCaption = refl
-modes-avoid mode.InColumnGroup = refl
-modes-avoid mode.InTableBody = refl
-modes-avoid mode.InRow = refl
-modes-avoid mode.InCell = refl
-modes-avoid mode.InTemplate = refl
-modes-avoid mode.AfterBody = refl
-modes-avoid mode.InFrameset = refl
-modes-avoid mode.AfterFrameset = refl
-modes-avoid mode.AfterAfterBody = refl
-modes-avoid mode.AfterAfterFrameset = refl
+modes-avoid = each-mode (λ m. mode_avoiding m) refl
 
 head-kind : (t : Token) → is_head_start t ≡ true → is_of (Starts head_contents) t ≡ true
 unfolding names_of
