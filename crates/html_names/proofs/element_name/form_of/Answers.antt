@@ -13,11 +13,11 @@ pub returns-in_default-None : goal.returns-in_default-None
 returns-in_default-None c = record {
   ok = ok-map (λ form. IsRareForm form c.args.namespace.now c.args.name.now) (λ form. Holds c.args.class.namespace form (namespace_of c.args.namespace.now) c.args.name.now) c.rare-in_default-None.result
       (λ form held. rare-holds c.args.class form c.args.namespace.now c.args.name.now c.requires (inr c.in_default-None.is-1) held) c.rare-in_default-None.ensures.ok;
-  err = c.rare-in_default-None.ensures.err;
+  fault = c.rare-in_default-None.ensures.fault;
 }
 
 pub returns-in_default-Some : goal.returns-in_default-Some
 returns-in_default-Some c = record {
   ok = known-holds c.args.class c.in_default-Some.known (namespace_of c.args.namespace.now) c.args.name.now c.requires c.in_default-Some.is-1 c.in_default-Some.not-Other-0;
-  err = tt;
+  fault = tt;
 }
