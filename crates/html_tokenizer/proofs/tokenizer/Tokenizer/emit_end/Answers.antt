@@ -1,4 +1,4 @@
-use Rattle.html_tokenizer.proofs.EndOfInput.Told.{ended, not-closed}
+use Rattle.html_tokenizer.proofs.EndOfInput.Emitted.{ended, not-closed}
 use Rattle.html_tokenizer.proofs.tokenizer.Tokenizer.emit_end.Goals as goal
 
 pub returns-in_err-emit_held : goal.returns-in_err-emit_held
