@@ -4,6 +4,7 @@ pub mod FirstFit
 pub mod Parts
 pub mod Acted
 pub mod TextRuns
+pub mod WhiteRuns
 pub mod RunsFound
 pub mod FirstCharacters
 pub mod MayTurns

@@ -29,7 +29,7 @@ use Rattle.html_rules_laws.proofs.TreePreserved.StandingTrees.{current-Place}
 use Rattle.html_rules_laws.proofs.Bools.{no}
 use Rattle.html_tree_builder.specs.Running.{run_action, run_at, run_in, run_of, takes_text}
 use Rattle.html_tree_builder.specs.declared.runs.Run.{Run}
-use Rattle.html_tree_builder.specs.declared.runs.Run.TheVariants.{InBody, Raw, Waiting, Foreign}
+use Rattle.html_tree_builder.specs.declared.runs.Run.TheVariants.{InBody, Raw, Waiting, Foreign, Dropped}
 
 -- text that is put twice
 
@@ -48,7 +48,7 @@ appended-twice a b s e h =
     (ap (λ p. put_text f p b) (place-same s.foster_parenting e f s.forest s.open_elems (current_node s.open_elems))
     ∙ put_text-append s.forest place a b h.tree.forest at)
 
-white-append : (a b : List ℕ) → is_white (a ++ b) ≡ (is_white a && is_white b)
+pub white-append : (a b : List ℕ) → is_white (a ++ b) ≡ (is_white a && is_white b)
 white-append [] b = refl
 white-append (c ∷ cs) b = ap (λ w. is_space c && w) (white-append cs b) ∙ by (is_space c) where
   by : (x : Bool) → (x && (is_white cs && is_white b)) ≡ ((x && is_white cs) && is_white b)
@@ -69,7 +69,7 @@ unfolding frameset_not_ok_unless_white append_text
 not_ok-put a b s = refl
 
 -- what is put in a body once formatting elements are open, and in foreign content
-abbrev put_white : List ℕ → State → State
+abbrev pub put_white : List ℕ → State → State
 put_white text s = append_text text (frameset_not_ok_unless_white text s)
 
 white-Standing : (a : List ℕ) (s : State) → Standing s → Standing (frameset_not_ok_unless_white a s)
@@ -89,7 +89,7 @@ put-twice a b s e h =
 -- formatting elements that were opened again
 
 -- nothing is to be opened again
-abbrev are_reopened : List Entry → List Open → Bool
+abbrev pub are_reopened : List Entry → List Open → Bool
 are_reopened [] xs = true
 are_reopened (Marker ∷ entries) xs = true
 are_reopened (Element n tag ∷ entries) xs = is_open n xs
@@ -104,22 +104,22 @@ unfolding reconstruct_active_formatting_elements
 reopened-same s h = reopened-by s.active_formatting s refl h
 
 -- whether text is taken by the rules of the mode, by the adjusted current node
-abbrev takes_at : Option Open → Bool
+abbrev pub takes_at : Option Open → Bool
 takes_at None = false
 takes_at (Some x) = takes_text x
 
-inserted-takes : (c : Option Open) (x : Open) (xs : List Open) → is_html_element x ≡ true → takes_at (adjusted_by c xs) ≡ true → takes_at (adjusted_by c (x ∷ xs)) ≡ true
+pub inserted-takes : (c : Option Open) (x : Open) (xs : List Open) → is_html_element x ≡ true → takes_at (adjusted_by c xs) ≡ true → takes_at (adjusted_by c (x ∷ xs)) ≡ true
 inserted-takes c x [] e h = no h
 inserted-takes None x (y ∷ ys) e h = rw e refl
 inserted-takes (Some c) x (y ∷ ys) e h = rw e refl
 
 -- what is opened again leaves text to the rules of the mode
-record Reopened (s r : State) : Type 0 where
-  mode : r.mode ≡ s.mode
-  foster : r.foster_parenting ≡ s.foster_parenting
-  context : r.context_elem ≡ s.context_elem
-  takes : takes_at (adjusted_by s.context_elem s.open_elems) ≡ true → takes_at (adjusted_by s.context_elem r.open_elems) ≡ true
-  done : are_reopened r.active_formatting r.open_elems ≡ true
+pub record Reopened (s r : State) : Type 0 where
+  pub mode : r.mode ≡ s.mode
+  pub foster : r.foster_parenting ≡ s.foster_parenting
+  pub context : r.context_elem ≡ s.context_elem
+  pub takes : takes_at (adjusted_by s.context_elem s.open_elems) ≡ true → takes_at (adjusted_by s.context_elem r.open_elems) ≡ true
+  pub done : are_reopened r.active_formatting r.open_elems ≡ true
 
 reopened-either : (b : Bool) (s x y : State) → (b ≡ true → Reopened s x) → Reopened s y → Reopened s (choose b (λ _. x) (λ _. y))
 reopened-either true s x y h k = h refl
@@ -143,7 +143,7 @@ reopen-Reopened (Element n tag ∷ entries) s =
     (λ there. record { mode = refl; foster = refl; context = refl; takes = λ e. e; done = there })
     (one-reopened tag s (reopen entries s) (reopen-Reopened entries s))
 
-reconstruct-Reopened : (s : State) → Reopened s (reconstruct_active_formatting_elements s)
+pub reconstruct-Reopened : (s : State) → Reopened s (reconstruct_active_formatting_elements s)
 unfolding reconstruct_active_formatting_elements
 reconstruct-Reopened s = reopen-Reopened s.active_formatting s
 
@@ -202,7 +202,7 @@ is-other false true v x k h = no h
 is-other false false true x k h = no h
 is-other false false false true k h = no h
 
-own-at : (text : List ℕ) (s : State) (o : Option Open) → takes_at o ≡ true → is_foreign_at s o (CharacterTokens text) ≡ false
+pub own-at : (text : List ℕ) (s : State) (o : Option Open) → takes_at o ≡ true → is_foreign_at s o (CharacterTokens text) ≡ false
 own-at text s None h = no h
 own-at text s (Some x) h = is-html (is_html_element x) (is_in set.MathmlTextIntegrationPoint x) (is_in set.SvgHtmlIntegrationPoint x) _ h
 
@@ -210,7 +210,7 @@ other-at : (text : List ℕ) (s : State) (o : Option Open) → foreign_at o ≡ 
 other-at text s None h = no h
 other-at text s (Some x) h = is-other (is_html_element x) (is_in set.MathmlTextIntegrationPoint x) (is_in set.SvgHtmlIntegrationPoint x) (is_in set.AnnotationXml x) _ h
 
-abbrev taken_by_run : Option Run → Token → State → State
+abbrev pub taken_by_run : Option Run → Token → State → State
 taken_by_run None t s = s
 taken_by_run (Some run) t s = act (run_action run) t s
 
@@ -237,7 +237,7 @@ foreign-turn text s h = rw (other-at text s (adjusted_current_node s) h.foreign)
 run-turn : (run : Run) (text : List ℕ) (s : State) → IsRun run s → turn (CharacterTokens text) s ≡ turn_of (act (run_action run) (CharacterTokens text) s) (Finished false)
 run-turn run text s is = elim is [ inl own ↦ own-turn run text s own | inr foreign ↦ rw foreign.0 (foreign-turn text s foreign.1) ]
 
-settled-as : (text : List ℕ) (s r : State) → turn (CharacterTokens text) s ≡ turn_of r (Finished false) → (settle (CharacterTokens text) s).state ≡ r
+pub settled-as : (text : List ℕ) (s r : State) → turn (CharacterTokens text) s ≡ turn_of r (Finished false) → (settle (CharacterTokens text) s).state ≡ r
 unfolding settle within
 settled-as text s r e =
     let t : Token = CharacterTokens text in
@@ -286,13 +286,14 @@ stays-Run InBody a s is = body-Run a s is
 stays-Run Raw a s is = raw-Run a Raw s is
 stays-Run Waiting a s is = kept-Run a Waiting s is
 stays-Run Foreign a s is = put-Run a Foreign s is
+stays-Run Dropped a s is = is
 
 -- two texts of a run are taken as one
 
 run-foster : (run : Run) (s : State) → IsRun run s → s.foster_parenting ≡ false
 run-foster run s is = elim is [ inl own ↦ own.foster | inr foreign ↦ foreign.1.foster ]
 
-reconstruct-Standing : (s : State) → Standing s → Standing (reconstruct_active_formatting_elements s)
+pub reconstruct-Standing : (s : State) → Standing s → Standing (reconstruct_active_formatting_elements s)
 reconstruct-Standing s h = actions-Standing.plain Reconstruct refl (CharacterTokens []) s h
 
 body-twice : (a b : List ℕ) (s : State) → s.foster_parenting ≡ false → Standing s → append_in_body b (append_in_body a s) ≡ append_in_body (a ++ b) s
@@ -305,17 +306,19 @@ kept-twice : (a b : List ℕ) (s : State) → keep_text b (keep_text a s) ≡ ke
 unfolding keep_text
 kept-twice a b s = ap (λ text. record s { pending_table_text = text }) (append_assoc s.pending_table_text a b)
 
-run-twice : (run : Run) (a b : List ℕ) (s : State) → s.foster_parenting ≡ false → Standing s → act (run_action run) (CharacterTokens b) (act (run_action run) (CharacterTokens a) s) ≡ act (run_action run) (CharacterTokens (a ++ b)) s
+pub run-twice : (run : Run) (a b : List ℕ) (s : State) → s.foster_parenting ≡ false → Standing s → act (run_action run) (CharacterTokens b) (act (run_action run) (CharacterTokens a) s) ≡ act (run_action run) (CharacterTokens (a ++ b)) s
 run-twice InBody a b s e h = body-twice a b s e h
 run-twice Raw a b s e h = appended-twice a b s e h
 run-twice Waiting a b s e h = kept-twice a b s
 run-twice Foreign a b s e h = put-twice a b s e h
+run-twice Dropped a b s e h = refl
 
-run-plain : (run : Run) → is_plain_action (run_action run) ≡ true
+pub run-plain : (run : Run) → is_plain_action (run_action run) ≡ true
 run-plain InBody = refl
 run-plain Raw = refl
 run-plain Waiting = refl
 run-plain Foreign = refl
+run-plain Dropped = refl
 
 taken-by : (run : Run) (c : ℕ) (cs : List ℕ) (before : Settled) → IsRun run before.state → Standing before.state → (text_taken (c ∷ cs) before).state ≡ act (run_action run) (CharacterTokens (c ∷ cs)) before.state
 taken-by run c [] before is h = run-settled run (c ∷ []) before.state is

@@ -1,7 +1,8 @@
 -- A text that is taken from its front on.
-use Rattle.std.proofs.Common.{◌≡◌, ◌∙◌, ℕ, ◌<◌, Bool, false, List, [], ◌∷◌, length, Some, refl, sym, ap, subst}
+use Rattle.std.proofs.Common.{◌≡◌, ◌∙◌, ℕ, ◌<◌, Bool, false, nat_eq, List, [], ◌∷◌, ◌++◌, length, Some, refl, sym, ap, arith, subst}
 use Rattle.std.specs.Str.{IsUtf8, chars}
 use Rattle.markup.specs.Forest.{Forest}
+use Rattle.html_tokens.specs.declared.token.Token.{Token}
 use Rattle.html_tokens.specs.declared.token.Token.TheVariants.{CharacterTokens}
 use Rattle.html_rules.specs.Actions.{act, set_ignore_lf}
 use Rattle.html_rules.specs.Rules.{Settled, settle}
@@ -12,13 +13,14 @@ use Rattle.html_rules_laws.proofs.Replies.{taken-well}
 use Rattle.html_names.proofs.FirstBytes.{no-text}
 use Rattle.html_rules_laws.specs.Coming.{came_of}
 use Rattle.html_rules_laws.specs.Usable.{Usable}
-use Rattle.html_rules_laws.proofs.Progress.TokensTaken.{form-node, head-node, unlined-going, unlined-usable}
-use Rattle.html_tree_builder.specs.Running.{run_action, run_of}
+use Rattle.html_rules_laws.proofs.Progress.TokensTaken.{form-node, head-node, settled-going, settled-usable, unlined-going, unlined-usable}
+use Rattle.html_tree_builder.specs.Running.{LeavesText, run_action, run_of, white_run_of}
 use Rattle.html_tree_builder.specs.States.{Building, Stands, state_of}
-use Rattle.html_tree_builder.specs.Texts.{IsSplit}
+use Rattle.html_tree_builder.specs.Texts.{HasWhiteFront, IsSplit}
 use Rattle.html_tree_builder.specs.declared.runs.Run.{Run}
 use Rattle.html_tree_builder.proofs.FirstCharacters.{some-character}
 use Rattle.html_tree_builder.proofs.TextRuns.{text-run}
+use Rattle.html_tree_builder.proofs.WhiteRuns.{white-run}
 
 -- a usable state stands
 pub usable-stands : (a : Answers) (b : Building) (f : Forest) → Usable (state_of a b f) → b.has_ended ≡ false → Stands f b
@@ -71,6 +73,68 @@ characters-taken text rest lf s u r utf8 some same unlined behind is =
     let left : chars rest ≡ behind_line_feed s.ignore_lf (first.0 ∷ first.1) = behind ∙ ap (λ b. behind_line_feed b (chars text)) same ∙ ap (behind_line_feed s.ignore_lf) first.2 in
     rw first.2 (is ∙ ap (λ cs. (text_taken cs (untouched u)).state) left ∙ ap (λ x. (text_taken (behind_line_feed s.ignore_lf (first.0 ∷ first.1)) (untouched x)).state) unlined)
 
+-- a text that is not empty is taken at once where it is a run and no line feed is dropped
+
+unlined-same : (s : State) → s.ignore_lf ≡ false → set_ignore_lf false s ≡ s
+unfolding set_ignore_lf
+unlined-same s e = ap (λ b. record s { ignore_lf = b }) (sym e)
+
+pub own-run-taken : (text : List ℕ) (run : Run) (s r : State) → nat_eq (length text) 0 ≡ false → s.ignore_lf ≡ false → Some run ≡ run_of s → Usable s → r ≡ act (run_action run) (CharacterTokens text) s
+    → r ≡ (came_of (CharacterTokens text) s).state
+unfolding taken
+own-run-taken [] run s r some lf found h e = absurd (cc)
+own-run-taken (c ∷ cs) run s r some lf found h e =
+    e
+    ∙ sym (text-run run c cs (untouched s) (sym found) h.steady.upright.standing)
+    ∙ ap (λ x. (text_taken (c ∷ cs) (untouched x)).state) (sym (unlined-same s lf))
+    ∙ ap (λ b. (text_taken (behind_line_feed b (c ∷ cs)) (untouched (set_ignore_lf false s))).state) (sym lf)
+
+pub no-text-taken : (text : List ℕ) (s : State) → length text ≡ 0 → s ≡ (came_of (CharacterTokens text) s).state
+no-text-taken [] s e = refl
+no-text-taken (c ∷ cs) s e = absurd (omega (arith, e))
+
 pub characters-continue : (text : List ℕ) (s : State) → Continue ≡ (came_of (CharacterTokens text) s).reply
 characters-continue [] s = refl
 characters-continue (c ∷ cs) s = sym (taken-well (CharacterTokens (c ∷ cs)) s)
+
+-- what is left of a text
+
+text_taken-append : (a b : List ℕ) (x : Settled) → text_taken (a ++ b) x ≡ text_taken b (text_taken a x)
+text_taken-append [] b x = refl
+text_taken-append (c ∷ cs) b x = text_taken-append cs b (behind x (settle (CharacterTokens (c ∷ [])) x.state))
+
+texts-usable : (text : List ℕ) (x : Settled) → Usable x.state → x.state.has_ended ≡ false → Usable (text_taken text x).state × ((text_taken text x).state.has_ended ≡ false)
+texts-usable [] x h going = (h, going)
+texts-usable (c ∷ cs) x h going =
+    let one : Token = CharacterTokens (c ∷ []) in
+    texts-usable cs (behind x (settle one x.state)) (settled-usable one x.state h going) (settled-going one x.state going)
+
+-- after white space that is a run
+pub white-left : (whole white rest : List ℕ) (run : Run) (s r : State) → HasWhiteFront whole white rest → false ≡ nat_eq (length white) 0 → Some run ≡ white_run_of s → Usable s → s.has_ended ≡ false → r ≡ act (run_action run) (CharacterTokens white) s
+    → LeavesText whole rest s r
+white-left whole [] rest run s r is some found h going e = absurd (cc)
+white-left whole (c ∷ cs) rest run s r is some found h going e =
+    let same : r ≡ (text_taken (c ∷ cs) (untouched s)).state = e ∙ sym (white-run run c cs (untouched s) is.white (sym found) h.steady.upright.standing) in
+    let kept = texts-usable (c ∷ cs) (untouched s) h going in
+    record {
+      text = is.text;
+      shorter = omega (arith, is.shorter);
+      usable = subst Usable (sym same) kept.0;
+      going = ap (λ x. x.has_ended) same ∙ kept.1;
+      same =
+          text-state (chars rest) (untouched r) (text_taken (c ∷ cs) (untouched s)) same
+          ∙ ap (λ x. x.state) (sym (text_taken-append (c ∷ cs) (chars rest) (untouched s)))
+          ∙ ap (λ text. (text_taken text (untouched s)).state) (sym is.characters);
+    }
+
+-- after the first character
+pub one-left : (whole one rest : List ℕ) (s r : State) → IsSplit whole one rest → Usable s → s.has_ended ≡ false → r ≡ (settle (CharacterTokens (chars one)) s).state → LeavesText whole rest s r
+one-left whole one rest s r is h going e =
+    let t : Token = CharacterTokens (chars one) in
+    record {
+      text = is.text;
+      shorter = is.shorter;
+      usable = subst Usable (sym e) (settled-usable t s h going);
+      going = ap (λ x. x.has_ended) e ∙ settled-going t s going;
+      same = next-character whole one rest s r is e;
+    }

@@ -10,6 +10,7 @@ mod conclusions;
 mod conditions;
 mod construction;
 mod errors;
+mod lent_tags;
 pub mod options;
 mod rows;
 mod runs;
@@ -20,6 +21,7 @@ mod texts;
 mod told;
 mod turns;
 mod walks;
+mod white_runs;
 
 pub use builder::TreeBuilder;
 pub use html_names::{adjust_attributes, adjust_tag_name};

@@ -1,6 +1,5 @@
 //! Runs of text that are taken at once, not character by character.
 ghost use Rattle.std.specs.Prelude.{◌≡◌, ℕ, IfErr, MatchOption, None, OnOk, Some};
-ghost use Rattle.std.specs.Str.{chars};
 ghost use Rattle.markup.specs.Forest.{Forest};
 ghost use Rattle.markup.specs.declared.fault.ParseFault.TheVariants.{Memory};
 ghost use Rattle.html_rules.specs.Actions.{act};
@@ -13,7 +12,7 @@ ghost use Rattle.html_tree_builder.specs.States.{Stands, state_of, Performs};
 use crate::construction::{Construction, lent};
 use html_rules::{InsertionMode, TagSet};
 use html_stack::{OpenElement, adjusted};
-use markup::{ParseFault, TreeSink};
+use markup::{ParseFault, Text, TreeSink};
 
 /// The situations in which the characters of a text are taken at once, up to its end.
 #[derive(Clone, Copy, Debug, PartialEq, Eq)]
@@ -26,10 +25,12 @@ pub(crate) enum Run {
     Waiting,
     /// In foreign content.
     Foreign,
+    /// White space that is dropped.
+    Dropped,
 }
 
 /// Whether text in an element is taken by the rules of the mode, whatever the sink answers.
-fn takes_text<Handle>(element: &OpenElement<Handle>) -> bool
+pub(crate) fn takes_text<Handle>(element: &OpenElement<Handle>) -> bool
     ensures { (node : Handle → ℕ) → result ≡ takes_text (open_of node element.now) }
 {
     let name = &element.name;
@@ -85,25 +86,26 @@ impl<Sink: TreeSink> Construction<Sink> {
         run_at(element, self.mode)
     }
 
-    /// Takes a run of characters.
+    /// Takes a run of characters, which is handed on.
     pub(crate) fn process_run(
         &mut self,
         sink: &mut Sink,
         run: Run,
-        text: &str,
+        text: Text,
     ) -> Result<(), ParseFault>
         requires stands { Stands (Sink.forest sink.old) self.old }
-        ensures ok { OnOk result (Performs (act (run_action run) (CharacterTokens (chars text.now))) self.old self.new (Sink.forest sink.old) (Sink.forest sink.new)) }
+        ensures ok { OnOk result (Performs (act (run_action run) (CharacterTokens text)) self.old self.new (Sink.forest sink.old) (Sink.forest sink.new)) }
         ensures fault { IfErr result (λ fault. fault ≡ Memory) }
     {
         match run {
-            Run::InBody => self.append_in_body(sink, text),
-            Run::Raw => self.append_text(sink, text),
-            Run::Waiting => self.keep_text(text),
+            Run::InBody => self.append_own_in_body(sink, text),
+            Run::Raw => self.append_own_text(sink, text),
+            Run::Waiting => self.keep_text(text.as_str()),
             Run::Foreign => {
-                self.frameset_not_ok_unless_white(text);
-                self.append_text(sink, text)
+                self.frameset_not_ok_unless_white(text.as_str());
+                self.append_own_text(sink, text)
             }
+            Run::Dropped => Ok(()),
         }
     }
 }

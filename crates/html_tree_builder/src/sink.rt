@@ -2,6 +2,7 @@
 ghost use Rattle.std.specs.Prelude.{◌≡◌, ◌≤◌, ◌+◌, [], false, true, IfErr, OnOk};
 ghost use Rattle.markup.specs.declared.fault.ParseFault.TheVariants.{Memory};
 ghost use Rattle.html_tokens.specs.Sink.{Counts, Gives, OnRefused, fails, tells_failed};
+ghost use Rattle.html_tokens.specs.declared.token.Token.TheVariants.{TagToken};
 ghost use Rattle.html_rules_laws.specs.Coming.{IsTaken};
 ghost use Rattle.html_rules_laws.specs.Usable.{Usable};
 ghost use Rattle.html_rules.specs.State.{hushed};
@@ -13,7 +14,7 @@ ghost use Rattle.html_tree_builder.specs.Turns.{most_turns, turns_of};
 use crate::builder::TreeBuilder;
 use crate::construction::Construction;
 use html_rules::InsertionMode;
-use html_tokens::{TagKind, Token, TokenSink, TokenSinkResult};
+use html_tokens::{Tag, TagKind, Token, TokenSink, TokenSinkResult};
 use markup::{ParseFault, TreeSink};
 
 /// Whether a token can't come while the text of an element is read.
@@ -40,7 +41,7 @@ fn is_barred(mode: InsertionMode, token: &Token) -> bool
 
 impl<Sink: TreeSink> Construction<Sink> {
     /// Whether the end was told.
-    fn has_ended(&self) -> bool
+    pub(crate) fn has_ended(&self) -> bool
         ensures { result ≡ self.now.has_ended }
     {
         self.has_ended
@@ -74,7 +75,7 @@ impl<Sink: TreeSink> Construction<Sink> {
 
 impl<Sink: TreeSink> TreeBuilder<Sink> {
     /// Tells the sink a line that differs from the last one that it was told.
-    fn report_line(&mut self, line: u64)
+    pub(crate) fn report_line(&mut self, line: u64)
         ensures same { built Sink.TreeSink self.new.construction (Sink.forest self.new.sink) ≡ built Sink.TreeSink self.old.construction (Sink.forest self.old.sink) }
         ensures works { self.new.has_failed ≡ self.old.has_failed }
         ensures turns { self.new.turns.count ≡ self.old.turns.count }
@@ -199,6 +200,26 @@ impl<Sink: TreeSink> TokenSink for TreeBuilder<Sink> {
     {
         let mut token = token;
         self.take_token(&mut token, line_number)
+    }
+
+    #[inline(always)]
+    fn process_tag(
+        &mut self,
+        tag: &mut Tag,
+        line_number: u64,
+    ) -> Result<TokenSinkResult<Sink::Handle>, ParseFault>
+        requires { self.old.has_failed ≡ false → Usable (hushed (built Sink.TreeSink self.old.construction (Sink.forest self.old.sink))) }
+        ensures gives { Gives Sink.node (step (hushed (built Sink.TreeSink self.old.construction (Sink.forest self.old.sink))) (TagToken tag.old) line_number) result (hushed (built Sink.TreeSink self.new.construction (Sink.forest self.new.sink))) }
+        ensures failed_before { tells_failed result ≡ self.old.has_failed }
+        ensures failed_after { self.new.has_failed ≡ fails result }
+        ensures unchanged { OnRefused result (hushed (built Sink.TreeSink self.new.construction (Sink.forest self.new.sink)) ≡ hushed (built Sink.TreeSink self.old.construction (Sink.forest self.old.sink))) }
+        ensures same_errors { OnRefused result ((Sink.forest self.new.sink).errors ≡ (Sink.forest self.old.sink).errors) }
+        ensures counts { Counts (is_quiet (hushed (built Sink.TreeSink self.old.construction (Sink.forest self.old.sink))) (TagToken tag.old)) (TagToken tag.old) result (Sink.forest self.old.sink).errors (Sink.forest self.new.sink).errors }
+        ensures sound { self.new.has_failed ≡ false → Usable (hushed (built Sink.TreeSink self.new.construction (Sink.forest self.new.sink))) }
+        ensures counted { OnOk result (self.new.turns.count ≡ self.old.turns.count + turns_of (TagToken tag.old) (built Sink.TreeSink self.old.construction (Sink.forest self.old.sink))) }
+        ensures most { self.new.turns.count ≤ self.old.turns.count + most_turns self.old.construction.stack.open_elems }
+    {
+        self.take_lent_tag(tag, line_number)
     }
 
     fn end(&mut self) {

@@ -25,7 +25,7 @@ use html_names::{ElementClass, doctype_error_and_quirks};
 use html_rules::InsertionMode;
 use html_tokens::{Doctype, Tag, Token, TokenSinkResult};
 use markup::count::Count;
-use markup::{LocalName, ParseFault, TreeSink};
+use markup::{LocalName, ParseFault, Text, TreeSink};
 use std::borrow::CowStr;
 use std::mem;
 
@@ -77,7 +77,11 @@ impl<Sink: TreeSink> Construction<Sink> {
     }
 
     /// Takes one character. Its turns are not counted.
-    fn process_character(&mut self, sink: &mut Sink, character: &str) -> Result<(), ParseFault>
+    pub(crate) fn process_character(
+        &mut self,
+        sink: &mut Sink,
+        character: &str,
+    ) -> Result<(), ParseFault>
         requires usable { Usable (built Sink.TreeSink self.old (Sink.forest sink.old)) }
         requires going { self.old.has_ended ≡ false }
         ensures ok { OnOk result (built Sink.TreeSink self.new (Sink.forest sink.new) ≡ (settle (CharacterTokens (chars character.now)) (built Sink.TreeSink self.old (Sink.forest sink.old))).state) }
@@ -89,7 +93,7 @@ impl<Sink: TreeSink> Construction<Sink> {
         Ok(())
     }
 
-    /// Takes a text: a run at once, and up to where one begins character by character.
+    /// Takes a text: a run at once, and up to where one begins by runs of white space and single characters.
     fn process_text(&mut self, sink: &mut Sink, text: &str) -> Result<(), ParseFault>
         requires usable { Usable (built Sink.TreeSink self.old (Sink.forest sink.old)) }
         requires going { self.old.has_ended ≡ false }
@@ -99,18 +103,18 @@ impl<Sink: TreeSink> Construction<Sink> {
         let mut rest = text;
         while let Some((character, behind)) = split_first(rest) {
             if let Some(run) = self.run() {
-                self.process_run(sink, run, rest)?;
+                let run_text = Text::from_str(self.alloc, rest)?;
+                self.process_run(sink, run, run_text)?;
                 return Ok(());
             }
-            self.process_character(sink, character)?;
-            rest = behind;
+            rest = self.take_front(sink, rest, character, behind)?;
         }
         Ok(())
     }
 
-    /// Takes characters, which may be none. A line feed at their front is dropped where that is asked for.
+    /// Takes characters that are lent, which may be none. A line feed at their front is dropped where that is asked for.
     #[inline(never)]
-    fn process_characters(&mut self, sink: &mut Sink, text: &str) -> Result<(), ParseFault>
+    fn take_lent_characters(&mut self, sink: &mut Sink, text: &str) -> Result<(), ParseFault>
         requires usable { Usable (built Sink.TreeSink self.old (Sink.forest sink.old)) }
         requires going { self.old.has_ended ≡ false }
         ensures ok { OnOk result (built Sink.TreeSink self.new (Sink.forest sink.new) ≡ (came_of (CharacterTokens (chars text.now)) (built Sink.TreeSink self.old (Sink.forest sink.old))).state) }
@@ -123,6 +127,26 @@ impl<Sink: TreeSink> Construction<Sink> {
         self.set_ignore_lf(false);
         self.process_text(sink, rest)?;
         Ok(())
+    }
+
+    /// The same of a text that is handed on where it is a run.
+    #[inline(never)]
+    fn process_characters(&mut self, sink: &mut Sink, text: &mut Text) -> Result<(), ParseFault>
+        requires usable { Usable (built Sink.TreeSink self.old (Sink.forest sink.old)) }
+        requires going { self.old.has_ended ≡ false }
+        ensures ok { OnOk result (built Sink.TreeSink self.new (Sink.forest sink.new) ≡ (came_of (CharacterTokens text.old) (built Sink.TreeSink self.old (Sink.forest sink.old))).state) }
+        ensures fault { IfErr result (λ fault. fault ≡ Memory) }
+    {
+        if text.is_empty() {
+            return Ok(());
+        }
+        if self.ignore_lf {
+            return self.take_lent_characters(sink, text.as_str());
+        }
+        match self.run() {
+            Some(run) => self.process_run(sink, run, text.take()),
+            None => self.take_lent_characters(sink, text.as_str()),
+        }
     }
 
     /// An error of a doctype is told.
@@ -210,7 +234,7 @@ impl<Sink: TreeSink> Construction<Sink> {
 
     /// Takes a tag.
     #[inline(never)]
-    fn take_tag(
+    pub(crate) fn take_tag(
         &mut self,
         sink: &mut Sink,
         tag: &Tag,
@@ -251,7 +275,7 @@ impl<Sink: TreeSink> Construction<Sink> {
                 Ok(TokenSinkResult::Continue)
             }
             Token::CharacterTokens(text) => {
-                self.process_characters(sink, text.as_str())?;
+                self.process_characters(sink, text)?;
                 Ok(TokenSinkResult::Continue)
             }
             Token::DoctypeToken(doctype) => {

@@ -146,6 +146,15 @@ impl<Sink: TreeSink> Construction<Sink> {
         ensures fault { IfErr result (λ fault. fault ≡ Memory) }
     {
         let text = Text::from_str(self.alloc, text)?;
+        self.append_own_text(sink, text)
+    }
+
+    /// The same of a text that is handed on.
+    pub(crate) fn append_own_text(&mut self, sink: &mut Sink, text: Text) -> Result<(), ParseFault>
+        requires stands { Stands (Sink.forest sink.old) self.old }
+        ensures ok { OnOk result (Performs (append_text text) self.old self.new (Sink.forest sink.old) (Sink.forest sink.new)) }
+        ensures fault { IfErr result (λ fault. fault ≡ Memory) }
+    {
         self.stack.append_text(sink, text, self.foster_parenting)?;
         Ok(())
     }

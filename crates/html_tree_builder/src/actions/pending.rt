@@ -9,18 +9,32 @@ ghost use Rattle.html_tree_builder.specs.States.{Stands, Performs};
 use crate::construction::Construction;
 use crate::errors;
 use crate::told::is_white;
-use markup::{ParseFault, TreeSink};
+use markup::{ParseFault, Text, TreeSink};
 
 impl<Sink: TreeSink> Construction<Sink> {
     /// Characters, by the rules for a body.
-    pub(crate) fn append_in_body(&mut self, sink: &mut Sink, text: &str) -> Result<(), ParseFault>
+    fn append_in_body(&mut self, sink: &mut Sink, text: &str) -> Result<(), ParseFault>
         requires stands { Stands (Sink.forest sink.old) self.old }
         ensures ok { OnOk result (Performs (append_in_body (chars text.now)) self.old self.new (Sink.forest sink.old) (Sink.forest sink.new)) }
         ensures fault { IfErr result (λ fault. fault ≡ Memory) }
     {
+        let text = Text::from_str(self.alloc, text)?;
+        self.append_own_in_body(sink, text)
+    }
+
+    /// The same of characters that are handed on.
+    pub(crate) fn append_own_in_body(
+        &mut self,
+        sink: &mut Sink,
+        text: Text,
+    ) -> Result<(), ParseFault>
+        requires stands { Stands (Sink.forest sink.old) self.old }
+        ensures ok { OnOk result (Performs (append_in_body text) self.old self.new (Sink.forest sink.old) (Sink.forest sink.new)) }
+        ensures fault { IfErr result (λ fault. fault ≡ Memory) }
+    {
         self.reconstruct(sink)?;
-        self.frameset_not_ok_unless_white(text);
-        self.append_text(sink, text)
+        self.frameset_not_ok_unless_white(text.as_str());
+        self.append_own_text(sink, text)
     }
 
     /// Characters that belong nowhere in a table are fostered, with an error.
