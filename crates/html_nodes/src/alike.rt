@@ -17,7 +17,7 @@ use std::alloc::Global;
 
 /// A call of a serializer. What it doesn't have is empty.
 #[derive(Drop)]
-pub(crate) struct Call {
+pub(crate) struct SeenCall {
     kind: u8,
     name: QualName,
     attributes: Attributes,
@@ -25,7 +25,7 @@ pub(crate) struct Call {
     more: Text,
 }
 
-impl PartialEq for Call {
+impl PartialEq for SeenCall {
     ghost use Rattle.std.specs.Cmp.{partial_equiv_from_equiv};
     ghost use Rattle.html_nodes.specs.Calls.{same_told, told_equivalence};
 
@@ -33,7 +33,7 @@ impl PartialEq for Call {
 
     ghost laws = { partial_equiv_from_equiv told_equivalence };
 
-    fn eq(&self, other: &Call) -> bool {
+    fn eq(&self, other: &SeenCall) -> bool {
         self.kind == other.kind
             && self.name == other.name
             && self.attributes == other.attributes
@@ -46,7 +46,7 @@ impl PartialEq for Call {
 #[derive(Drop)]
 struct Keeper {
     alloc: Global,
-    told: Vec<Call>,
+    told: Vec<SeenCall>,
 }
 
 impl Keeper {
@@ -64,7 +64,7 @@ impl Keeper {
             return Err(SerializeFault::Memory);
         };
         let attributes = copied(self.alloc, attrs)?;
-        self.told.push(Call {
+        self.told.push(SeenCall {
             kind,
             name,
             attributes,
@@ -81,7 +81,7 @@ impl Keeper {
     {
         let text = text_of(self.alloc, text)?;
         let name = QualName::new(None, Namespace::none(), LocalName::empty(self.alloc));
-        self.told.push(Call {
+        self.told.push(SeenCall {
             kind,
             name,
             attributes: Attributes::new(self.alloc),
@@ -121,9 +121,9 @@ fn text_of(alloc: Global, text: &str) -> Result<Text, SerializeFault>
 impl Serializer for Keeper {
     ghost use Rattle.std.specs.Prelude.{List};
     ghost use Rattle.html_nodes.specs.Calls.{kept};
-    ghost use Rattle.html_nodes.specs.declared.alike.Call.{Call};
+    ghost use Rattle.html_nodes.specs.declared.alike.SeenCall.{SeenCall};
 
-    ghost State = { List Call };
+    ghost State = { List SeenCall };
 
     ghost view = { λ keeper. keeper.told.items };
 
@@ -165,7 +165,7 @@ impl Serializer for Keeper {
 }
 
 // All that a serializer is told of what stands in a node.
-fn told_below(alloc: Global, forest: &Forest, id: NodeId) -> Result<Vec<Call>, SerializeFault>
+fn told_below(alloc: Global, forest: &Forest, id: NodeId) -> Result<Vec<SeenCall>, SerializeFault>
     ensures { IfOk result (λ made. made.items ≡ all_told (calls_of (walked forest.now id (ChildrenOnly None)))) }
 {
     let mut keeper = Keeper {
