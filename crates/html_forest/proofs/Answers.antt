@@ -123,6 +123,31 @@ no_name store (ProcessingInstruction parts) other own some = absurd (cc)
 no_name store (Element a b c d n) other own some = other a b c d n refl
 no_name store (OwnElement a b element) other own some = own a b element refl
 
+pub unnamed : (store : Store) (e : Entry) → ((a : ℕ) (b c : Bool) (d n : ℕ) → e ≡ Element a b c d n → ⊥) → ((a b : Bool) (own : Box Own) → e ≡ OwnElement a b own → ⊥) → tree.element_name (data_in store e) ≡ None
+unnamed store Document other own = refl
+unnamed store Contents other own = refl
+unnamed store (Doctype parts) other own = refl
+unnamed store (Text len at) other own = refl
+unnamed store (OwnText text) other own = refl
+unnamed store (Comment len at) other own = refl
+unnamed store (OwnComment text) other own = refl
+unnamed store (ProcessingInstruction parts) other own = refl
+unnamed store (Element a b c d n) other own = absurd (other a b c d n refl)
+unnamed store (OwnElement a b element) other own = absurd (own a b element refl)
+
+-- only the entry of contents says contents
+pub other-than-contents : (store : Store) (e : Entry) → (e ≡ Contents → ⊥) → tree.is_contents (data_in store e) ≡ false
+other-than-contents store Document other = refl
+other-than-contents store Contents other = absurd (other refl)
+other-than-contents store (Doctype parts) other = refl
+other-than-contents store (Text len at) other = refl
+other-than-contents store (OwnText text) other = refl
+other-than-contents store (Comment len at) other = refl
+other-than-contents store (OwnComment text) other = refl
+other-than-contents store (ProcessingInstruction parts) other = refl
+other-than-contents store (Element a b c d n) other = refl
+other-than-contents store (OwnElement a b element) other = refl
+
 -- a template, and where HTML may stand, as its entry has it
 pub template-is : (store : Store) (e : Entry) → is_template e ≡ tree.template_of (data_in store e)
 template-is store Document = refl

@@ -1,194 +1,339 @@
 -- Turns of the walk of a node.
-use Rattle.std.proofs.Common.{◌≡◌, ◌∙◌, ℕ, ◌+◌, ◌<◌, true, false, List, [], ◌∷◌, ◌++◌, Option, Some, None, Result, Ok, Err, inl, inr, refl, sym, ap, arith, append_assoc, Bor}
-use Rattle.std.proofs.lemmas.Bool.{cases_Bool}
+use Rattle.std.proofs.Common.{◌≡◌, ◌≢◌, ◌∙◌, ◌==◌, ℕ, zero, suc, ◌+◌, ◌-◌, ◌<◌, ◌≤◌, Bool, true, false, cond, ◌&&◌, is_none, List, [], ◌∷◌, ◌++◌, Option, Some, None, Result, Ok, Err, inl, inr, refl, sym, ap, add-one, arith, append_assoc, IfSome}
+use Rattle.std.proofs.lemmas.Bool.{cases_Bool, eq-eqb, eqb-true, ne_eqb}
 use Rattle.std.proofs.lemmas.List.{append-nil}
 use Rattle.std.proofs.lemmas.Result.{err_from_is_err_and}
-use Rattle.std.specs.Option.{option_to_list}
 use Rattle.std.specs.Result.{IsErrAnd}
-use Rattle.markup.specs.Calls.{Call, Refuses, Step, Stops, StopsBefore, and_then, Walks, calls_before, calls_of, ended, first_calls, run}
-use Rattle.markup.specs.Calls.Call.{EndElem}
-use Rattle.markup.specs.Forest.{Forest, IsForest, data_of, element_name, holds_children}
+use Rattle.markup.specs.Calls.{Call, Refuses, Step, Stops, StopsBefore, Walks, and_then, calls_before, calls_of, ended, first_calls, run}
+use Rattle.markup.specs.Calls.Call.{StartElem, EndElem, WriteText, WriteComment, WriteDoctype, WriteProcessingInstruction}
+use Rattle.markup.specs.Forest as tree
+use Rattle.markup.specs.Forest.{Forest, IsDistinct, IsForest, NodeData, children_of, data_of, element_name, holds_children, is_among, is_contents, node_count, parent_of, template_of}
 use Rattle.markup.specs.Named.{HasContents}
-use Rattle.markup.specs.Trees.{Nothing, inner_of, trees_of, weight}
+use Rattle.markup.specs.Trees as trees
+use Rattle.markup.specs.Trees.{Trees, Nothing, inner_of, trees_of, weight}
 use Rattle.markup.specs.declared.names.QualName.{QualName}
 use Rattle.markup.specs.declared.serializer.SerializeFault.{SerializeFault}
-use Rattle.markup.specs.declared.serializer.SerializeFault.TheVariants.{Memory}
 use Rattle.markup.proofs.WalkCalls.{leaf-calls, node-calls, weight-first}
-use Rattle.markup.proofs.WholeTrees.{trees-first, trees-none}
-use Rattle.html_forest.specs.Walk.{Advances, IsAhead, Meets, calls_ahead, calls_below, calls_in, calls_left, name_in, size_below, size_in, size_left}
-use Rattle.html_forest.specs.declared.walk.Frame.{Frame}
+use Rattle.markup.proofs.WholeTrees.{Within, among-first, among-later, inner-within, trees-first, trees-none}
+use Rattle.html_forest.specs.Links.{after_in, first_of, next_under}
+use Rattle.html_forest.specs.Walk.{Advances, IsAhead, IsBelow, IsEnded, IsSpot, Meets, behind, behind_under, calls_above, calls_left, from, is_end, size_above, size_left, stands_under, those_behind, up_of}
+use Rattle.html_forest.specs.declared.walk.Spot.{Spot}
 
-abbrev frame : Option (Bor QualName) → List ℕ → Frame
-frame name rest = record { name = name; rest = rest }
+-- LISTS
 
-below-push : (f : Forest) (calls : List Call) (frames : List Frame) (x : Frame) → calls_below f calls (frames ++ x ∷ []) ≡ calls_in f x (calls_below f calls frames)
-below-push f calls [] x = refl
-below-push f calls (y ∷ frames) x = below-push f (calls_in f y calls) frames x
+after-those : (n : ℕ) (xs : List ℕ) → after_in n xs ≡ first_of (those_behind n xs)
+after-those n [] = refl
+after-those n (x ∷ xs) = by (n == x) (after-those n xs)
+  where
+    by : (b : Bool) → after_in n xs ≡ first_of (those_behind n xs) → cond b (first_of xs) (after_in n xs) ≡ first_of (cond b xs (those_behind n xs))
+    by true rest = refl
+    by false rest = rest
 
-size-push : (f : Forest) (frames : List Frame) (x : Frame) → size_below f (frames ++ x ∷ []) ≡ size_below f frames + size_in f x
-size-push f [] x = omega arith
-size-push f (y ∷ frames) x = let rest = size-push f frames x in omega arith
+-- the next neighbour is the first after
+pub next-behind : (f : Forest) (n : ℕ) → next_under f n (parent_of f n) ≡ first_of (behind f n)
+next-behind f n = by (parent_of f n)
+  where
+    by : (o : Option ℕ) → next_under f n o ≡ first_of (behind_under f n o)
+    by None = refl
+    by (Some p) = after-those n (children_of f p)
 
--- a node in which others may stand is met: they come next
-pub inner-next : (f : Forest) → IsForest f → HasContents f → (name : Option (Bor QualName)) (n : ℕ) (ns : List ℕ) (next : Frame) (frames : List Frame)
-    → holds_children (data_of f n) ≡ true → next.rest ≡ inner_of f n → name_in next.name ≡ element_name (data_of f n)
-    → calls_left f (frame name (n ∷ ns)) frames ≡ first_calls (data_of f n) ++ calls_left f next (frames ++ frame name ns ∷ [])
-inner-next f is contents name n ns next frames holds inner named =
-    let behind = ended (name_in name) (calls_below f [] frames) in
-    ap (λ t. calls_before t behind) (trees-first f is contents n ns Nothing)
-    ∙ node-calls f (data_of f n) n (trees_of f ns) behind holds
-    ∙ rw (inner, named, below-push f [] frames (frame name ns)) refl
+-- what stands before a number in a list, it, and those after it
+split-at : (n : ℕ) (xs : List ℕ) → is_among n xs ≡ true → (done : List ℕ) × (done ++ n ∷ those_behind n xs ≡ xs)
+split-at n [] among = absurd cc
+split-at n (x ∷ xs) among = by (n == x) refl among (λ is. split-at n xs is)
+  where
+    by : (b : Bool) → (n == x) ≡ b → cond b true (is_among n xs) ≡ true → (is_among n xs ≡ true → (done : List ℕ) × (done ++ n ∷ those_behind n xs ≡ xs))
+        → (done : List ℕ) × (done ++ n ∷ cond b xs (those_behind n xs) ≡ x ∷ xs)
+    by true same is rest = ([], let it : n ≡ x = eqb-true n x same in ap (λ (m : ℕ). m ∷ xs) it)
+    by false other is rest = (x ∷ (rest is).0, ap (λ (ys : List ℕ). x ∷ ys) (rest is).1)
 
-pub inner-less : (f : Forest) → IsForest f → HasContents f → (name : Option (Bor QualName)) (n : ℕ) (ns : List ℕ) (next : Frame) (frames : List Frame)
-    → next.rest ≡ inner_of f n → size_left f next (frames ++ frame name ns ∷ []) < size_left f (frame name (n ∷ ns)) frames
-inner-less f is contents name n ns next frames inner =
-    let whole = weight-first f is contents n ns in
-    let pushed = size-push f frames (frame name ns) in
-    let same : weight f next.rest ≡ weight f (inner_of f n) = ap (weight f) inner in
-    omega arith
+among-split : (done : List ℕ) (n : ℕ) (rest : List ℕ) → is_among n (done ++ n ∷ rest) ≡ true
+among-split [] n rest = among-first n rest
+among-split (x ∷ done) n rest = among-later n x (done ++ n ∷ rest) (among-split done n rest)
 
--- any other node is met: what stands after it comes next
-pub leaf-next : (f : Forest) → IsForest f → HasContents f → (name : Option (Bor QualName)) (n : ℕ) (ns : List ℕ) (frames : List Frame)
-    → holds_children (data_of f n) ≡ false → calls_left f (frame name (n ∷ ns)) frames ≡ first_calls (data_of f n) ++ calls_left f (frame name ns) frames
-leaf-next f is contents name n ns frames holds =
-    let behind = ended (name_in name) (calls_below f [] frames) in
-    ap (λ t. calls_before t behind) (trees-first f is contents n ns Nothing) ∙ leaf-calls f (data_of f n) n (trees_of f ns) behind holds
+-- in a list without repeats
+behind-split : (done : List ℕ) (n : ℕ) (rest : List ℕ) → IsDistinct (done ++ n ∷ rest) → those_behind n (done ++ n ∷ rest) ≡ rest
+behind-split [] n rest distinct = rw (eq-eqb n n refl) refl
+behind-split (x ∷ done) n rest distinct = by (n == x) refl (behind-split done n rest distinct.1)
+  where
+    by : (b : Bool) → (n == x) ≡ b → those_behind n (done ++ n ∷ rest) ≡ rest → cond b (done ++ n ∷ rest) (those_behind n (done ++ n ∷ rest)) ≡ rest
+    by true same more =
+        let it : n ≡ x = eqb-true n x same in
+        let among : is_among x (done ++ n ∷ rest) ≡ true = rw (← it) (among-split done n rest) in
+        let apart = distinct.0 in
+        absurd cc
+    by false other more = more
 
-pub leaf-less : (f : Forest) → IsForest f → HasContents f → (name : Option (Bor QualName)) (n : ℕ) (ns : List ℕ) (frames : List Frame)
-    → size_left f (frame name ns) frames < size_left f (frame name (n ∷ ns)) frames
-leaf-less f is contents name n ns frames = let whole = weight-first f is contents n ns in omega arith
+ended-more : (name : Option QualName) (calls : List Call) → ended name calls ≡ ended name [] ++ calls
+ended-more None calls = refl
+ended-more (Some name) calls = refl
 
--- the calls of a node come first
-first-next : (f : Forest) → IsForest f → HasContents f → (name : Option (Bor QualName)) (n : ℕ) (ns : List ℕ) (frames : List Frame)
-    → (rest : List Call) × (calls_left f (frame name (n ∷ ns)) frames ≡ first_calls (data_of f n) ++ rest)
-first-next f is contents name n ns frames =
-    let behind = ended (name_in name) (calls_below f [] frames) in
-    let first = ap (λ t. calls_before t behind) (trees-first f is contents n ns Nothing) in
-    elim (cases_Bool (holds_children (data_of f n))) [
-      | inl holds ↦ (_, first ∙ node-calls f (data_of f n) n (trees_of f ns) behind holds)
-      | inr leaf ↦ (_, first ∙ leaf-calls f (data_of f n) n (trees_of f ns) behind leaf)
-    ]
+calls-append : (t : Trees) (calls : List Call) → calls_before t calls ≡ calls_before t [] ++ calls
+calls-append Nothing calls = refl
+calls-append (trees.Text text next) calls = ap (λ (cs : List Call). WriteText text ∷ cs) (calls-append next calls)
+calls-append (trees.Comment text next) calls = ap (λ (cs : List Call). WriteComment text ∷ cs) (calls-append next calls)
+calls-append (trees.ProcessingInstruction target text next) calls = ap (λ (cs : List Call). WriteProcessingInstruction target text ∷ cs) (calls-append next calls)
+calls-append (trees.Doctype name public_id system_id next) calls = ap (λ (cs : List Call). WriteDoctype name ∷ cs) (calls-append next calls)
+calls-append (trees.Element name attributes template kids next) calls =
+    ap (λ (cs : List Call). StartElem name attributes ∷ cs)
+    (ap (λ (cs : List Call). calls_before kids (EndElem name ∷ cs)) (calls-append next calls)
+    ∙ calls-append kids (EndElem name ∷ (calls_before next [] ++ calls))
+    ∙ sym (append_assoc (calls_before kids []) (EndElem name ∷ calls_before next []) calls)
+    ∙ ap (λ (cs : List Call). cs ++ calls) (sym (calls-append kids (EndElem name ∷ calls_before next []))))
 
--- a frame with nothing left ends
-pub end-next : (f : Forest) (name : Option (Bor QualName)) (frames : List Frame) → calls_left f (frame name []) frames ≡ ended (name_in name) (calls_below f [] frames)
-end-next f name frames = ap (λ t. calls_before t (ended (name_in name) (calls_below f [] frames))) (trees-none f Nothing)
+-- a walk that has not come to its end, with none left within a node
+pub goes-on : (at : Spot) → is_end at ≡ false → at.next ≡ None → at.depth ≡ suc (at.depth - 1)
+goes-on at goes none = by at.depth at.next goes none
+  where
+    by : (depth : ℕ) (next : Option ℕ) → ((depth == 0) && is_none next) ≡ false → next ≡ None → depth ≡ suc (depth - 1)
+    by zero None goes is = absurd cc
+    by zero (Some n) goes is = absurd cc
+    by (suc depth) next goes is = omega arith
 
-pub stopped_here : {S : Type 0} (refuses : Refuses S) (s : S) (calls : List Call) (fault : SerializeFault) → fault ≡ Memory → StopsBefore refuses s calls fault s
-stopped_here refuses s [] fault is = (is, refl)
-stopped_here refuses s (call ∷ calls) fault is = inl (is, refl)
+-- NEIGHBOURS IN A FOREST
 
--- the current frame, by what is left of it
-at_rest : (f : Forest) (current : Frame) (rest : List ℕ) (frames : List Frame) → current.rest ≡ rest → calls_left f current frames ≡ calls_left f (frame current.name rest) frames
-at_rest f current rest frames is = ap (λ (r : List ℕ). calls_left f (frame current.name r) frames) is
+module _ (f : Forest) (is_forest : IsForest f) (contents : HasContents f) where
+  -- from the first of the last children on, these are
+  from-first : (k : ℕ) (done rest : List ℕ) → done ++ rest ≡ children_of f k → from f (first_of rest) ≡ rest
+  from-first k done [] whole = refl
+  from-first k done (n ∷ rest) whole =
+      let parent : parent_of f n ≡ Some k = is_forest.one_parent k n (rw (← whole) (among-split done n rest)) in
+      ap (λ (xs : List ℕ). n ∷ xs) (rw (parent, ← whole) (behind-split done n rest (rw whole (is_forest.once k))))
 
-size_at_rest : (f : Forest) (current : Frame) (rest : List ℕ) (frames : List Frame) → current.rest ≡ rest → size_left f current frames ≡ size_left f (frame current.name rest) frames
-size_at_rest f current rest frames is = ap (λ (r : List ℕ). size_left f (frame current.name r) frames) is
+  within-first : (k : ℕ) (done rest : List ℕ) → done ++ rest ≡ children_of f k → IfSome (first_of rest) (λ n. is_among n (children_of f k) ≡ true)
+  within-first k done [] whole = tt
+  within-first k done (n ∷ rest) whole = rw (← whole) (among-split done n rest)
 
-module _ {S : Type 0} (step : Step S) (refuses : Refuses S) (f : Forest) (is_forest : IsForest f) (contents : HasContents f) (current : Frame) (frames : List Frame) (old : S) where
-  -- the call of a node is refused
-  pub refused-first : (n : ℕ) (ns : List ℕ) (frames' : List Frame) (new : S) (fault : SerializeFault) (result : Result (Option Frame) SerializeFault) → current.rest ≡ n ∷ ns
-      → IsErrAnd result (λ y. y ≡ fault) → Meets step refuses f n old (Err fault) new → Advances step refuses f old (calls_left f current frames) (size_left f current frames) result new frames'
-  refused-first n ns frames' new fault result is err met =
-      let p = err_from_is_err_and result err in
-      let rest = first-next f is_forest contents current.name n ns frames in
-      rw (p.1, p.2)
-      (record {
-        made = [];
-        left = met.0 ∷ rest.0;
-        reached = old;
-        parts = at_rest f current (n ∷ ns) frames is ∙ rest.1 ∙ ap (λ (calls : List Call). calls ++ rest.0) met.1.0;
-        ran = refl;
-        stopped = inr met.1.1;
-      })
+  split-behind : (k n : ℕ) → is_among n (children_of f k) ≡ true → (done : List ℕ) × (done ++ behind f n ≡ children_of f k)
+  split-behind k n among =
+      let parent = is_forest.one_parent k n among in
+      let parts = split-at n (children_of f k) among in
+      (parts.0 ++ n ∷ [], append_assoc parts.0 (n ∷ []) (behind f n) ∙ rw parent (parts.1))
 
-  -- a node in which others may stand was met
-  pub entered : (n : ℕ) (ns : List ℕ) (opened : Option Frame) (inside : Frame) (frames' : List Frame) (new : S) → current.rest ≡ n ∷ ns
-      → Meets step refuses f n old (Ok opened) new → opened ≡ Some inside → frames' ≡ frames ++ frame current.name ns ∷ []
-      → Advances step refuses f old (calls_left f current frames) (size_left f current frames) (Ok (Some inside)) new frames'
-  entered n ns opened inside frames' new is meets opens pushed =
-      let met = rw opens at meets in (
-        (
-          first_calls (data_of f n),
-          (
-            at_rest f current (n ∷ ns) frames is ∙ inner-next f is_forest contents current.name n ns inside frames met.0 met.2 met.3
-                ∙ ap (λ (fs : List Frame). first_calls (data_of f n) ++ calls_left f inside fs) (sym pushed),
-            met.1,
-          ),
-        ),
-        rw (pushed, size_at_rest f current (n ∷ ns) frames is) (inner-less f is_forest contents current.name n ns inside frames met.2),
-      )
+  from-behind : (k n : ℕ) → is_among n (children_of f k) ≡ true → from f (first_of (behind f n)) ≡ behind f n
+  from-behind k n among = let parts = split-behind k n among in from-first k parts.0 (behind f n) parts.1
 
-  -- there was no memory to keep the frame around it
-  pub entered-refused : (n : ℕ) (ns : List ℕ) (opened : Option Frame) (inside : Frame) (frames' : List Frame) (new : S) (result : Result (Option Frame) SerializeFault) → current.rest ≡ n ∷ ns
-      → Meets step refuses f n old (Ok opened) new → opened ≡ Some inside → IsErrAnd result (λ y. y ≡ Memory)
-      → Advances step refuses f old (calls_left f current frames) (size_left f current frames) result new frames'
-  entered-refused n ns opened inside frames' new result is meets opens err =
-      let met = rw opens at meets in
-      let p = err_from_is_err_and result err in
-      let left = calls_left f inside (frames ++ frame current.name ns ∷ []) in
-      rw (p.1)
-      (record {
-        made = first_calls (data_of f n);
-        left = left;
-        reached = new;
-        parts = at_rest f current (n ∷ ns) frames is ∙ inner-next f is_forest contents current.name n ns inside frames met.0 met.2 met.3;
-        ran = met.1;
-        stopped = stopped_here refuses new left p.0 p.2;
-      })
+  within-behind : (k n : ℕ) → is_among n (children_of f k) ≡ true → IfSome (first_of (behind f n)) (λ m. is_among m (children_of f k) ≡ true)
+  within-behind k n among = let parts = split-behind k n among in within-first k parts.0 (behind f n) parts.1
 
-  -- any other node was met
-  pub passed : (n : ℕ) (ns : List ℕ) (opened : Option Frame) (new : S) → current.rest ≡ n ∷ ns → Meets step refuses f n old (Ok opened) new → opened ≡ None
-      → Advances step refuses f old (calls_left f current frames) (size_left f current frames) (Ok (Some (frame current.name ns))) new frames
-  passed n ns opened new is meets opens =
-      let met = rw opens at meets in (
-        (first_calls (data_of f n), (at_rest f current (n ∷ ns) frames is ∙ leaf-next f is_forest contents current.name n ns frames met.0, met.1)),
-        rw (size_at_rest f current (n ∷ ns) frames is) (leaf-less f is_forest contents current.name n ns frames),
-      )
+  -- what is in a list of children is not the contents of a template
+  no_contents : (k n : ℕ) → is_among n (children_of f k) ≡ true → is_contents (data_of f n) ≡ false
+  no_contents k n among =
+      elim (cases_Bool (is_contents (data_of f n))) [
+        | inl held ↦ absurd (let some = is_forest.one_parent k n among in let none = is_forest.contents_stay n held in cc)
+        | inr other ↦ other
+      ]
 
-  -- the end of a frame's element is refused
-  pub refused-end : (name : Bor QualName) (frames' : List Frame) (new : S) (fault : SerializeFault) (result : Result (Option Frame) SerializeFault) → current.rest ≡ [] → current.name ≡ Some name
-      → IsErrAnd result (λ y. y ≡ fault) → refuses old (EndElem name.now) fault new → Advances step refuses f old (calls_left f current frames) (size_left f current frames) result new frames'
-  refused-end name frames' new fault result is named err refused =
-      let p = err_from_is_err_and result err in
-      rw (p.1, p.2)
-      (record {
-        made = [];
-        left = EndElem name.now ∷ calls_below f [] frames;
-        reached = old;
-        parts = at_rest f current [] frames is ∙ end-next f current.name frames ∙ ap (λ (o : Option (Bor QualName)). ended (name_in o) (calls_below f [] frames)) named;
-        ran = refl;
-        stopped = inr refused;
-      })
-
-  -- a frame has ended, and the one around it comes next, if there is one
-  pub closed : (frames' : List Frame) (next : Option Frame) (new : S) → current.rest ≡ [] → run step old (ended (name_in current.name) []) ≡ Ok new
-      → frames ≡ frames' ++ option_to_list next → (next ≡ None → frames' ≡ []) → Advances step refuses f old (calls_left f current frames) (size_left f current frames) (Ok next) new frames'
-  closed frames' None new is ran popped last =
-      let none : frames ≡ [] = popped ∙ append-nil frames' ∙ last refl in
-      rw (at_rest f current [] frames is, end-next f current.name frames, none) ran
-  closed frames' (Some next) new is ran popped last = (
-    (
-      ended (name_in current.name) [],
-      (
-        at_rest f current [] frames is ∙ end-next f current.name frames
-            ∙ ap (ended (name_in current.name)) (ap (calls_below f []) popped ∙ below-push f [] frames' next)
-            ∙ split (name_in current.name) (calls_left f next frames'),
-        ran,
-      ),
-    ),
-    (let whole : size_below f frames ≡ size_below f frames' + size_in f next = ap (size_below f) popped ∙ size-push f frames' next in omega arith),
-  )
+  -- a node stands in the one in which it is walked
+  stands-in : (p n : ℕ) → is_contents (data_of f p) ≡ false → is_among n (inner_of f p) ≡ true → stands_under f n (parent_of f n) ≡ p
+  stands-in p n plain among = by (template_of (data_of f p)) refl among
     where
-      split : (name : Option QualName) (calls : List Call) → ended name calls ≡ ended name [] ++ calls
-      split None calls = refl
-      split (Some name) calls = refl
+      by : (b : Bool) → template_of (data_of f p) ≡ b → is_among n (children_of f (cond b (p + 1) p)) ≡ true → stands_under f n (parent_of f n) ≡ p
+      by true template is =
+          let parent = is_forest.one_parent (p + 1) n is in
+          let held : data_of f (p + 1) ≡ tree.NodeData.Contents = contents.follow p template in
+          let back : (p + 1) - 1 ≡ p = omega arith in
+          rw (parent, held) back
+      by false template is = let parent = is_forest.one_parent p n is in rw (parent, plain) refl
 
--- the end of a frame's element was called, if it has one
-pub ran-end : {S : Type 0} (step : Step S) (name : Option (Bor QualName)) (end : Bor QualName) (old new : S) → name ≡ Some end → step old (EndElem end.now) ≡ Ok new → run step old (ended (name_in name) []) ≡ Ok new
-ran-end step name end old new named ends = rw (named, ends) refl
+  -- PLACES OF A WALK
 
-pub ran-none : {S : Type 0} (step : Step S) (name : Option (Bor QualName)) (old : S) → name ≡ None → run step old (ended (name_in name) []) ≡ Ok old
-ran-none step name old none = rw none refl
+  up-is : (root depth parent n : ℕ) → IsBelow f root depth parent → is_among n (inner_of f parent) ≡ true → up_of f root depth n ≡ parent
+  unfolding IsBelow
+  up-is root zero parent n below among = sym below
+  up-is root (suc depth) parent n below among =
+      let more : (suc depth == 0) ≡ false = ne_eqb (suc depth) 0 (omega arith) in
+      rw more (stands-in parent n (no_contents _ parent below.0) among)
+
+  -- so deep only as there are levels
+  levels-left : (root depth n l : ℕ) → node_count f ≡ suc l → IsBelow f root (suc depth) n → (k : ℕ) × ((k + depth ≡ l) × Within f k n)
+  unfolding IsBelow
+  levels-left root zero n l count below =
+      let up : up_of f root 0 n ≡ root = below.1 in
+      (l, (omega arith, inner-within f is_forest contents l count root n (rw up at below.0)))
+  levels-left root (suc depth) n l count below =
+      let outer = levels-left root depth (up_of f root (suc depth) n) l count below.1 in
+      by outer.0 outer.1.0 outer.1.1
+    where
+      by : (k : ℕ) → k + depth ≡ l → Within f k (up_of f root (suc depth) n) → (k : ℕ) × ((k + suc depth ≡ l) × Within f k n)
+      by zero sum within = absurd within
+      by (suc k) sum within = (k, (omega (arith, sum), within n below.0))
+
+  pub depth-below : (root depth n : ℕ) → IsBelow f root depth n → depth < node_count f
+  depth-below root zero n below = is_forest.document
+  depth-below root (suc depth) n below = by (node_count f) refl is_forest.document
+    where
+      by : (count : ℕ) → node_count f ≡ count → 0 < count → suc depth < count
+      by zero is some = absurd (omega arith)
+      by (suc l) is some = let left = levels-left root depth n l is below in by_left left.0 left.1.0 left.1.1
+        where
+          by_left : (k : ℕ) → k + depth ≡ l → Within f k n → suc depth < suc l
+          by_left zero sum within = absurd within
+          by_left (suc k) sum within = omega (arith, sum)
+
+  -- THE CALLS OF A NODE
+
+  calls-first : (n : ℕ) (ns : List ℕ) (rest : List Call) → holds_children (data_of f n) ≡ true
+      → calls_before (trees_of f (n ∷ ns)) rest ≡ first_calls (data_of f n) ++ calls_before (trees_of f (inner_of f n)) (ended (element_name (data_of f n)) (calls_before (trees_of f ns) rest))
+  calls-first n ns rest holds = ap (λ t. calls_before t rest) (trees-first f is_forest contents n ns Nothing) ∙ node-calls f (data_of f n) n (trees_of f ns) rest holds
+
+  calls-leaf : (n : ℕ) (ns : List ℕ) (rest : List Call) → holds_children (data_of f n) ≡ false → calls_before (trees_of f (n ∷ ns)) rest ≡ first_calls (data_of f n) ++ calls_before (trees_of f ns) rest
+  calls-leaf n ns rest holds = ap (λ t. calls_before t rest) (trees-first f is_forest contents n ns Nothing) ∙ leaf-calls f (data_of f n) n (trees_of f ns) rest holds
+
+  -- its own come first
+  calls-some : (n : ℕ) (ns : List ℕ) (rest : List Call) → (more : List Call) × (calls_before (trees_of f (n ∷ ns)) rest ≡ first_calls (data_of f n) ++ more)
+  calls-some n ns rest =
+      elim (cases_Bool (holds_children (data_of f n))) [
+        | inl holds ↦ (_, calls-first n ns rest holds)
+        | inr leaf ↦ (_, calls-leaf n ns rest leaf)
+      ]
+
+  -- TURNS
+
+  abbrev spot : ℕ → ℕ → Option ℕ → Spot
+  spot parent depth next = record { parent = parent; depth = depth; next = next }
+
+  pub first-spot : (root : ℕ) → IsSpot f root (spot root 0 (first_of (inner_of f root)))
+  unfolding IsBelow
+  first-spot root = record { below = refl; within = within-first _ [] (inner_of f root) refl }
+
+  -- nothing was walked yet
+  pub first-left : (root : ℕ) → calls_left f root (spot root 0 (first_of (inner_of f root))) ≡ calls_of (trees_of f (inner_of f root))
+  unfolding calls_above
+  first-left root = ap (λ ns. calls_of (trees_of f ns)) (from-first _ [] (inner_of f root) refl)
+
+  -- all was
+  pub end-left : (root : ℕ) (at : Spot) → is_end at ≡ true → calls_left f root at ≡ []
+  unfolding calls_above
+  end-left root at end = by at.depth at.next end
+    where
+      by : (depth : ℕ) (next : Option ℕ) → is_end (spot at.parent depth next) ≡ true → calls_before (trees_of f (from f next)) (calls_above f root depth at.parent) ≡ []
+      by zero None is = ap (λ t. calls_of t) (trees-none f Nothing)
+      by zero (Some n) is = absurd cc
+      by (suc depth) next is = absurd (let more : (suc depth == 0) ≡ false = ne_eqb (suc depth) 0 (omega arith) in let none = rw more at is in cc)
+
+  module _ {S : Type 0} (step : Step S) (refuses : Refuses S) (root : ℕ) (at : Spot) (is_spot : IsSpot f root at) (old new : S) where
+    -- the next node was met, and others stand in it
+    pub entered : (n : ℕ) (holds : Bool) → at.next ≡ Some n → Meets step refuses f n old (Ok holds) new → holds ≡ true
+        → Advances step refuses f root old at (Ok (spot n (at.depth + 1) (first_of (inner_of f n)))) new
+    unfolding calls_above size_above IsBelow
+    entered n holds next met opens =
+        let among : is_among n (inner_of f at.parent) ≡ true = rw next at is_spot.within in
+        let up = up-is root at.depth at.parent n is_spot.below among in
+        let inner : from f (first_of (inner_of f n)) ≡ inner_of f n = from-first _ [] (inner_of f n) refl in
+        let rest = calls_above f root at.depth at.parent in
+        let deep : at.depth + 1 ≡ suc at.depth = omega arith in
+        let inside = ended (element_name (data_of f n)) (calls_before (trees_of f (behind f n)) rest) in
+        let first : calls_left f root at ≡ first_calls (data_of f n) ++ calls_before (trees_of f (inner_of f n)) inside = rw next (calls-first n (behind f n) rest (sym met.0 ∙ opens)) in
+        let later : calls_left f root (spot n (at.depth + 1) (first_of (inner_of f n))) ≡ calls_before (trees_of f (inner_of f n)) inside = rw (deep, up, inner) refl in (
+          record { below = rw (deep, up) (among, is_spot.below); within = within-first _ [] (inner_of f n) refl },
+          (
+            first_calls (data_of f n),
+            (first ∙ ap (λ (calls : List Call). first_calls (data_of f n) ++ calls) (sym later), met.1),
+          ),
+          (let whole = weight-first f is_forest contents n (behind f n) in rw (deep, up, inner, next) (omega (arith, whole))),
+        )
+
+    -- it was met, and none do
+    pub passed : (n : ℕ) (holds : Bool) → at.next ≡ Some n → Meets step refuses f n old (Ok holds) new → holds ≡ false
+        → Advances step refuses f root old at (Ok (spot at.parent at.depth (first_of (behind f n)))) new
+    passed n holds next met opens =
+        let among : is_among n (inner_of f at.parent) ≡ true = rw next at is_spot.within in
+        let rest = from-behind _ n among in
+        let above = calls_above f root at.depth at.parent in
+        let first : calls_left f root at ≡ first_calls (data_of f n) ++ calls_before (trees_of f (behind f n)) above = rw next (calls-leaf n (behind f n) above (sym met.0 ∙ opens)) in (
+          record { below = is_spot.below; within = within-behind _ n among },
+          (
+            first_calls (data_of f n),
+            (first ∙ ap (λ (ns : List ℕ). first_calls (data_of f n) ++ calls_before (trees_of f ns) above) (sym rest), met.1),
+          ),
+          (let whole = weight-first f is_forest contents n (behind f n) in rw (rest, next) (omega (arith, whole))),
+        )
+
+    -- its call was refused
+    pub refused : (n : ℕ) (fault : SerializeFault) (result : Result Spot SerializeFault) → at.next ≡ Some n → IsErrAnd result (λ y. y ≡ fault)
+        → Meets step refuses f n old (Err fault) new → Advances step refuses f root old at result new
+    refused n fault result next err met =
+        let p = err_from_is_err_and result err in
+        let more = calls-some n (behind f n) (calls_above f root at.depth at.parent) in
+        let first : calls_left f root at ≡ first_calls (data_of f n) ++ more.0 = rw next more.1 in
+        rw (p.1, p.2)
+        (record {
+          made = [];
+          left = met.0 ∷ more.0;
+          reached = old;
+          parts = first ∙ ap (λ (calls : List Call). calls ++ more.0) met.1.0;
+          ran = refl;
+          stopped = inr met.1.1;
+        })
+
+    -- the node in which none is left has ended
+    pub left-behind : (depth : ℕ) → at.next ≡ None → at.depth ≡ suc depth → run step old (ended (element_name (data_of f at.parent)) []) ≡ Ok new
+        → Advances step refuses f root old at (Ok (spot (up_of f root depth at.parent) depth (first_of (behind f at.parent)))) new
+    unfolding calls_above size_above IsBelow
+    left-behind depth next deep ends =
+        let below = rw deep at is_spot.below in
+        let rest = from-behind _ at.parent below.0 in
+        let name = element_name (data_of f at.parent) in
+        let above = calls_above f root depth (up_of f root depth at.parent) in
+        let more = calls_before (trees_of f (behind f at.parent)) above in
+        let first : calls_left f root at ≡ ended name more = rw (next, deep) (ap (λ t. calls_before t (ended name more)) (trees-none f Nothing)) in (
+          record { below = below.1; within = within-behind _ at.parent below.0 },
+          (
+            ended name [],
+            (first ∙ ended-more name more ∙ ap (λ (ns : List ℕ). ended name [] ++ calls_before (trees_of f ns) above) (sym rest), ends),
+          ),
+          rw (rest, next, deep) (omega arith),
+        )
+
+    -- its end was refused
+    pub refused-end : (depth : ℕ) (fault : SerializeFault) (result : Result Spot SerializeFault) → at.next ≡ None → at.depth ≡ suc depth → IsErrAnd result (λ y. y ≡ fault)
+        → (call : Call) × ((ended (element_name (data_of f at.parent)) [] ≡ call ∷ []) × refuses old call fault new) → Advances step refuses f root old at result new
+    unfolding calls_above
+    refused-end depth fault result next deep err met =
+        let p = err_from_is_err_and result err in
+        let name = element_name (data_of f at.parent) in
+        let more = calls_before (trees_of f (behind f at.parent)) (calls_above f root depth (up_of f root depth at.parent)) in
+        let first : calls_left f root at ≡ ended name more = rw (next, deep) (ap (λ t. calls_before t (ended name more)) (trees-none f Nothing)) in
+        rw (p.1, p.2)
+        (record {
+          made = [];
+          left = met.0 ∷ more;
+          reached = old;
+          parts = first ∙ ended-more name more ∙ ap (λ (calls : List Call). calls ++ more) met.1.0;
+          ran = refl;
+          stopped = inr met.1.1;
+        })
+
+  -- A NODE ALONE
+
+  module _ {S : Type 0} (step : Step S) (refuses : Refuses S) (n : ℕ) (old new : S) where
+    calls-alone : holds_children (data_of f n) ≡ true → calls_of (trees_of f (n ∷ [])) ≡ first_calls (data_of f n) ++ (calls_of (trees_of f (inner_of f n)) ++ ended (element_name (data_of f n)) [])
+    calls-alone holds =
+        let name = element_name (data_of f n) in
+        calls-first n [] [] holds
+        ∙ ap (λ t. first_calls (data_of f n) ++ calls_before (trees_of f (inner_of f n)) (ended name (calls_before t []))) (trees-none f Nothing)
+        ∙ ap (λ (cs : List Call). first_calls (data_of f n) ++ cs) (calls-append (trees_of f (inner_of f n)) (ended name []))
+
+    -- a node with others in it was met
+    pub node-met : (holds : Bool) → Meets step refuses f n old (Ok holds) new → holds ≡ true
+        → IsAhead step old (calls_of (trees_of f (n ∷ []))) (calls_of (trees_of f (inner_of f n)) ++ ended (element_name (data_of f n)) []) new
+    node-met holds met opens = (first_calls (data_of f n), (calls-alone (sym met.0 ∙ opens), met.1))
+
+    -- a node with none in it was met
+    pub node-leaf : (holds : Bool) → Meets step refuses f n old (Ok holds) new → holds ≡ false → run step old (calls_of (trees_of f (n ∷ []))) ≡ Ok new
+    node-leaf holds met opens =
+        let whole : calls_of (trees_of f (n ∷ [])) ≡ first_calls (data_of f n) =
+        calls-leaf n [] [] (sym met.0 ∙ opens) ∙ ap (λ t. first_calls (data_of f n) ++ calls_of t) (trees-none f Nothing) ∙ append-nil (first_calls (data_of f n)) in
+        ap (run step old) whole ∙ met.1
+
+    -- its call was refused
+    pub node-refused : (fault : SerializeFault) → Meets step refuses f n old (Err fault) new → Stops step refuses old (calls_of (trees_of f (n ∷ []))) fault new
+    node-refused fault met =
+        let rest = calls-some n [] [] in
+        record { made = []; left = met.0 ∷ rest.0; reached = old; parts = rest.1 ∙ ap (λ (calls : List Call). calls ++ rest.0) met.1.0; ran = refl; stopped = inr met.1.1 }
+
+-- SEVERAL TURNS
 
 run-append : {S : Type 0} (step : Step S) (made rest : List Call) (s m : S) → run step s made ≡ Ok m → run step s (made ++ rest) ≡ run step m rest
 run-append {S = S} step [] rest s m is = let same : s ≡ m = cc in ap (λ x. run step x rest) same
@@ -198,19 +343,26 @@ run-append {S = S} step (call ∷ made) rest s m is = by_step (step s call) is (
     by_step (Ok next) is more = more next is
     by_step (Err fault) is more = absurd cc
 
-module _ {S : Type 0} (step : Step S) (refuses : Refuses S) (f : Forest) where
-  -- a turn more
-  pub ahead-more : (old mid new : S) (calls left : List Call) (size : ℕ) (next : Option Frame) (frames : List Frame) → IsAhead step old calls left mid → Advances step refuses f mid left size (Ok next) new frames
-      → IsAhead step old calls (calls_ahead f next frames) new
-  ahead-more old mid new calls left size None frames before turn =
-      (before.0 ++ left, (before.1.0 ∙ sym (append-nil (before.0 ++ left)), run-append step before.0 left old mid before.1.1 ∙ turn))
-  ahead-more old mid new calls left size (Some frame) frames before turn = (
-    before.0 ++ turn.0.0,
+module _ {S : Type 0} (step : Step S) (refuses : Refuses S) where
+  -- no call was made yet
+  pub ahead-none : (s : S) (calls left : List Call) → left ≡ calls → IsAhead step s calls left s
+  ahead-none s calls left is = ([], (sym is, refl))
+
+  -- some more were made
+  pub ahead-more : (old mid new : S) (calls left rest : List Call) → IsAhead step old calls left mid → IsAhead step mid left rest new → IsAhead step old calls rest new
+  ahead-more old mid new calls left rest before turn = (
+    before.0 ++ turn.0,
     (
-      before.1.0 ∙ ap (λ (cs : List Call). before.0 ++ cs) turn.0.1.0 ∙ sym (append_assoc before.0 turn.0.0 (calls_left f frame frames)),
-      run-append step before.0 turn.0.0 old mid before.1.1 ∙ turn.0.1.1,
+      before.1.0 ∙ ap (λ (cs : List Call). before.0 ++ cs) turn.1.0 ∙ sym (append_assoc before.0 turn.0 rest),
+      run-append step before.0 turn.0 old mid before.1.1 ∙ turn.1.1,
     ),
   )
+
+  -- all were made
+  pub ahead-all : (old new : S) (calls left : List Call) → IsAhead step old calls left new → left ≡ [] → run step old calls ≡ Ok new
+  ahead-all old new calls left before none =
+      let whole : calls ≡ before.0 = before.1.0 ∙ ap (λ (cs : List Call). before.0 ++ cs) none ∙ append-nil before.0 in
+      ap (run step old) whole ∙ before.1.1
 
   -- a turn at which the walk stopped
   pub ahead-stopped : (old mid new : S) (calls left : List Call) (fault : SerializeFault) → IsAhead step old calls left mid → Stops step refuses mid left fault new → Stops step refuses old calls fault new
@@ -227,32 +379,32 @@ module _ {S : Type 0} (step : Step S) (refuses : Refuses S) (f : Forest) where
   pub walks-stopped : (old new : S) (calls : List Call) (fault : SerializeFault) (result : Result (Unit {0}) SerializeFault) → IsErrAnd result (λ y. y ≡ fault) → Stops step refuses old calls fault new → Walks step refuses old calls result new
   walks-stopped old new calls fault result err stops = let p = err_from_is_err_and result err in rw (p.1, p.2) stops
 
-  -- a walk after calls that were made
-  pub walks-behind : (old mid new : S) (calls left : List Call) (result : Result (Unit {0}) SerializeFault) → IsAhead step old calls left mid → Walks step refuses mid left result new → Walks step refuses old calls result new
-  walks-behind old mid new calls left (Ok answer) before walks = ap (run step old) before.1.0 ∙ run-append step before.0 left old mid before.1.1 ∙ walks
-  walks-behind old mid new calls left (Err fault) before walks = ahead-stopped old mid new calls left fault before walks
+  -- the first of the calls that are left were made
+  pub ahead-first : (old mid new : S) (calls first rest : List Call) → IsAhead step old calls (first ++ rest) mid → run step mid first ≡ Ok new → IsAhead step old calls rest new
+  ahead-first old mid new calls first rest before ran = ahead-more old mid new calls (first ++ rest) rest before (first, (refl, ran))
 
-  -- a node with others in it was met alone
-  pub ahead-met : IsForest f → HasContents f → (n : ℕ) (opened : Option Frame) (inside : Frame) (old new : S) → Meets step refuses f n old (Ok opened) new → opened ≡ Some inside
-      → IsAhead step old (calls_of (trees_of f (n ∷ []))) (calls_left f inside []) new
-  ahead-met is contents n opened inside old new meets opens =
-      let met = rw opens at meets in (
-        first_calls (data_of f n),
-        (
-          inner-next f is contents None n [] inside [] met.0 met.2 met.3 ∙ ap (λ (cs : List Call). first_calls (data_of f n) ++ calls_in f inside cs) (end-next f None []),
-          met.1,
-        ),
-      )
+  -- a walk stopped among the first of the calls that are left
+  stops-longer : (old new : S) (first rest : List Call) (fault : SerializeFault) → Stops step refuses old first fault new → Stops step refuses old (first ++ rest) fault new
+  stops-longer old new first rest fault stops = record {
+    made = stops.made;
+    left = stops.left ++ rest;
+    reached = stops.reached;
+    parts = ap (λ (calls : List Call). calls ++ rest) stops.parts ∙ append_assoc stops.made stops.left rest;
+    ran = stops.ran;
+    stopped = before stops.left rest stops.stopped;
+  }
+    where
+      before : (left rest : List Call) → StopsBefore refuses stops.reached left fault new → StopsBefore refuses stops.reached (left ++ rest) fault new
+      before [] [] stopped = stopped
+      before [] (call ∷ rest) stopped = inl stopped
+      before (call ∷ left) rest stopped = stopped
 
-  -- a node with none in it was met
-  pub walks-leaf : IsForest f → HasContents f → (n : ℕ) (opened : Option Frame) (old new : S) → Meets step refuses f n old (Ok opened) new → opened ≡ None
-      → run step old (calls_of (trees_of f (n ∷ []))) ≡ Ok new
-  walks-leaf is contents n opened old new meets opens =
-      let met = rw opens at meets in
-      ap (run step old) (leaf-next f is contents None n [] [] met.0 ∙ ap (λ (cs : List Call). first_calls (data_of f n) ++ cs) (end-next f None []) ∙ append-nil (first_calls (data_of f n))) ∙ met.1
+  pub first-stopped : (old mid new : S) (calls first rest : List Call) (fault : SerializeFault) → IsAhead step old calls (first ++ rest) mid → Stops step refuses mid first fault new → Stops step refuses old calls fault new
+  first-stopped old mid new calls first rest fault before stops = ahead-stopped old mid new calls (first ++ rest) fault before (stops-longer mid new first rest fault stops)
 
-  -- its call was refused
-  pub stops-first : IsForest f → HasContents f → (n : ℕ) (old new : S) (fault : SerializeFault) → Meets step refuses f n old (Err fault) new → Stops step refuses old (calls_of (trees_of f (n ∷ []))) fault new
-  stops-first is contents n old new fault met =
-      let rest = first-next f is contents None n [] [] in
-      record { made = []; left = met.0 ∷ rest.0; reached = old; parts = rest.1 ∙ ap (λ (calls : List Call). calls ++ rest.0) met.1.0; ran = refl; stopped = inr met.1.1 }
+  -- a walk whose last call is the end of an element
+  pub walks-ended : (old mid new : S) (calls : List Call) (name : Option QualName) (result : Result (Unit {0}) SerializeFault) → IsAhead step old calls (ended name []) mid
+      → IsEnded step refuses name mid result new → Walks step refuses old calls result new
+  walks-ended old mid new calls name (Ok answer) before ends = ap (run step old) before.1.0 ∙ run-append step before.0 (ended name []) old mid before.1.1 ∙ ends
+  walks-ended old mid new calls name (Err fault) before ends =
+      ahead-stopped old mid new calls (ended name []) fault before (record { made = []; left = ends.0 ∷ []; reached = mid; parts = ends.1.0; ran = refl; stopped = inr ends.1.1 })

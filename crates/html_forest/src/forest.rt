@@ -1,5 +1,5 @@
 //! A forest of nodes in a vector.
-ghost use Rattle.std.specs.Prelude.{◌≡◌, ◌≤◌, ℕ, IsSome, IfSome, IfOk, IfErr, OnOk, OnErr, None, Some, true, false, codes, is_some, nat_lt};
+ghost use Rattle.std.specs.Prelude.{◌≡◌, ◌≤◌, ◌<◌, ◌^◌, ℕ, IsSome, IfSome, IfNone, IfOk, IfErr, OnOk, OnErr, None, Some, true, false, codes, is_some, nat_lt};
 ghost use Rattle.markup.specs.declared.fault.ParseFault.TheVariants.{Memory};
 ghost use Rattle.html_forest.specs.Views.{contents_in, data_view, joined_if, place_view};
 
@@ -45,7 +45,7 @@ impl Forest {
     ghost use Rattle.markup.specs.Named.{HasContents, IsOrdinary};
     ghost use Rattle.markup.specs.Forest.NodeData.{Contents, Doctype, Element, Text as TextNode};
     ghost use Rattle.html_forest.specs.Links.{first_of, next_under, previous_under};
-    ghost use Rattle.markup.specs.Forest.{IsForest, IsLoose, IsPlace, MayPut, children_of, contents_of, data_if, data_of, empty_forest, last_of, node_count, parent_at, parent_of, place_before, place_near, previous_at, put, put_child, put_new, put_text, text_of, with_node};
+    ghost use Rattle.markup.specs.Forest.{IsForest, IsLoose, IsPlace, MayPut, children_of, contents_of, data_if, data_of, element_name, empty_forest, is_contents, last_of, node_count, parent_at, parent_of, place_before, place_near, previous_at, put, put_child, put_new, put_text, text_of, with_node};
 
     /// A document with nothing in it, in no quirks mode and with no error. It grows in the memory of `alloc`.
     pub fn new(alloc: Global) -> Result<Forest, ParseFault>
@@ -160,6 +160,31 @@ impl Forest {
         }
     }
 
+    /// Whether a node is the contents of a template.
+    pub(crate) fn is_contents(&self, id: NodeId) -> bool
+        ensures { result ≡ is_contents (data_of self.now id) }
+    {
+        match self.nodes.get(id.number()) {
+            Some(node) => matches!(node.entry, Entry::Contents),
+            None => false,
+        }
+    }
+
+    /// The name of an element; nothing for other nodes.
+    pub(crate) fn name(&self, id: NodeId) -> Option<&QualName>
+        ensures named { IfSome result (λ name. element_name (data_of self.now id) ≡ Some name.now) }
+        ensures unnamed { IfNone result (element_name (data_of self.now id) ≡ None) }
+    {
+        match self.nodes.get(id.number()) {
+            Some(node) => match &node.entry {
+                Entry::Element { name, .. } => Some(self.store.name(*name)),
+                Entry::OwnElement { element, .. } => Some(&element.name),
+                _ => None,
+            },
+            None => None,
+        }
+    }
+
     /// The quirks mode that was set last, or no quirks mode.
     pub fn quirks(&self) -> QuirksMode
         ensures { result ≡ self.now.quirks }
@@ -174,12 +199,14 @@ impl Forest {
         self.errors
     }
 
-    /// What every forest keeps: it is a tree, and the contents of a template follow it. Does nothing: it is a law, for whoever walks one.
+    /// What every forest keeps: it is a tree, and the contents of a template follow it; and its nodes can be counted. Does
+    /// nothing: it is a law, for whoever walks one.
     pub fn keeps(&self)
         ensures is_forest { IsForest self.now }
         ensures contents { HasContents self.now }
+        ensures count { node_count self.now < 2 ^ 64 }
     {
-        let _nodes = &self.nodes;
+        let _count = self.nodes.len();
     }
 
     /// Whether the document is plain, so that its written text is read back as it is: the plain grammar has its tree. The walk

@@ -1,45 +1,43 @@
-use Rattle.std.proofs.Common.{◌≡◌, ◌∙◌, ◌-◌, ℕ, [], None, ap, take}
-use Rattle.html_forest.proofs.Walked.{closed, entered, entered-refused, passed, ran-end, ran-none, refused-end, refused-first}
+use Rattle.std.proofs.Common.{◌≡◌, ◌∙◌, ◌<◌, ◌-◌, suc, arith}
+use Rattle.markup.specs.Forest.{node_count}
+use Rattle.html_forest.proofs.Walked.{depth-below, entered, goes-on, left-behind, next-behind, passed, refused, refused-end}
 use Rattle.html_forest.proofs.walk.advance.Goals as goal
-use Rattle.html_forest.proofs.walk.advance.Goals.{in-Some-name+in_ok-end_elem-in-None, in_default}
 
-pub returns-in_err-inside-in-Some-clause-advances : goal.returns-in_err-inside-in-Some-clause-advances
-returns-in_err-inside-in-Some-clause-advances g c =
-    refused-first g.S.Serializer.step g.S.Serializer.refuses c.args.forest.now c.requires.is_forest c.requires.contents c.args.current c.args.stack.now.items (g.S.Serializer.view c.args.serializer.now)
-    c.in-Some.id c.next.new.self c.args.stack.now.items (g.S.Serializer.view c.meet.new.serializer) c.in_err-inside-in-Some.field-0.0 c.from_residual.result c.in-Some.ensures.steps c.from_residual.ensures.1 c.in_err-inside-in-Some.ensures.meets
+pub overflow_add-result : goal.overflow_add-result
+overflow_add-result g c =
+    let less : c.args.spot.depth < node_count c.args.forest.now = depth-below c.args.forest.now c.requires.is_forest c.requires.contents c.args.root c.args.spot.depth c.args.spot.parent c.requires.spot.below in
+    let count = c.requires.count in
+    omega arith
 
-pub returns-in_err-push-in-Some-2-clause-advances : goal.returns-in_err-push-in-Some-2-clause-advances
-returns-in_err-push-in-Some-2-clause-advances g c =
-    entered-refused g.S.Serializer.step g.S.Serializer.refuses c.args.forest.now c.requires.is_forest c.requires.contents c.args.current c.args.stack.now.items (g.S.Serializer.view c.args.serializer.now)
-    c.in-Some.id c.next.new.self c.in_ok-inside-in-Some.field-0 c.in-Some-2.inside c.push.new.self.items (g.S.Serializer.view c.meet.new.serializer) c.from_residual-in_err-push-in-Some-2.result c.in-Some.ensures.steps c.in_ok-inside-in-Some.ensures.meets c.in-Some-2.is c.from_residual-in_err-push-in-Some-2.ensures.1
+pub overflow_sub-depth : goal.overflow_sub-depth
+overflow_sub-depth g c =
+    let deep : c.args.spot.depth ≡ suc (c.args.spot.depth - 1) = goes-on c.args.spot c.requires.goes_on c.in-None.is in
+    omega arith
 
-pub returns-in_ok-push-in-Some-2-clause-advances : goal.returns-in_ok-push-in-Some-2-clause-advances
-returns-in_ok-push-in-Some-2-clause-advances g c =
-    entered g.S.Serializer.step g.S.Serializer.refuses c.args.forest.now c.requires.is_forest c.requires.contents c.args.current c.args.stack.now.items (g.S.Serializer.view c.args.serializer.now)
-    c.in-Some.id c.next.new.self c.in_ok-inside-in-Some.field-0 c.in-Some-2.inside c.push.new.self.items (g.S.Serializer.view c.meet.new.serializer) c.in-Some.ensures.steps c.in_ok-inside-in-Some.ensures.meets c.in-Some-2.is c.in_ok-push-in-Some-2.ensures.items
+pub returns-in_err-meet-in-Some-clause-advances : goal.returns-in_err-meet-in-Some-clause-advances
+returns-in_err-meet-in-Some-clause-advances g c =
+    refused c.args.forest.now c.requires.is_forest c.requires.contents g.S.Serializer.step g.S.Serializer.refuses c.args.root c.args.spot c.requires.spot (g.S.Serializer.view c.args.serializer.now) (g.S.Serializer.view c.meet.new.serializer)
+    c.in-Some.id c.in_err-meet-in-Some.field-0.0 c.from_residual.result c.in-Some.is c.from_residual.ensures.1 c.in_err-meet-in-Some.ensures.meets
 
-pub returns-in-None-2-clause-advances : goal.returns-in-None-2-clause-advances
-returns-in-None-2-clause-advances g c =
-    passed g.S.Serializer.step g.S.Serializer.refuses c.args.forest.now c.requires.is_forest c.requires.contents c.args.current c.args.stack.now.items (g.S.Serializer.view c.args.serializer.now)
-    c.in-Some.id c.next.new.self c.in_ok-inside-in-Some.field-0 (g.S.Serializer.view c.meet.new.serializer) c.in-Some.ensures.steps c.in_ok-inside-in-Some.ensures.meets c.in-None-2.is
+pub returns-then-branch-clause-advances : goal.returns-then-branch-clause-advances
+returns-then-branch-clause-advances g c =
+    rw (c.first_inside.ensures)
+    (entered c.args.forest.now c.requires.is_forest c.requires.contents g.S.Serializer.step g.S.Serializer.refuses c.args.root c.args.spot c.requires.spot (g.S.Serializer.view c.args.serializer.now) (g.S.Serializer.view c.meet.new.serializer)
+    c.in-Some.id c.in_ok-meet-in-Some.field-0 c.in-Some.is c.in_ok-meet-in-Some.ensures.meets c.if-branch.true)
 
-pub returns-in_err-end_elem-in-None-clause-advances : goal.returns-in_err-end_elem-in-None-clause-advances
-returns-in_err-end_elem-in-None-clause-advances g c =
-    refused-end g.S.Serializer.step g.S.Serializer.refuses c.args.forest.now c.requires.is_forest c.requires.contents c.args.current c.args.stack.now.items (g.S.Serializer.view c.args.serializer.now)
-    c.in-Some-name.name c.args.stack.now.items (g.S.Serializer.view c.end_elem.new.self) c.in_err-end_elem-in-None.field-0.0 c.from_residual-in_err-end_elem-in-None.result c.in-None.ensures.steps.0 c.in-Some-name.is c.from_residual-in_err-end_elem-in-None.ensures.1 c.in_err-end_elem-in-None.ensures.answers
+pub returns-else-branch-clause-advances : goal.returns-else-branch-clause-advances
+returns-else-branch-clause-advances g c =
+    rw (c.next_sibling.ensures ∙ next-behind c.args.forest.now c.in-Some.id)
+    (passed c.args.forest.now c.requires.is_forest c.requires.contents g.S.Serializer.step g.S.Serializer.refuses c.args.root c.args.spot c.requires.spot (g.S.Serializer.view c.args.serializer.now) (g.S.Serializer.view c.meet.new.serializer)
+    c.in-Some.id c.in_ok-meet-in-Some.field-0 c.in-Some.is c.in_ok-meet-in-Some.ensures.meets c.if-branch.false)
 
-pub returns-after-current-clause-advances : goal.returns-after-current-clause-advances
-returns-after-current-clause-advances g c =
-    let last : c.pop.result ≡ None → c.pop.new.self.items ≡ [] = λ is. let cases = rw is at c.pop.ensures.cases in c.pop.ensures.rest ∙ ap (λ (n : ℕ). take (n - 1) c.args.stack.now.items) cases.0 in
-    elim c.match-current.branch [
-      | in-Some-name+in_ok-end_elem-in-None w ↦
-          rw (w.serializer-is)
-          (closed g.S.Serializer.step g.S.Serializer.refuses c.args.forest.now c.requires.is_forest c.requires.contents c.args.current c.args.stack.now.items (g.S.Serializer.view c.args.serializer.now)
-          c.pop.new.self.items c.pop.result (g.S.Serializer.view w.end_elem.new.self) c.in-None.ensures.steps.0
-          (ran-end g.S.Serializer.step c.args.current.name w.in-Some-name.name (g.S.Serializer.view c.args.serializer.now) (g.S.Serializer.view w.end_elem.new.self) w.in-Some-name.is w.in_ok-end_elem-in-None.ensures.answers) c.pop.ensures.items last)
-      | in_default w ↦
-          rw (w.serializer-is)
-          (closed g.S.Serializer.step g.S.Serializer.refuses c.args.forest.now c.requires.is_forest c.requires.contents c.args.current c.args.stack.now.items (g.S.Serializer.view c.args.serializer.now)
-          c.pop.new.self.items c.pop.result (g.S.Serializer.view c.args.serializer.now) c.in-None.ensures.steps.0
-          (ran-none g.S.Serializer.step c.args.current.name (g.S.Serializer.view c.args.serializer.now) w.in_default.is) c.pop.ensures.items last)
-    ]
+pub returns-in_err-end-in-None-clause-advances : goal.returns-in_err-end-in-None-clause-advances
+returns-in_err-end-in-None-clause-advances g c =
+    refused-end c.args.forest.now c.requires.is_forest c.requires.contents g.S.Serializer.step g.S.Serializer.refuses c.args.root c.args.spot c.requires.spot (g.S.Serializer.view c.args.serializer.now) (g.S.Serializer.view c.end.new.serializer)
+    (c.args.spot.depth - 1) c.in_err-end-in-None.field-0.0 c.from_residual-in_err-end-in-None.result c.in-None.is (goes-on c.args.spot c.requires.goes_on c.in-None.is) c.from_residual-in_err-end-in-None.ensures.1 c.in_err-end-in-None.ensures.ends
+
+pub returns-in_ok-end-in-None-clause-advances : goal.returns-in_ok-end-in-None-clause-advances
+returns-in_ok-end-in-None-clause-advances g c =
+    rw (c.up.ensures, c.next_sibling-in-None.ensures ∙ next-behind c.args.forest.now c.args.spot.parent)
+    (left-behind c.args.forest.now c.requires.is_forest c.requires.contents g.S.Serializer.step g.S.Serializer.refuses c.args.root c.args.spot c.requires.spot (g.S.Serializer.view c.args.serializer.now) (g.S.Serializer.view c.end.new.serializer)
+    (c.args.spot.depth - 1) c.in-None.is (goes-on c.args.spot c.requires.goes_on c.in-None.is) c.in_ok-end-in-None.ensures.ends)
