@@ -133,7 +133,7 @@ replies (suc n) t end s r reply on made =
 pub counted-begins : (t : Token) (s : State) (count : ℕ) → count + (leads (all_turns s.open_elems) t s).turns ≡ count + (settle t s).turns
 counted-begins t s count = ap (λ x. count + x.turns) (sym (settle-leads t s))
 
-pub counted-again : (n : ℕ) (t : Token) (end : Settled) (s r : State) (all before now : ℕ) → IsOnWay n t end s → turn_of r Again ≡ turn t s → before + (leads n t s).turns ≡ all → now ≡ suc before → now + (leads n t r).turns ≡ all
+pub counted-again : (n : ℕ) (t : Token) (end : Settled) (s r : State) (all before now : ℕ) → IsOnWay n t end s → turn_of r Again ≡ turn t s → before + (leads n t s).turns ≡ all → now ≡ before + 1 → now + (leads n t r).turns ≡ all
 counted-again n t end s r all before now on made h one =
     let less = one-turn-less n t end s r on made in
     omega (arith, less, h, one)
@@ -154,7 +154,7 @@ last-turn (suc n) t s h = by (turn t s).ends where
   by (Replied reply) = one
 
 -- one turn more is no more than all
-pub counted-most : (n : ℕ) (t : Token) (end : Settled) (s : State) (all before now : ℕ) → IsOnWay n t end s → before + (leads n t s).turns ≡ all → now ≡ suc before → now ≤ all
+pub counted-most : (n : ℕ) (t : Token) (end : Settled) (s : State) (all before now : ℕ) → IsOnWay n t end s → before + (leads n t s).turns ≡ all → now ≡ before + 1 → now ≤ all
 counted-most n t end s all before now on h one =
     let some = last-turn n t s on.settled in
     omega (arith, some, h, one)
@@ -171,12 +171,12 @@ replied-turn (suc n) t end s r reply on made = ap (λ x. x.turns) (first-turn n 
 
 -- the last turn is counted
 
-pub counted-finishes : (n : ℕ) (t : Token) (end : Settled) (s r : State) (acknowledged : Bool) (all before now : ℕ) → IsOnWay n t end s → turn_of r (Finished acknowledged) ≡ turn t s → before + (leads n t s).turns ≡ all → now ≡ suc before → now ≡ all
+pub counted-finishes : (n : ℕ) (t : Token) (end : Settled) (s r : State) (acknowledged : Bool) (all before now : ℕ) → IsOnWay n t end s → turn_of r (Finished acknowledged) ≡ turn t s → before + (leads n t s).turns ≡ all → now ≡ before + 1 → now ≡ all
 counted-finishes n t end s r acknowledged all before now on made h one =
     let last = finished-turn n t end s r acknowledged on made in
     omega (arith, last, h, one)
 
-pub counted-replies : (n : ℕ) (t : Token) (end : Settled) (s r : State) (reply : Reply) (all before now : ℕ) → IsOnWay n t end s → turn_of r (Replied reply) ≡ turn t s → before + (leads n t s).turns ≡ all → now ≡ suc before → now ≡ all
+pub counted-replies : (n : ℕ) (t : Token) (end : Settled) (s r : State) (reply : Reply) (all before now : ℕ) → IsOnWay n t end s → turn_of r (Replied reply) ≡ turn t s → before + (leads n t s).turns ≡ all → now ≡ before + 1 → now ≡ all
 counted-replies n t end s r reply all before now on made h one =
     let last = replied-turn n t end s r reply on made in
     omega (arith, last, h, one)
