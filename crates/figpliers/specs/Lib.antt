@@ -48,6 +48,7 @@ pub use Rattle.html_parser.specs.Documents
 pub use Rattle.html_parser.specs.Read
 pub use Rattle.html_normal.specs.Again
 pub use Rattle.html_normal.specs.Document
+pub use Rattle.html_normal.specs.Fragment
 pub use Rattle.html_normal.specs.Normal
 pub use Rattle.html_normal.specs.declared.fault.NormalFault
 pub use Rattle.html_normal.specs.declared.report.Report

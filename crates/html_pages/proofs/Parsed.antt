@@ -1,5 +1,5 @@
 -- What parsers that have begun make of whole texts.
-use Rattle.std.proofs.Common.{◌≡◌, ◌∙◌, ℕ, Bool, true, false, List, [], ◌++◌, Option, Some, None, Result, Ok, Err, refl, sym, ap, subst, append-nil, IsUtf8}
+use Rattle.std.proofs.Common.{◌≡◌, ◌∙◌, ℕ, Bool, true, List, [], ◌++◌, Option, Some, None, Result, Ok, Err, refl, sym, ap, subst, append-nil, IsUtf8}
 use Rattle.std.specs.Prelude.{IfErr, IfOk}
 use Rattle.std.specs.Str.{chars}
 use Rattle.markup.specs.Forest.{Forest, empty_forest}
@@ -89,11 +89,11 @@ module _ {K H O : Type 0} (Sink : TreeGhosts K H O) (forest_of : O → Forest) (
 -- what was built of a text in a new element is its fragment
 pub fragment-made : {K H : Type 0} (Sink : TreeGhosts K H Forest) → ((sink : K) (out : Forest) → Sink.finish_gives sink out → out ≡ Sink.forest sink) → (table : List Row) (opts : TokenizerOpts) (setting : Setting) (f : Forest) (name : QualName) (attrs : List Attribute) (text : List ℕ) (out : Forest)
     → opts ≡ default_opts → setting ≡ default_setting → f ≡ empty_forest → attrs ≡ []
-    → IsBuilt Sink (of_new_context table opts setting name attrs false f) text out → IsFragment table name text out
+    → IsBuilt Sink (of_new_context table opts setting name attrs true f) text out → IsFragment table name text out
 fragment-made Sink gives table opts setting f name attrs text out opts_is setting_is forest_is none built =
     let made =
-    subst (λ (g : Forest). IsBuilt Sink (of_new_context table default_opts default_setting name [] false g) text out) forest_is
-    (subst (λ (s : Setting). IsBuilt Sink (of_new_context table default_opts s name [] false f) text out) setting_is
-    (subst (λ (o : TokenizerOpts). IsBuilt Sink (of_new_context table o setting name [] false f) text out) opts_is
-    (subst (λ (none' : List Attribute). IsBuilt Sink (of_new_context table opts setting name none' false f) text out) none built))) in
+    subst (λ (g : Forest). IsBuilt Sink (of_new_context table default_opts default_setting name [] true g) text out) forest_is
+    (subst (λ (s : Setting). IsBuilt Sink (of_new_context table default_opts s name [] true f) text out) setting_is
+    (subst (λ (o : TokenizerOpts). IsBuilt Sink (of_new_context table o setting name [] true f) text out) opts_is
+    (subst (λ (none' : List Attribute). IsBuilt Sink (of_new_context table opts setting name none' true f) text out) none built))) in
     record { state = made.state; read = made.is; tree = ap (with_errors 0) (gives made.sink out made.gives) ∙ made.same }

@@ -70,7 +70,7 @@ pub fn document_lossy(
 }
 
 /// What a text makes in an element of HTML of that name, as `td`, as where `innerHTML` is set: it stands in the only child of the
-/// document (HTML Standard, section 13.4). Scripts don't run in it.
+/// document (HTML Standard, section 13.4). As in a document, scripts run: what stands in a `noscript` is its text.
 ///
 /// Errors: [`NormalFault::Memory`].
 pub fn fragment(
@@ -92,7 +92,7 @@ pub fn fragment(
         options(FEW_ERRORS),
         name,
         Attributes::new(alloc),
-        false,
+        true,
         references,
     )?;
     whole(parser, text)

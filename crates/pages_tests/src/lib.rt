@@ -1,0 +1,15 @@
+//! Tests of what callers of pages name: texts and bytes to trees, parse errors, the Standard's references, what is read back, and nodes.
+#![tactic(auto)]
+
+#[cfg(test)]
+mod errors;
+#[cfg(test)]
+mod events;
+#[cfg(test)]
+mod nodes;
+#[cfg(test)]
+mod pages;
+#[cfg(test)]
+mod read_back;
+#[cfg(test)]
+mod references;
