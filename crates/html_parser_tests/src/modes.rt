@@ -11,6 +11,7 @@ mod settings;
 mod tables;
 mod templates;
 mod tokens;
+mod white_space;
 
 ghost use Rattle.std.specs.Prelude.{◌≡◌, None};
 
