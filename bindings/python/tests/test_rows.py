@@ -1,0 +1,112 @@
+"""The rows that all bindings are tested with, the examples of the module, and what no row says."""
+import ctypes
+import doctest
+import os
+import struct
+import sys
+import threading
+
+import figpliers
+
+HERE = os.path.dirname(os.path.abspath(__file__))
+passed = failed = 0
+
+
+def check(holds, what):
+    global passed, failed
+    if holds:
+        passed += 1
+    else:
+        failed += 1
+        print("Python:", what)
+
+
+def unescaped(field):
+    made, at = bytearray(), 0
+    data = field.encode()
+    while at < len(data):
+        if data[at] != 0x5C:
+            made.append(data[at])
+        elif data[at + 1 : at + 2] == b"x":
+            made.append(int(data[at + 2 : at + 4], 16))
+            at += 3
+        else:
+            made += {b"n": b"\n", b"t": b"\t", b"r": b"\r", b"\\": b"\\"}[data[at + 1 : at + 2]]
+            at += 1
+        at += 1
+    return bytes(made)
+
+
+def counted(text):
+    data = text.encode()
+    return struct.pack("<I", len(data)) + data
+
+
+def bytes_of(events):
+    """Events as bytes again."""
+    made = b""
+    for event in events:
+        if event[0] == "start":
+            made += b"S" + counted(event[1]) + counted(event[2]) + struct.pack("<I", len(event[3]))
+            made += b"".join(counted(it) for attribute in event[3] for it in attribute)
+        elif event[0] == "end":
+            made += b"E"
+        else:
+            letter = {"text": b"T", "comment": b"C", "doctype": b"D", "processing instruction": b"P"}[event[0]]
+            made += letter + b"".join(counted(it) for it in event[1:])
+    return made
+
+
+def called(name, table, page):
+    """Answer, numbers and text of a row's call."""
+    try:
+        if name.startswith("clean"):
+            text, counts = getattr(figpliers, name)(page)
+            return 0, ",".join(map(str, (0, *counts))), text.encode()
+        words = (page, table) if name.endswith("_with") else (page,)
+        text, report = getattr(figpliers, name.replace("_with", ""))(*words)
+        numbers = f"{'+' if report.errors else 0},0,{('no', 'limited', 'yes').index(report.quirks)},{int(report.plain)}"
+        return 0, numbers, text.encode() if isinstance(text, str) else bytes_of(text)
+    except figpliers.Fault as fault:
+        numbers = f"{fault.at},0,0,0,0" if name.startswith("clean") else f"0,{fault.at},0,0"
+        return fault.answer, numbers, b""
+
+
+def rows():
+    with open(os.path.join(HERE, "..", "..", "rows.tsv"), encoding="utf-8", newline="\n") as file:
+        for row in file:
+            if row.startswith("#"):
+                continue
+            name, table, page, answer, numbers, text = row.rstrip("\n").split("\t")
+            got = called(name, unescaped(table), unescaped(page))
+            check(got == (int(answer), numbers, unescaped(text)), f"{row}{got}")
+
+
+def layout():
+    """What test.sh compares with C's."""
+    structures = {"fig_report": figpliers._Report, "fig_cleaned": figpliers._Cleaned}
+    for name, structure in structures.items():
+        for field, kind in structure._fields_:
+            yield f"{name}.{field} {getattr(structure, field).offset} {ctypes.sizeof(kind)}"
+    for name, structure in structures.items():
+        yield f"{name} {ctypes.sizeof(structure)}"
+
+
+rows()
+threads = [threading.Thread(target=rows) for _ in range(4)]
+for thread in threads:
+    thread.start()
+for thread in threads:
+    thread.join()
+check(figpliers.normalise("<p>" * 1000)[0].count("</p>") == 1000, "where the first guess of room is too short")
+check(len(figpliers.events("<p>" * 1000)[0]) == 2006, "many events")
+top = figpliers.element("<!DOCTYPE html><p id=a>b<svg><path/></svg>c")
+check(top.find("body/p").get("id") == "a", "an element")
+check(top.find("body/p/{http://www.w3.org/2000/svg}svg").tail == "c", "an element of SVG")
+outcome = doctest.testmod(figpliers)
+check(outcome.failed == 0 and outcome.attempted == 4, "the examples")
+if "FIGPLIERS_LAYOUT" in os.environ:
+    with open(os.environ["FIGPLIERS_LAYOUT"], "w") as file:
+        file.write("\n".join(layout()) + "\n")
+print(f"Python: {passed} passed, {failed} failed")
+sys.exit(failed != 0)

@@ -1,0 +1,293 @@
+//! Figpliers, a verified HTML parser: the normal text of a page, its tree as events, and what a sanitizer keeps of it.
+//!
+//! ```
+//! let (text, report) = figpliers::normalise("<!DOCTYPE html><p>caf&eacute;")?;
+//! assert_eq!(text, "<!DOCTYPE html><html><head></head><body><p>café</p></body></html>");
+//! assert!(report.plain);
+//!
+//! let (text, _) = figpliers::clean("<b onclick=x>a</b><script>b</script>")?;
+//! assert_eq!(text, "<b>a</b>");
+//! # Ok::<(), figpliers::Fault>(())
+//! ```
+//!
+//! The texts are what the library's contracts say (its `figpliers.h`); this crate adds room for them and types. The library keeps
+//! no memory and hands none out, so what is owned here is a `String` or a `Vec` and needs no `Drop` of its own. Calls share
+//! nothing and may be made from any thread.
+
+mod events;
+mod sys;
+
+pub use events::{Attribute, Event, Events, Iter};
+
+use std::fmt;
+use sys::{FigCleaned, FigReport};
+
+/// How closely a page is to be laid out as old browsers did (HTML Standard, section 13.2.6.4.1).
+#[derive(Clone, Copy, Debug, PartialEq, Eq, Hash)]
+pub enum Quirks {
+    /// Laid out by the standards.
+    No,
+    /// Laid out as old browsers did in a few respects.
+    Limited,
+    /// Laid out as old browsers did.
+    Yes,
+}
+
+/// What is told of a page.
+#[derive(Clone, Copy, Debug, PartialEq, Eq, Hash)]
+pub struct Report {
+    /// How many parse errors were counted: 0 in a page without any.
+    pub errors: u64,
+    /// The quirks mode of the document.
+    pub quirks: Quirks,
+    /// Whether the document is plain, so that its normal text is read back as it, without an error.
+    pub plain: bool,
+}
+
+/// What cleaning took away.
+#[derive(Clone, Copy, Debug, Default, PartialEq, Eq, Hash)]
+pub struct Cleaned {
+    /// Elements that gave way to what stands in them.
+    pub unwrapped: u64,
+    /// Elements that were dropped with what stands in them.
+    pub dropped: u64,
+    /// Attributes of elements that were kept.
+    pub attributes: u64,
+    /// Comments and processing instructions.
+    pub comments: u64,
+}
+
+/// Why there is no text.
+#[derive(Clone, Copy, Debug, PartialEq, Eq, Hash)]
+#[non_exhaustive]
+pub enum Fault {
+    /// The page is not UTF-8; its longest front that is has `at` bytes.
+    NotUtf8 { at: u64 },
+    /// There was not enough memory.
+    Memory,
+    /// The table is not UTF-8; its longest front that is has `at` bytes.
+    TableNotUtf8 { at: u64 },
+    /// A line of the table, counted from 1, is no row.
+    TableLine { line: u64 },
+    /// A row of the table has a name that is not letters and digits with `;` or nothing behind them.
+    TableName { row: u64 },
+    /// A row of the table has the name of an earlier one.
+    TableDuplicate { row: u64 },
+    /// A row of the table has a value that is no character.
+    TableValue { row: u64 },
+    /// An answer of a later library.
+    Other { answer: u32, at: u64 },
+}
+
+impl Fault {
+    fn new(answer: u32, at: u64) -> Fault {
+        match answer {
+            1 => Fault::NotUtf8 { at },
+            3 => Fault::Memory,
+            16 => Fault::TableNotUtf8 { at },
+            17 => Fault::TableLine { line: at },
+            18 => Fault::TableName { row: at },
+            19 => Fault::TableDuplicate { row: at },
+            20 => Fault::TableValue { row: at },
+            _ => Fault::Other { answer, at },
+        }
+    }
+}
+
+impl fmt::Display for Fault {
+    fn fmt(&self, f: &mut fmt::Formatter<'_>) -> fmt::Result {
+        match self {
+            Fault::NotUtf8 { at } => write!(f, "the page is not UTF-8 at byte {at}"),
+            Fault::Memory => write!(f, "no memory was left"),
+            Fault::TableNotUtf8 { at } => write!(f, "the table is not UTF-8 at byte {at}"),
+            Fault::TableLine { line } => write!(f, "line {line} of the table is no row"),
+            Fault::TableName { row } => write!(f, "row {row} of the table has a bad name"),
+            Fault::TableDuplicate { row } => write!(f, "row {row} of the table has the name of an earlier one"),
+            Fault::TableValue { row } => write!(f, "row {row} of the table has a value that is no character"),
+            Fault::Other { answer, at } => write!(f, "answer {answer} at {at}"),
+        }
+    }
+}
+
+impl std::error::Error for Fault {}
+
+/// What both reports have.
+trait Told: Default {
+    fn length(&self) -> usize;
+    fn at(&self) -> u64;
+}
+
+impl Told for FigReport {
+    fn length(&self) -> usize {
+        self.length
+    }
+
+    fn at(&self) -> u64 {
+        self.at
+    }
+}
+
+impl Told for FigCleaned {
+    fn length(&self) -> usize {
+        self.length
+    }
+
+    fn at(&self) -> u64 {
+        self.at
+    }
+}
+
+/// Makes a call with room for a text, and again with as much as it is told to want where that was too short.
+fn with_room<R: Told>(guess: usize, mut call: impl FnMut(*mut u8, usize, *mut R) -> u32) -> Result<(Vec<u8>, R), Fault> {
+    let mut room = guess;
+    loop {
+        let mut output: Vec<u8> = Vec::new();
+        output.try_reserve_exact(room).map_err(|_| Fault::Memory)?;
+        let mut report = R::default();
+        match call(output.as_mut_ptr(), output.capacity(), &mut report) {
+            0 => {
+                // SAFETY: the call wrote so many bytes to the front of the room.
+                unsafe { output.set_len(report.length()) };
+                return Ok((output, report));
+            }
+            2 => room = report.length(),
+            answer => return Err(Fault::new(answer, report.at())),
+        }
+    }
+}
+
+/// A call by the Standard's table of references.
+fn by_standard<R: Told>(call: sys::Call<R>, page: &[u8], guess: usize) -> Result<(Vec<u8>, R), Fault> {
+    // SAFETY: slices and room are valid for the call, which keeps nothing; output and report overlap nothing.
+    with_room(guess, |output, room, report| unsafe { call(page.as_ptr(), page.len(), output, room, report) })
+}
+
+/// A call by a table that is handed in.
+fn by_table(call: sys::CallWith, table: &[u8], page: &[u8], guess: usize) -> Result<(Vec<u8>, FigReport), Fault> {
+    // SAFETY: as above.
+    with_room(guess, |output, room, report| unsafe {
+        call(table.as_ptr(), table.len(), page.as_ptr(), page.len(), output, room, report)
+    })
+}
+
+/// The text of what is proved to be UTF-8.
+fn text_of(bytes: Vec<u8>) -> String {
+    String::from_utf8(bytes).expect("what is written is UTF-8")
+}
+
+fn report_of(told: FigReport) -> Report {
+    Report {
+        errors: told.errors,
+        quirks: match told.quirks {
+            0 => Quirks::No,
+            1 => Quirks::Limited,
+            _ => Quirks::Yes,
+        },
+        plain: told.plain != 0,
+    }
+}
+
+fn cleaned_of(told: FigCleaned) -> Cleaned {
+    Cleaned {
+        unwrapped: told.unwrapped,
+        dropped: told.dropped,
+        attributes: told.attributes,
+        comments: told.comments,
+    }
+}
+
+/// Room that is enough for most texts of a page.
+fn text_guess(page: &[u8]) -> usize {
+    page.len() + page.len() / 4 + 256
+}
+
+/// Room that is enough for most pages' events.
+fn events_guess(page: &[u8]) -> usize {
+    4 * page.len() + 1024
+}
+
+/// The normal text of a page: that of the document which the HTML Standard gives it.
+///
+/// Errors: the page is not UTF-8, or no memory was left.
+pub fn normalise(page: impl AsRef<[u8]>) -> Result<(String, Report), Fault> {
+    let page = page.as_ref();
+    let (text, told) = by_standard(sys::fig_normalise, page, text_guess(page))?;
+    Ok((text_of(text), report_of(told)))
+}
+
+/// The same by a table of named character references: lines of a name, a space and one to six hexadecimal digits, and for a second
+/// character a space and its digits.
+///
+/// Errors: those of [`normalise`], and what is wrong with the table.
+pub fn normalise_with(table: impl AsRef<[u8]>, page: impl AsRef<[u8]>) -> Result<(String, Report), Fault> {
+    let page = page.as_ref();
+    let (text, told) = by_table(sys::fig_normalise_with, table.as_ref(), page, text_guess(page))?;
+    Ok((text_of(text), report_of(told)))
+}
+
+/// The tree of a page as events, for who builds a tree of one's own.
+///
+/// Errors: as of [`normalise`]; [`Fault::Memory`] also where a text has 4 GiB or more.
+pub fn events(page: impl AsRef<[u8]>) -> Result<(Events, Report), Fault> {
+    let page = page.as_ref();
+    let (bytes, told) = by_standard(sys::fig_events, page, events_guess(page))?;
+    Ok((Events::new(bytes), report_of(told)))
+}
+
+/// The same by a table of references, as [`normalise_with`] has it.
+pub fn events_with(table: impl AsRef<[u8]>, page: impl AsRef<[u8]>) -> Result<(Events, Report), Fault> {
+    let page = page.as_ref();
+    let (bytes, told) = by_table(sys::fig_events_with, table.as_ref(), page, events_guess(page))?;
+    Ok((Events::new(bytes), report_of(told)))
+}
+
+/// What the ready policy keeps of a page, read as what stands in a `div`: text, links, tables and formatting.
+///
+/// Errors: as of [`normalise`].
+pub fn clean(page: impl AsRef<[u8]>) -> Result<(String, Cleaned), Fault> {
+    let page = page.as_ref();
+    let (text, told) = by_standard(sys::fig_clean, page, text_guess(page))?;
+    Ok((text_of(text), cleaned_of(told)))
+}
+
+/// The same of a page that is read as a document.
+///
+/// Errors: as of [`normalise`].
+pub fn clean_document(page: impl AsRef<[u8]>) -> Result<(String, Cleaned), Fault> {
+    let page = page.as_ref();
+    let (text, told) = by_standard(sys::fig_clean_document, page, text_guess(page))?;
+    Ok((text_of(text), cleaned_of(told)))
+}
+
+#[cfg(test)]
+mod layout {
+    use super::sys::{FigCleaned, FigReport};
+    use std::mem::{offset_of, size_of};
+
+    macro_rules! field {
+        ($lines:ident, $name:literal, $kind:ty, $at:ident: $field:ty) => {
+            $lines.push(format!("{}.{} {} {}", $name, stringify!($at), offset_of!($kind, $at), size_of::<$field>()));
+        };
+    }
+
+    /// What test.sh compares with C's.
+    #[test]
+    fn printed() {
+        let mut lines = Vec::new();
+        field!(lines, "fig_report", FigReport, length: usize);
+        field!(lines, "fig_report", FigReport, errors: u64);
+        field!(lines, "fig_report", FigReport, at: u64);
+        field!(lines, "fig_report", FigReport, quirks: u8);
+        field!(lines, "fig_report", FigReport, plain: u8);
+        field!(lines, "fig_cleaned", FigCleaned, length: usize);
+        field!(lines, "fig_cleaned", FigCleaned, at: u64);
+        field!(lines, "fig_cleaned", FigCleaned, unwrapped: u64);
+        field!(lines, "fig_cleaned", FigCleaned, dropped: u64);
+        field!(lines, "fig_cleaned", FigCleaned, attributes: u64);
+        field!(lines, "fig_cleaned", FigCleaned, comments: u64);
+        lines.push(format!("fig_report {}\nfig_cleaned {}", size_of::<FigReport>(), size_of::<FigCleaned>()));
+        if let Ok(path) = std::env::var("FIGPLIERS_LAYOUT") {
+            std::fs::write(path, lines.join("\n") + "\n").unwrap();
+        }
+    }
+}

@@ -1,0 +1,38 @@
+//! The calls as C sees them; `figpliers.h` says what each does.
+
+#[repr(C)]
+#[derive(Clone, Copy, Debug, Default)]
+pub struct FigReport {
+    pub length: usize,
+    pub errors: u64,
+    pub at: u64,
+    pub quirks: u8,
+    pub plain: u8,
+}
+
+#[repr(C)]
+#[derive(Clone, Copy, Debug, Default)]
+pub struct FigCleaned {
+    pub length: usize,
+    pub at: u64,
+    pub unwrapped: u64,
+    pub dropped: u64,
+    pub attributes: u64,
+    pub comments: u64,
+}
+
+pub type Call<R> = unsafe extern "C" fn(*const u8, usize, *mut u8, usize, *mut R) -> u32;
+pub type CallWith = unsafe extern "C" fn(*const u8, usize, *const u8, usize, *mut u8, usize, *mut FigReport) -> u32;
+
+extern "C" {
+    pub fn fig_normalise(page: *const u8, page_length: usize, output: *mut u8, room: usize, report: *mut FigReport) -> u32;
+    pub fn fig_normalise_with(
+        table: *const u8, table_length: usize, page: *const u8, page_length: usize, output: *mut u8, room: usize, report: *mut FigReport,
+    ) -> u32;
+    pub fn fig_events(page: *const u8, page_length: usize, output: *mut u8, room: usize, report: *mut FigReport) -> u32;
+    pub fn fig_events_with(
+        table: *const u8, table_length: usize, page: *const u8, page_length: usize, output: *mut u8, room: usize, report: *mut FigReport,
+    ) -> u32;
+    pub fn fig_clean(page: *const u8, page_length: usize, output: *mut u8, room: usize, report: *mut FigCleaned) -> u32;
+    pub fn fig_clean_document(page: *const u8, page_length: usize, output: *mut u8, room: usize, report: *mut FigCleaned) -> u32;
+}

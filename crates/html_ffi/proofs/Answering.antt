@@ -1,0 +1,65 @@
+-- What an answer says, by what came of a text or of a failure.
+use Rattle.std.proofs.Common.{◌≡◌, ◌∙◌, ℕ, List, ◌++◌, ap, refl, subst, sym}
+use Rattle.std.specs.Prelude.{length, drop}
+use Rattle.html_clean.specs.declared.counts.Cleaned.{Cleaned}
+use Rattle.html_normal.specs.declared.report.Report.{Report}
+use Rattle.html_ffi.specs.Answers.{Fails, IsPut, Means}
+use Rattle.html_ffi.specs.Calls.{IsReported, IsReportedClean, MeansCleaned, MeansText}
+use Rattle.html_ffi.specs.Reports.{cleaned_of, nothing_at, nothing_cleaned_at, report_of}
+use Rattle.html_ffi.specs.declared.report.FigCleaned.{FigCleaned}
+use Rattle.html_ffi.specs.declared.report.FigReport.{FigReport}
+use Rattle.html_ffi.specs.declared.answer.Answer.{Answer}
+use Rattle.html_ffi.specs.declared.answer.Answer.TheVariants.{Done, NotUtf8, TooShort, Memory, TableNotUtf8, TableLine, TableName, TableDuplicate, TableValue}
+
+module _ (Makes : List ℕ → Type 0) (None : Type 0) (file page : List ℕ) (at : ℕ) (old new : List ℕ) where
+  -- a text that was made was put in front of the room, or is too long for it
+  pub put-means : (text : List ℕ) (answer : Answer) → Makes text → IsPut text old new answer → Means Makes None file page at old new answer
+  put-means text Done made is = record { text = text; made = made; front = is }
+  put-means text NotUtf8 made is = absurd is
+  put-means text TooShort made is = record { text = text; made = made; short = is.0; same = is.1 }
+  put-means text Memory made is = absurd is
+  put-means text TableNotUtf8 made is = absurd is
+  put-means text TableLine made is = absurd is
+  put-means text TableName made is = absurd is
+  put-means text TableDuplicate made is = absurd is
+  put-means text TableValue made is = absurd is
+
+  -- there is no text
+  pub none-means : (answer : Answer) → Fails file page answer at → None → new ≡ old → Means Makes None file page at old new answer
+  none-means Done why none same = absurd why
+  none-means NotUtf8 why none same = record { why = why; none = none; same = same }
+  none-means TooShort why none same = absurd why
+  none-means Memory why none same = record { why = why; none = none; same = same }
+  none-means TableNotUtf8 why none same = record { why = why; none = none; same = same }
+  none-means TableLine why none same = record { why = why; none = none; same = same }
+  none-means TableName why none same = record { why = why; none = none; same = same }
+  none-means TableDuplicate why none same = record { why = why; none = none; same = same }
+  none-means TableValue why none same = record { why = why; none = none; same = same }
+
+-- of a page's text
+module _ (Is : (file page text : List ℕ) → Report → Type 0) (file page old new : List ℕ) (report : FigReport) (answer : Answer) where
+  pub text-put : (text lent : List ℕ) (count : ℕ) (told : Report) → Is file page text told → lent ≡ text → count ≡ length lent → report ≡ report_of count told → IsPut lent old new answer → MeansText Is file page old new report answer
+  text-put text lent count told is same counted report_is put =
+      put-means (IsReported Is file page report) (report ≡ nothing_at report.at) file page report.at old new text answer
+      (record { told = told; is = is; report_is = report_is ∙ ap (λ n. report_of n told) (counted ∙ ap length same) })
+      (subst (λ (t : List ℕ). IsPut t old new answer) same put)
+
+  pub text-none : (at : ℕ) → Fails file page answer at → report ≡ nothing_at at → new ≡ old → MeansText Is file page old new report answer
+  text-none at fails none same =
+      let there : report.at ≡ at = ap (λ (r : FigReport). r.at) none in
+      none-means (IsReported Is file page report) (report ≡ nothing_at report.at) file page report.at old new answer
+      (subst (λ (n : ℕ). Fails file page answer n) (sym there) fails) (none ∙ ap nothing_at (sym there)) same
+
+-- of what was kept of a page
+module _ (Is : (file page text : List ℕ) → Cleaned → Type 0) (file page old new : List ℕ) (report : FigCleaned) (answer : Answer) where
+  pub cleaned-put : (text lent : List ℕ) (count : ℕ) (told : Cleaned) → Is file page text told → lent ≡ text → count ≡ length lent → report ≡ cleaned_of count told → IsPut lent old new answer → MeansCleaned Is file page old new report answer
+  cleaned-put text lent count told is same counted report_is put =
+      put-means (IsReportedClean Is file page report) (report ≡ nothing_cleaned_at report.at) file page report.at old new text answer
+      (record { counts = told; is = is; report_is = report_is ∙ ap (λ n. cleaned_of n told) (counted ∙ ap length same) })
+      (subst (λ (t : List ℕ). IsPut t old new answer) same put)
+
+  pub cleaned-none : (at : ℕ) → Fails file page answer at → report ≡ nothing_cleaned_at at → new ≡ old → MeansCleaned Is file page old new report answer
+  cleaned-none at fails none same =
+      let there : report.at ≡ at = ap (λ (r : FigCleaned). r.at) none in
+      none-means (IsReportedClean Is file page report) (report ≡ nothing_cleaned_at report.at) file page report.at old new answer
+      (subst (λ (n : ℕ). Fails file page answer n) (sym there) fails) (none ∙ ap nothing_cleaned_at (sym there)) same

@@ -1,0 +1,117 @@
+-- What a call answers, and what that says of the caller's room.
+use Rattle.std.specs.Prelude.{◌≡◌, ℕ, ◌<◌, List, ◌++◌, length, drop}
+use Rattle.std.specs.Str.{IsValidUpTo}
+use Rattle.html_input.specs.TableFault.{HasBadLine, HasBadRow}
+use Rattle.html_input.specs.declared.table.TableFileFault.{TableFileFault}
+use Rattle.html_input.specs.declared.table.TableFileFault.TheVariants as file
+use Rattle.html_tokens.specs.declared.table.TableFault.{TableFault}
+use Rattle.html_tokens.specs.declared.table.TableFault.TheVariants as table
+use Rattle.html_normal.specs.declared.fault.NormalFault.{NormalFault}
+use Rattle.html_normal.specs.declared.fault.NormalFault.TheVariants as normal
+use Rattle.html_ffi.specs.declared.answer.Answer.{Answer}
+use Rattle.html_ffi.specs.declared.answer.Answer.TheVariants.{Done, NotUtf8, TooShort, Memory, TableNotUtf8, TableLine, TableName, TableDuplicate, TableValue}
+use Rattle.html_ffi.specs.declared.answer.Failure.{Failure}
+
+-- ANSWERS
+
+-- the number that C is told
+abbrev pub number_of : Answer → ℕ
+number_of Done = 0
+number_of NotUtf8 = 1
+number_of TooShort = 2
+number_of Memory = 3
+number_of TableNotUtf8 = 16
+number_of TableLine = 17
+number_of TableName = 18
+number_of TableDuplicate = 19
+number_of TableValue = 20
+
+abbrev pub failure : Answer → ℕ → Failure
+failure answer at = record { answer = answer; at = at }
+
+-- of a page: reading from memory doesn't fail, and writing to memory fails only for want of it
+abbrev pub failure_of : NormalFault → Failure
+failure_of (normal.NotUtf8 at) = failure NotUtf8 at
+failure_of normal.Read = failure Memory 0
+failure_of normal.Write = failure Memory 0
+failure_of normal.Memory = failure Memory 0
+failure_of normal.Refused = failure Memory 0
+
+-- of the rows of a table
+abbrev pub row_failure_of : TableFault → Failure
+row_failure_of (table.BadName at) = failure TableName at
+row_failure_of (table.Duplicate at) = failure TableDuplicate at
+row_failure_of (table.BadValue at) = failure TableValue at
+row_failure_of table.Memory = failure Memory 0
+
+-- of a table's bytes
+abbrev pub table_failure_of : TableFileFault → Failure
+table_failure_of (file.NotUtf8 at) = failure TableNotUtf8 at
+table_failure_of file.Read = failure Memory 0
+table_failure_of (file.BadLine at) = failure TableLine at
+table_failure_of (file.Table fault) = row_failure_of fault
+table_failure_of file.Memory = failure Memory 0
+
+-- What the answer of a call that has no text says of the table's bytes and the page, with the place that it tells.
+abbrev pub Fails : (file page : List ℕ) → Answer → ℕ → Type 0
+Fails file page Done at = ⊥
+Fails file page NotUtf8 at = IsValidUpTo page at
+Fails file page TooShort at = ⊥
+Fails file page Memory at = at ≡ 0
+Fails file page TableNotUtf8 at = IsValidUpTo file at
+Fails file page TableLine at = HasBadLine file at
+Fails file page TableName at = HasBadRow file (table.BadName at)
+Fails file page TableDuplicate at = HasBadRow file (table.Duplicate at)
+Fails file page TableValue at = HasBadRow file (table.BadValue at)
+
+-- THE ROOM
+
+-- A text was put in front of the room, of which nothing else changed; or the room is too short for it, and nothing changed.
+abbrev pub IsPut : (text old new : List ℕ) → Answer → Type 0
+IsPut text old new Done = new ≡ text ++ drop (length text) old
+IsPut text old new NotUtf8 = ⊥
+IsPut text old new TooShort = (length old < length text) × (new ≡ old)
+IsPut text old new Memory = ⊥
+IsPut text old new TableNotUtf8 = ⊥
+IsPut text old new TableLine = ⊥
+IsPut text old new TableName = ⊥
+IsPut text old new TableDuplicate = ⊥
+IsPut text old new TableValue = ⊥
+
+-- What an answer says: of a text that `Makes` says is the one that is asked for, or of why there is none, and then `None`
+module _ (Makes : List ℕ → Type 0) (None : Type 0) (file page : List ℕ) (at : ℕ) (old new : List ℕ) where
+  -- The text stands in front of the room, of which nothing else changed.
+  pub record IsWritten : Type 0 where
+    pub text : List ℕ
+    pub made : Makes text
+    pub front : new ≡ text ++ drop (length text) old
+
+  -- The room is too short for the text, and nothing changed.
+  pub record IsTooShort : Type 0 where
+    pub text : List ℕ
+    pub made : Makes text
+    pub short : length old < length text
+    pub same : new ≡ old
+
+  -- There is no text, and nothing changed.
+  pub record HasNone (answer : Answer) : Type 0 where
+    pub why : Fails file page answer at
+    pub none : None
+    pub same : new ≡ old
+
+  abbrev pub Means : Answer → Type 0
+  Means Done = IsWritten
+  Means NotUtf8 = HasNone NotUtf8
+  Means TooShort = IsTooShort
+  Means Memory = HasNone Memory
+  Means TableNotUtf8 = HasNone TableNotUtf8
+  Means TableLine = HasNone TableLine
+  Means TableName = HasNone TableName
+  Means TableDuplicate = HasNone TableDuplicate
+  Means TableValue = HasNone TableValue
+
+-- The number that C is told is that of an answer, which says this.
+pub record Tells (Says : Answer → Type 0) (number : ℕ) : Type 0 where
+  pub answer : Answer
+  pub is : number ≡ number_of answer
+  pub says : Says answer

@@ -1,0 +1,79 @@
+-- The texts that calls make of a page, by the table of references that a file's bytes hold.
+use Rattle.std.specs.Prelude.{◌≡◌, ℕ, false, List, [], length, Some}
+use Rattle.std.specs.Str.{chars}
+use Rattle.markup.specs.Calls.{calls_of}
+use Rattle.markup.specs.Forest.{Forest}
+use Rattle.html_clean.specs.Ready.{IsTextAndLinks}
+use Rattle.html_clean.specs.declared.counts.Cleaned.{Cleaned}
+use Rattle.html_clean.specs.declared.policy.Policy.{Policy}
+use Rattle.html_clean_document.specs.Clean.{IsCleaned, IsDocumentOf, IsFragmentOf, div_name}
+use Rattle.html_events.specs.Events.{all_event_bytes}
+use Rattle.html_input.specs.TableFault.{IsTableFile}
+use Rattle.html_normal.specs.Document.{CountsErrors, IsDocument, document_trees}
+use Rattle.html_normal.specs.Normal.{IsNormalised}
+use Rattle.html_normal.specs.declared.report.Report.{Report}
+use Rattle.html_plain.specs.Grammar.{is_plain_forest}
+use Rattle.html_tokens.specs.Table.{Row}
+use Rattle.html_ffi.specs.Answers.{Means}
+use Rattle.html_ffi.specs.Reports.{cleaned_of, nothing_at, nothing_cleaned_at, report_of}
+use Rattle.html_ffi.specs.declared.answer.Answer.{Answer}
+use Rattle.html_ffi.specs.declared.report.FigCleaned.{FigCleaned}
+use Rattle.html_ffi.specs.declared.report.FigReport.{FigReport}
+
+-- A text is the normal text of a page, and this is told of the page.
+pub record IsNormalText (file page text : List ℕ) (told : Report) : Type 0 where
+  pub rows : List Row
+  pub table : IsTableFile file (Some []) rows
+  pub normal : IsNormalised rows false page (Some []) (Some []) (Some text) told
+
+-- Bytes are the events of the tree of a forest's document, and this is told of it.
+pub record IsToldOf (f : Forest) (bytes : List ℕ) (told : Report) : Type 0 where
+  pub events : bytes ≡ all_event_bytes (calls_of (document_trees f))
+  pub plain : told.plain ≡ is_plain_forest f
+  pub quirks : told.quirks ≡ f.quirks
+  pub errors : told.errors ≡ f.errors
+
+-- Bytes are the events of the tree of a page's document, and this is told of the page.
+pub record IsTreeText (file page bytes : List ℕ) (told : Report) : Type 0 where
+  pub rows : List Row
+  pub table : IsTableFile file (Some []) rows
+  pub document : Forest
+  pub input : IsDocument rows page document
+  pub events : bytes ≡ all_event_bytes (calls_of (document_trees document))
+  pub plain : told.plain ≡ is_plain_forest document
+  pub quirks : told.quirks ≡ document.quirks
+  pub errors : CountsErrors rows false (chars page) told.errors
+
+-- A text is what the ready policy keeps of a page as a document, and so much was taken away.
+pub record IsCleanDocument (file page text : List ℕ) (counts : Cleaned) : Type 0 where
+  pub rows : List Row
+  pub table : IsTableFile file (Some []) rows
+  pub policy : Policy
+  pub ready : IsTextAndLinks policy
+  pub cleaned : IsCleaned (IsDocumentOf rows) policy page (Some []) (Some []) (Some text) counts
+
+-- A text is what the ready policy keeps of a page as a fragment in a `div`, and so much was taken away.
+pub record IsCleanFragment (file page text : List ℕ) (counts : Cleaned) : Type 0 where
+  pub rows : List Row
+  pub table : IsTableFile file (Some []) rows
+  pub policy : Policy
+  pub ready : IsTextAndLinks policy
+  pub cleaned : IsCleaned (IsFragmentOf rows div_name) policy page (Some []) (Some []) (Some text) counts
+
+-- A text is as `Is` says, by what is told of the page, and this is the report of it.
+pub record IsReported (Is : (file page text : List ℕ) → Report → Type 0) (file page : List ℕ) (report : FigReport) (text : List ℕ) : Type 0 where
+  pub told : Report
+  pub is : Is file page text told
+  pub report_is : report ≡ report_of (length text) told
+
+pub record IsReportedClean (Is : (file page text : List ℕ) → Cleaned → Type 0) (file page : List ℕ) (report : FigCleaned) (text : List ℕ) : Type 0 where
+  pub counts : Cleaned
+  pub is : Is file page text counts
+  pub report_is : report ≡ cleaned_of (length text) counts
+
+-- what an answer says of the table's bytes, the page, the room before and after the call, and the report
+abbrev pub MeansText : (Is : (file page text : List ℕ) → Report → Type 0) → (file page old new : List ℕ) → FigReport → Answer → Type 0
+MeansText Is file page old new report = Means (IsReported Is file page report) (report ≡ nothing_at report.at) file page report.at old new
+
+abbrev pub MeansCleaned : (Is : (file page text : List ℕ) → Cleaned → Type 0) → (file page old new : List ℕ) → FigCleaned → Answer → Type 0
+MeansCleaned Is file page old new report = Means (IsReportedClean Is file page report) (report ≡ nothing_cleaned_at report.at) file page report.at old new

@@ -1,0 +1,141 @@
+//! What a call answers.
+ghost use Rattle.std.specs.Prelude.{◌≡◌, ℕ, List};
+ghost use Rattle.html_ffi.specs.Answers.{Fails, failure_of, number_of, row_failure_of, table_failure_of};
+ghost use Rattle.html_ffi.specs.declared.answer.Answer.TheVariants.{Memory};
+
+use html_normal::{NormalFault, TableFault, TableFileFault};
+use std::alloc::{AllocError, AllocFailed};
+
+/// What a call answers. The numbers stand in C's header, and never change.
+#[derive(Clone, Copy, Debug, PartialEq, Eq)]
+pub enum Answer {
+    /// The text was written.
+    Done,
+    /// The page is not UTF-8.
+    NotUtf8,
+    /// The room is too short.
+    TooShort,
+    /// There was not enough memory.
+    Memory,
+    /// The table is not UTF-8.
+    TableNotUtf8,
+    /// A line of the table is no row.
+    TableLine,
+    /// A row of the table has a bad name.
+    TableName,
+    /// A row of the table has the name of an earlier one.
+    TableDuplicate,
+    /// A row of the table has a value that is no character.
+    TableValue,
+}
+
+impl Answer {
+    /// The number that C is told.
+    pub fn number(self) -> u32
+        ensures { result ≡ number_of self }
+    {
+        match self {
+            Answer::Done => 0,
+            Answer::NotUtf8 => 1,
+            Answer::TooShort => 2,
+            Answer::Memory => 3,
+            Answer::TableNotUtf8 => 16,
+            Answer::TableLine => 17,
+            Answer::TableName => 18,
+            Answer::TableDuplicate => 19,
+            Answer::TableValue => 20,
+        }
+    }
+}
+
+/// Why a call has no text, and the place that it tells: a number of bytes, or of a line or a row.
+#[derive(Clone, Copy, Debug, PartialEq, Eq)]
+pub struct Failure {
+    /// Neither `Done` nor `TooShort`.
+    pub answer: Answer,
+    /// 0 for `Memory`.
+    pub at: u64,
+}
+
+/// Want of memory.
+pub(crate) fn no_memory() -> Failure
+    ensures is { result ≡ record { answer = Memory; at = 0 } }
+    ensures fails { (file page : List ℕ) → Fails file page result.answer result.at }
+{
+    Failure {
+        answer: Answer::Memory,
+        at: 0,
+    }
+}
+
+impl From<AllocError> for Failure {
+    ghost from_gives = { λ _ made. made ≡ record { answer = Memory; at = 0 } };
+
+    fn from(_error: AllocError) -> Failure {
+        no_memory()
+    }
+}
+
+impl<T: Drop> From<AllocFailed<T>> for Failure {
+    ghost from_gives = { λ _ made. made ≡ record { answer = Memory; at = 0 } };
+
+    fn from(_error: AllocFailed<T>) -> Failure {
+        no_memory()
+    }
+}
+
+/// Reading from memory doesn't fail, writing to memory fails only where none is left, and no text is refused.
+impl From<NormalFault> for Failure {
+    ghost from_gives = { λ fault made. made ≡ failure_of fault };
+
+    fn from(fault: NormalFault) -> Failure {
+        match fault {
+            NormalFault::NotUtf8 { at } => Failure {
+                answer: Answer::NotUtf8,
+                at,
+            },
+            NormalFault::Read | NormalFault::Write | NormalFault::Memory | NormalFault::Refused =>
+                no_memory(),
+        }
+    }
+}
+
+/// Of the rows of a table.
+fn row_failure(fault: TableFault) -> Failure
+    ensures { result ≡ row_failure_of fault }
+{
+    match fault {
+        TableFault::BadName(at) => Failure {
+            answer: Answer::TableName,
+            at,
+        },
+        TableFault::Duplicate(at) => Failure {
+            answer: Answer::TableDuplicate,
+            at,
+        },
+        TableFault::BadValue(at) => Failure {
+            answer: Answer::TableValue,
+            at,
+        },
+        TableFault::Memory => no_memory(),
+    }
+}
+
+impl From<TableFileFault> for Failure {
+    ghost from_gives = { λ fault made. made ≡ table_failure_of fault };
+
+    fn from(fault: TableFileFault) -> Failure {
+        match fault {
+            TableFileFault::NotUtf8 { at } => Failure {
+                answer: Answer::TableNotUtf8,
+                at,
+            },
+            TableFileFault::BadLine(at) => Failure {
+                answer: Answer::TableLine,
+                at,
+            },
+            TableFileFault::Table(fault) => row_failure(fault),
+            TableFileFault::Read | TableFileFault::Memory => no_memory(),
+        }
+    }
+}

@@ -1,0 +1,110 @@
+//! The C library: normal text, trees as bytes, and cleaned text, of pages in memory.
+#![tactic(auto)]
+
+ghost use Rattle.std.specs.Prelude.{◌≡◌, length};
+ghost use Rattle.html_ffi.specs.Answers.{Tells};
+ghost use Rattle.html_ffi.specs.Calls.{IsCleanDocument, IsCleanFragment, IsNormalText, IsTreeText, MeansCleaned, MeansText};
+
+mod answer;
+mod clean;
+mod normal;
+mod page;
+mod report;
+mod room;
+mod table;
+#[cfg(test)]
+mod tests;
+mod tree;
+
+use clean::{clean_document_by, clean_fragment_by};
+use html_standard_references::STANDARD_ROWS;
+use normal::normalise_by;
+use report::{FigCleaned, FigReport};
+use std::alloc::Global;
+use tree::events_by;
+
+/// Writes the normal text of `page` to `output`, by the Standard's table of references.
+#[unsafe(no_mangle)]
+pub extern "C" fn fig_normalise(
+    alloc: Global,
+    page: &[u8],
+    output: &mut [u8],
+    report: &mut FigReport,
+) -> u32
+    ensures answer { Tells (MeansText IsNormalText STANDARD_ROWS.now page.now output.old output.new report.new) result }
+    ensures same_room { length output.new ≡ length output.old }
+{
+    normalise_by(alloc, STANDARD_ROWS.as_bytes(), page, output, report).number()
+}
+
+/// Writes the normal text of `page` to `output`, by the table of references that `table` has, as the bytes of a file.
+#[unsafe(no_mangle)]
+pub extern "C" fn fig_normalise_with(
+    alloc: Global,
+    table: &[u8],
+    page: &[u8],
+    output: &mut [u8],
+    report: &mut FigReport,
+) -> u32
+    ensures answer { Tells (MeansText IsNormalText table.now page.now output.old output.new report.new) result }
+    ensures same_room { length output.new ≡ length output.old }
+{
+    normalise_by(alloc, table, page, output, report).number()
+}
+
+/// Writes the tree of `page` to `output` as bytes, an event after the other, by the Standard's table of references.
+#[unsafe(no_mangle)]
+pub extern "C" fn fig_events(
+    alloc: Global,
+    page: &[u8],
+    output: &mut [u8],
+    report: &mut FigReport,
+) -> u32
+    ensures answer { Tells (MeansText IsTreeText STANDARD_ROWS.now page.now output.old output.new report.new) result }
+    ensures same_room { length output.new ≡ length output.old }
+{
+    events_by(alloc, STANDARD_ROWS.as_bytes(), page, output, report).number()
+}
+
+/// Writes the tree of `page` to `output` as bytes, by the table of references that `table` has.
+#[unsafe(no_mangle)]
+pub extern "C" fn fig_events_with(
+    alloc: Global,
+    table: &[u8],
+    page: &[u8],
+    output: &mut [u8],
+    report: &mut FigReport,
+) -> u32
+    ensures answer { Tells (MeansText IsTreeText table.now page.now output.old output.new report.new) result }
+    ensures same_room { length output.new ≡ length output.old }
+{
+    events_by(alloc, table, page, output, report).number()
+}
+
+/// Writes what the ready policy keeps of `page`, as a fragment in a `div`, to `output`.
+#[unsafe(no_mangle)]
+pub extern "C" fn fig_clean(
+    alloc: Global,
+    page: &[u8],
+    output: &mut [u8],
+    report: &mut FigCleaned,
+) -> u32
+    ensures answer { Tells (MeansCleaned IsCleanFragment STANDARD_ROWS.now page.now output.old output.new report.new) result }
+    ensures same_room { length output.new ≡ length output.old }
+{
+    clean_fragment_by(alloc, STANDARD_ROWS.as_bytes(), page, output, report).number()
+}
+
+/// Writes what the ready policy keeps of `page`, as a document, to `output`.
+#[unsafe(no_mangle)]
+pub extern "C" fn fig_clean_document(
+    alloc: Global,
+    page: &[u8],
+    output: &mut [u8],
+    report: &mut FigCleaned,
+) -> u32
+    ensures answer { Tells (MeansCleaned IsCleanDocument STANDARD_ROWS.now page.now output.old output.new report.new) result }
+    ensures same_room { length output.new ≡ length output.old }
+{
+    clean_document_by(alloc, STANDARD_ROWS.as_bytes(), page, output, report).number()
+}

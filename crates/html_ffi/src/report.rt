@@ -1,0 +1,117 @@
+//! What C is told beside an answer.
+ghost use Rattle.std.specs.Prelude.{◌≡◌};
+ghost use Rattle.html_ffi.specs.Reports.{cleaned_of, flag_of, nothing_at, nothing_cleaned_at, quirks_number, report_of};
+
+use html_clean::Cleaned;
+use html_normal::Report;
+use markup::QuirksMode;
+
+/// What is told of a page.
+#[repr(C)]
+#[derive(Clone, Copy, Debug, PartialEq, Eq)]
+pub struct FigReport {
+    /// How many bytes the text has.
+    pub length: usize,
+    /// How many parse errors there are, at most `u64::MAX`.
+    pub errors: u64,
+    /// Where the page or the table stops to be UTF-8, or the line or the row of the table that is at fault; else 0.
+    pub at: u64,
+    /// 0 for no quirks mode, 1 for limited quirks mode, 2 for quirks mode.
+    pub quirks: u8,
+    /// 1 where the document is plain, else 0.
+    pub plain: u8,
+}
+
+/// What is told of a page that was cleaned.
+#[repr(C)]
+#[derive(Clone, Copy, Debug, PartialEq, Eq)]
+pub struct FigCleaned {
+    /// How many bytes the text has.
+    pub length: usize,
+    /// Where the page stops to be UTF-8; else 0.
+    pub at: u64,
+    /// Elements that gave way to what stands in them.
+    pub unwrapped: u64,
+    /// Elements that were dropped with what stands in them.
+    pub dropped: u64,
+    /// Attributes of elements that were kept.
+    pub attributes: u64,
+    /// Comments and processing instructions.
+    pub comments: u64,
+}
+
+/// A flag of C's.
+fn flag(is: bool) -> u8
+    ensures { result ≡ flag_of is }
+{
+    if is { 1 } else { 0 }
+}
+
+/// The number of a quirks mode.
+fn quirks_number(mode: QuirksMode) -> u8
+    ensures { result ≡ quirks_number mode }
+{
+    match mode {
+        QuirksMode::NoQuirks => 0,
+        QuirksMode::LimitedQuirks => 1,
+        QuirksMode::Quirks => 2,
+    }
+}
+
+impl FigReport {
+    /// The report of a page of which a text was made that has so many bytes.
+    pub(crate) fn new(length: usize, told: Report) -> FigReport
+        ensures { result ≡ report_of length told }
+    {
+        FigReport {
+            length,
+            errors: told.errors,
+            at: 0,
+            quirks: quirks_number(told.quirks),
+            plain: flag(told.plain),
+        }
+    }
+
+    /// The report of a page of which no text was made, with the place that is told.
+    pub(crate) fn nothing(at: u64) -> FigReport
+        ensures { result ≡ nothing_at at }
+    {
+        FigReport {
+            length: 0,
+            errors: 0,
+            at,
+            quirks: 0,
+            plain: 0,
+        }
+    }
+}
+
+impl FigCleaned {
+    /// The report of a page of which a text was made that has so many bytes.
+    pub(crate) fn new(length: usize, counts: Cleaned) -> FigCleaned
+        ensures { result ≡ cleaned_of length counts }
+    {
+        FigCleaned {
+            length,
+            at: 0,
+            unwrapped: counts.unwrapped,
+            dropped: counts.dropped,
+            attributes: counts.attributes,
+            comments: counts.comments,
+        }
+    }
+
+    /// The report of a page of which no text was made, with the place that is told.
+    pub(crate) fn nothing(at: u64) -> FigCleaned
+        ensures { result ≡ nothing_cleaned_at at }
+    {
+        FigCleaned {
+            length: 0,
+            at,
+            unwrapped: 0,
+            dropped: 0,
+            attributes: 0,
+            comments: 0,
+        }
+    }
+}
