@@ -3,7 +3,7 @@ ghost use Rattle.std.specs.Prelude.{◌<◌, IfOk, OnOk, vec_len};
 
 use super::tags::tag;
 use crate::see;
-use html_tokens::pieces::{emit_pieces, tell_error};
+use html_tokens::pieces::{emit_pieces, report_error};
 use html_tokens::states::RawKind;
 use html_tokens::{Counting, Listed, ListedToken, TagKind, Token, TokenSink, TokenSinkResult};
 use markup::{ParseFault, Text};
@@ -167,7 +167,7 @@ fn pieces(alloc: Global) -> Result<Vec<(Text, u64)>, ParseFault>
 
 fn tell_text_and_error(alloc: Global, sink: &mut Listed) -> Result<(), ParseFault> {
     emit_pieces(sink, pieces(alloc)?)?;
-    tell_error(sink, CowStr::Borrowed("an error"), 2)
+    report_error(sink, CowStr::Borrowed("an error"), 2)
 }
 
 fn are_text_and_error_told(alloc: Global, sink: &mut Listed) -> bool {
