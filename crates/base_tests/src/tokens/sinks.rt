@@ -87,6 +87,22 @@ where
     }
 }
 
+// What a sink answers to a tag that it is lent, in words.
+fn answer_to_lent<S: TokenSink>(
+    alloc: Global,
+    sink: &mut S,
+    kind: TagKind,
+    name: &str,
+) -> Result<&'static str, ParseFault>
+where
+    S::Handle: Drop,
+    requires { S.is_sound (S.view sink.old) }
+{
+    let mut lent = tag(alloc, kind, name, &[])?;
+    let answer = sink.process_tag(&mut lent, 1)?;
+    Ok(in_words(&answer))
+}
+
 const TAGS: &[(TagKind, &str, &str)] = &[
     (TagKind::StartTag, "title", "escapable raw text"),
     (TagKind::EndTag, "title", "goes on"),
@@ -184,10 +200,18 @@ fn are_tags_counted(alloc: Global, sink: &mut Counting<Listed>) -> bool {
     is_counted && refused == Some(ParseFault::Ended) && sink.tags == 1 && sink.inner.told.len() == 1
 }
 
+// Whether a sink counts a tag that it is lent, and hands it on.
+fn is_lent_tag_counted(alloc: Global, sink: &mut Counting<Listed>) -> bool {
+    let answer = answer_to_lent(alloc, sink, STYLE.0, STYLE.1);
+    answer == Ok(STYLE.2) && sink.tags == 1 && sink.inner.told.len() == 1
+}
+
 #[test]
 fn tags_are_counted(rt: HostRuntime) {
     let mut sink = Counting::new(Listed::new(rt.alloc(), false));
     assert!(rt; are_tags_counted(rt.alloc(), &mut sink));
+    let mut lent = Counting::new(Listed::new(rt.alloc(), false));
+    assert!(rt; is_lent_tag_counted(rt.alloc(), &mut lent));
 }
 
 // Tells any sink a token, and ends it.
