@@ -210,4 +210,5 @@ def main():
         growth(programs, folder)
 
 
-main()
+if __name__ == "__main__":
+    main()

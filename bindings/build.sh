@@ -13,7 +13,8 @@ library=${1:-$top/crates/html_ffi/out/libhtml_ffi.a}
 rm -rf "$out"
 mkdir -p "$out/objects" "$out/licences"
 
-# What is linked in, and its licences: Figpliers; of the kit its library of Rust's names, memchr, thiserror, and the C file that takes memory.
+# What is linked in, and its licences: Figpliers; of the kit its library of Rust's names, memchr, thiserror, and the C file that
+# takes memory.
 cp "$top/LICENSE" "$out/licences/LICENSE"
 cp "$kit/rattle/memchr/LICENSE-MIT" "$out/licences/LICENSE-memchr"
 cp "$kit/rattle/thiserror/LICENSE" "$out/licences/LICENSE-thiserror"

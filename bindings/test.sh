@@ -26,7 +26,10 @@ c_static() { $cc $flags -I"$here/c" "$here/c/test.c" "$out/libfigpliers.a" -o "$
 c_shared() {
     $cc $flags -I"$here/c" "$here/c/test.c" -L"$out" -lfigpliers -o "$work/shared" && LD_LIBRARY_PATH=$out "$work/shared" "$here/rows.tsv"
 }
-cpp_header() { echo '#include "figpliers.h"' > "$work/header.cc" && $cc -x c++ -Wall -Wextra -Werror -fsyntax-only -I"$here/c" "$work/header.cc"; }
+cpp_header() {
+    echo '#include "figpliers.h"' > "$work/header.cc"
+    $cc -x c++ -Wall -Wextra -Werror -fsyntax-only -I"$here/c" "$work/header.cc"
+}
 package() {
     dpkg-deb -x "$out"/figpliers_*.deb "$work/package" && place=$work/package/usr/lib/x86_64-linux-gnu \
         && $cc -std=c99 -O2 -I"$work/package/usr/include" "$here/c/test.c" -L"$place" -lfigpliers -o "$work/packaged" \

@@ -76,8 +76,8 @@ static told call(const char *name, bytes table, bytes page, uint8_t *output, siz
     memset(&r, 0xA5, sizeof r);
     if (!strcmp(name, "normalise")) it.answer = fig_normalise(page.at, page.length, output, room, &r);
     else if (!strcmp(name, "events")) it.answer = fig_events(page.at, page.length, output, room, &r);
-    else if (!strcmp(name, "normalise_with")) it.answer = fig_normalise_with(table.at, table.length, page.at, page.length, output, room, &r);
-    else it.answer = fig_events_with(table.at, table.length, page.at, page.length, output, room, &r);
+    else it.answer = (strcmp(name, "events_with") ? fig_normalise_with : fig_events_with)(
+             table.at, table.length, page.at, page.length, output, room, &r);
     it.length = r.length;
     snprintf(it.numbers, sizeof it.numbers, "%s,%llu,%u,%u", r.errors ? "+" : "0", (unsigned long long)r.at, r.quirks, r.plain);
     return it;

@@ -62,6 +62,7 @@ impl Serialize for Full {
     }
 }
 
+#[inline(never)]
 fn by_html5ever(page: &str) -> Vec<u8> {
     let dom = parse_document(RcDom::default(), ParseOpts::default()).one(StrTendril::from_slice(page));
     let mut output = Vec::with_capacity(page.len() + page.len() / 4 + 256);
@@ -69,6 +70,7 @@ fn by_html5ever(page: &str) -> Vec<u8> {
     output
 }
 
+#[inline(never)]
 fn by_figpliers(page: &str) -> Vec<u8> {
     figpliers::normalise(page).unwrap().0.into_bytes()
 }

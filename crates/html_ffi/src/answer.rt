@@ -7,7 +7,7 @@ use html_normal::{NormalFault, TableFault, TableFileFault};
 use std::alloc::{AllocError, AllocFailed};
 
 /// What a call answers. The numbers stand in C's header, and never change.
-#[derive(Clone, Copy, Debug, PartialEq, Eq)]
+#[derive(Clone, Copy)]
 pub enum Answer {
     /// The text was written.
     Done,
@@ -49,7 +49,7 @@ impl Answer {
 }
 
 /// Why a call has no text, and the place that it tells: a number of bytes, or of a line or a row.
-#[derive(Clone, Copy, Debug, PartialEq, Eq)]
+#[derive(Clone, Copy)]
 pub struct Failure {
     /// Neither `Done` nor `TooShort`.
     pub answer: Answer,

@@ -12,8 +12,6 @@ mod page;
 mod report;
 mod room;
 mod table;
-#[cfg(test)]
-mod tests;
 mod tree;
 
 use clean::{clean_document_by, clean_fragment_by};

@@ -8,7 +8,7 @@ use markup::QuirksMode;
 
 /// What is told of a page.
 #[repr(C)]
-#[derive(Clone, Copy, Debug, PartialEq, Eq)]
+#[derive(Clone, Copy)]
 pub struct FigReport {
     /// How many bytes the text has.
     pub length: usize,
@@ -24,7 +24,7 @@ pub struct FigReport {
 
 /// What is told of a page that was cleaned.
 #[repr(C)]
-#[derive(Clone, Copy, Debug, PartialEq, Eq)]
+#[derive(Clone, Copy)]
 pub struct FigCleaned {
     /// How many bytes the text has.
     pub length: usize,
