@@ -10,7 +10,7 @@ const SET: SmallCharSet = SmallCharSet {
     bits: 1 << 60 | 1 << 38 | 1,
 };
 
-fn put_behind(alloc: Global, queue: &mut BufferQueue, text: &str) -> Result<(), ParseFault> {
+fn put_after(alloc: Global, queue: &mut BufferQueue, text: &str) -> Result<(), ParseFault> {
     queue.push_back(String::from_str(alloc, text)?)
 }
 
@@ -36,9 +36,9 @@ fn gives(queue: &mut BufferQueue, wanted: &str) -> bool {
 // Whether what is put at the back and at the front of a queue comes in order, from one that was empty.
 fn comes_in_order(alloc: Global, queue: &mut BufferQueue) -> bool {
     gives(queue, "")
-        && put_behind(alloc, queue, "\u{e9}\u{20ac}").is_ok()
+        && put_after(alloc, queue, "\u{e9}\u{20ac}").is_ok()
         && put_before(alloc, queue, "ab").is_ok()
-        && put_behind(alloc, queue, "\u{1f600}z").is_ok()
+        && put_after(alloc, queue, "\u{1f600}z").is_ok()
         && gives(queue, "ab\u{e9}\u{20ac}\u{1f600}z")
 }
 
@@ -139,7 +139,7 @@ fn answers(alloc: Global, queue: &mut BufferQueue, asked: &Asked) -> bool {
 
 // Whether a row is right of a queue that was empty.
 fn is_answered(alloc: Global, queue: &mut BufferQueue, row: &Row) -> bool {
-    put_behind(alloc, queue, row.0).is_ok() && answers(alloc, queue, &row.1) && gives(queue, row.2)
+    put_after(alloc, queue, row.0).is_ok() && answers(alloc, queue, &row.1) && gives(queue, row.2)
 }
 
 #[test]
@@ -165,8 +165,8 @@ fn is_exchanged(first: &mut BufferQueue, mut second: BufferQueue) -> bool {
 
 // The same of two queues that were empty.
 fn are_exchanged(alloc: Global, first: &mut BufferQueue, mut second: BufferQueue) -> bool {
-    put_behind(alloc, first, "one").is_ok()
-        && put_behind(alloc, &mut second, "two").is_ok()
+    put_after(alloc, first, "one").is_ok()
+        && put_after(alloc, &mut second, "two").is_ok()
         && is_exchanged(first, second)
 }
 
@@ -177,8 +177,8 @@ fn exchanges_and_replaces(rt: HostRuntime) {
 }
 
 // Whether a text is put at the back, if need be once more, since memory was refused.
-fn is_put_behind(alloc: Global, queue: &mut BufferQueue, text: &str) -> bool {
-    put_behind(alloc, queue, text).is_ok() || put_behind(alloc, queue, text).is_ok()
+fn is_put_after(alloc: Global, queue: &mut BufferQueue, text: &str) -> bool {
+    put_after(alloc, queue, text).is_ok() || put_after(alloc, queue, text).is_ok()
 }
 
 fn is_put_before(alloc: Global, queue: &mut BufferQueue, text: &str) -> bool {
@@ -188,9 +188,9 @@ fn is_put_before(alloc: Global, queue: &mut BufferQueue, text: &str) -> bool {
 /// Any one allocation may be refused: the call that asked for it changes nothing, so that it can be
 /// made again.
 fn stands_after_a_refusal(alloc: Global, queue: &mut BufferQueue) -> bool {
-    is_put_behind(alloc, queue, "ab")
-        && is_put_behind(alloc, queue, "\u{e9}<cd")
-        && is_put_behind(alloc, queue, "e")
+    is_put_after(alloc, queue, "ab")
+        && is_put_after(alloc, queue, "\u{e9}<cd")
+        && is_put_after(alloc, queue, "e")
         && takes(queue, &Asked::Run("ab\u{e9}"))
         && is_put_before(alloc, queue, "a longer text")
         && gives(queue, "a longer text<cde")

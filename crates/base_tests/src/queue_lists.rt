@@ -69,7 +69,7 @@ fn behind(list: &[char], taken: usize) -> &[char] {
 }
 
 /// A queue of a text, of which so many characters were taken.
-fn queue_behind(alloc: Global, list: &[char], taken: usize) -> Result<BufferQueue, ParseFault> {
+fn queue_after(alloc: Global, list: &[char], taken: usize) -> Result<BufferQueue, ParseFault> {
     let mut queue = BufferQueue::new();
     queue.push_back(text_of(alloc, list)?)?;
     for _ in 0..taken {
@@ -106,7 +106,7 @@ type Begun<'a> = (&'a [char], usize);
 /// Whether all that waits is lent as one text, and given.
 fn is_lent(alloc: Global, begun: Begun) -> Result<bool, ParseFault> {
     let rest = behind(begun.0, begun.1);
-    let mut queue = queue_behind(alloc, begun.0, begun.1)?;
+    let mut queue = queue_after(alloc, begun.0, begun.1)?;
     let text = text_of(alloc, rest)?;
     Ok(queue.as_str() == text.as_str() && gives(&mut queue, rest))
 }
@@ -140,7 +140,7 @@ fn is_first(piece: &SetResult, list: &[char]) -> bool {
 /// Whether what is taken first is what stands first in the list, and the rest is left.
 fn pops(alloc: Global, begun: Begun) -> Result<bool, ParseFault> {
     let rest = behind(begun.0, begun.1);
-    let mut queue = queue_behind(alloc, begun.0, begun.1)?;
+    let mut queue = queue_after(alloc, begun.0, begun.1)?;
     match queue.pop_except_from(SET)? {
         None => Ok(rest.is_empty() && gives(&mut queue, rest)),
         Some(piece) => {
@@ -150,23 +150,23 @@ fn pops(alloc: Global, begun: Begun) -> Result<bool, ParseFault> {
 }
 
 /// Whether a text that is put after what waits comes after it.
-fn puts_behind(alloc: Global, begun: Begun, other: &[char]) -> Result<bool, ParseFault> {
-    let mut queue = queue_behind(alloc, begun.0, begun.1)?;
+fn puts_after(alloc: Global, begun: Begun, other: &[char]) -> Result<bool, ParseFault> {
+    let mut queue = queue_after(alloc, begun.0, begun.1)?;
     queue.push_back(text_of(alloc, other)?)?;
     gives_both(alloc, &mut queue, behind(begun.0, begun.1), other)
 }
 
 /// Whether a text that is put before what waits comes before it.
 fn puts_before(alloc: Global, begun: Begun, other: &[char]) -> Result<bool, ParseFault> {
-    let mut queue = queue_behind(alloc, begun.0, begun.1)?;
+    let mut queue = queue_after(alloc, begun.0, begun.1)?;
     queue.push_front(text_of(alloc, other)?)?;
     gives_both(alloc, &mut queue, other, behind(begun.0, begun.1))
 }
 
 /// Whether two queues are exchanged, and then one is put in the place of the other.
 fn exchanges(alloc: Global, begun: Begun, other: &[char]) -> Result<bool, ParseFault> {
-    let mut first = queue_behind(alloc, begun.0, begun.1)?;
-    let mut second = queue_behind(alloc, other, 0)?;
+    let mut first = queue_after(alloc, begun.0, begun.1)?;
+    let mut second = queue_after(alloc, other, 0)?;
     first.swap_with(&mut second);
     let is_there = gives(&mut first, other);
     first.replace_with(second);
@@ -189,7 +189,7 @@ fn eats(alloc: Global, begun: Begun, pattern: &str) -> Result<bool, ParseFault>
     requires { IsAscii pattern.now }
 {
     let rest = behind(begun.0, begun.1);
-    let mut queue = queue_behind(alloc, begun.0, begun.1)?;
+    let mut queue = queue_after(alloc, begun.0, begun.1)?;
     let answer = eaten(rest, pattern);
     let left = if answer == Some(true) {
         pattern.len()
@@ -217,7 +217,7 @@ fn is_alone_right(alloc: Global, begun: Begun) -> Result<bool, ParseFault> {
 /// Whether a queue does so to which another text comes.
 fn is_together_right(alloc: Global, begun: Begun, other: &[char]) -> Result<bool, ParseFault> {
     Ok(
-        puts_behind(alloc, begun, other)?
+        puts_after(alloc, begun, other)?
             && puts_before(alloc, begun, other)?
             && exchanges(alloc, begun, other)?,
     )

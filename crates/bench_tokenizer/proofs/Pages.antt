@@ -13,7 +13,7 @@ use Rattle.html_tokenizer.proofs.Errors.Rises.{more-sum}
 use Rattle.html_tokens.specs.Notes.{errors_of, was_quiet}
 use Rattle.html_tokens.specs.Table.{Row}
 use Rattle.bench_tokenizer.specs.Counts.{counted_by, counting}
-use Rattle.bench_tokenizer.specs.Readings.{Begins, CountsPage, HasRead, IsCounted, Reads, ReadsPage, noted, owed_behind, page_owes, page_reading, to_come}
+use Rattle.bench_tokenizer.specs.Readings.{Begins, CountsPage, HasRead, IsCounted, Reads, ReadsPage, noted, owed_after, page_owes, page_reading, to_come}
 use Rattle.bench_tokenizer.specs.declared.counts.Counts.{Counts}
 
 -- a text without a byte is empty
@@ -38,7 +38,7 @@ begun table page k begins = record { owed = steps.nothing_owed; told = omega ari
 -- after a text that a tokenizer read, what follows that text is the rest of the page
 read-on : (table : List Row) (page text behind : List ℕ) (old new : Tokenizer Counts) → HasRead table page old (text ++ behind) → Reads old new text → HasRead table page new behind
 read-on table page text behind old new read reads = record {
-  owed = owed_behind reads.owed read.owed;
+  owed = owed_after reads.owed read.owed;
   told = told-all read.owed.faults reads.owed.faults old.sink.errors new.sink.errors read.told (told-fewer old.sink.errors reads.owed.faults (owed_for_text old.stream.exact_errors reads.came).faults new.sink.errors reads.rises.enough);
   same = read.same ∙ reads.same read.owed behind;
   takes = reads.takes;
@@ -49,7 +49,7 @@ whole-page : (table : List Row) (k new : Tokenizer Counts) (page : List ℕ) (re
     → EndGives counting (refusal k.stream) k new (Ok tt) → IsCounted table page new.sink
 whole-page table k new page rest read none gives =
     let has_ended = rw read.takes.begun at gives in
-    let owed = owed_behind has_ended.owed read.owed in
+    let owed = owed_after has_ended.owed read.owed in
     let told = still-told (and_more has_ended.owed.faults read.owed.faults) has_ended.told.errors new.sink.errors (told-all read.owed.faults has_ended.owed.faults k.sink.errors has_ended.told.errors read.told has_ended.rises.enough) has_ended.kept in
     let whole : page_reading table page ≡ Ok (counted_by new.sink, noted owed) =
     read.same ∙ ap (λ r. to_come k read.owed (chars r)) none ∙ ap (to_come k read.owed) chars-nil ∙ has_ended.same (noted read.owed) in

@@ -31,8 +31,8 @@ abbrev pub noted : Owed → Notes ℕ
 noted owed = record { pauses = []; errors = owed.faults; is_quiet = owed.is_quiet }
 
 -- what is owed, after what was owed before
-abbrev pub owed_behind : Owed → Owed → Owed
-owed_behind owed before = record { faults = and_more owed.faults before.faults; is_quiet = owed.is_quiet && before.is_quiet }
+abbrev pub owed_after : Owed → Owed → Owed
+owed_after owed before = record { faults = and_more owed.faults before.faults; is_quiet = owed.is_quiet && before.is_quiet }
 
 -- what a further text makes of the numbers, after what was owed
 abbrev pub to_come : Tokenizer Counts → Owed → List ℕ → Result (Counted × Notes ℕ) (Refusal × ℕ)
@@ -49,7 +49,7 @@ pub record Reads (old new : Tokenizer Counts) (text : List ℕ) : Type 0 where
   pub owed : Owed
   pub came : List ℕ
   pub rises : Rises errors (together owed (owed_for_text old.stream.exact_errors came)) old.sink new.sink
-  pub same : (before : Owed) (t : List ℕ) → to_come old before (text ++ t) ≡ to_come new (owed_behind owed before) t
+  pub same : (before : Owed) (t : List ℕ) → to_come old before (text ++ t) ≡ to_come new (owed_after owed before) t
   pub takes : Takes new
 
 -- A page was read up to this rest, and owed this before it.

@@ -28,7 +28,7 @@ pub(crate) fn characters_by_next(queue: &mut BufferQueue) -> u64
 pub(crate) fn runs_by_pop_except_from(queue: &mut BufferQueue) -> Result<u64, ParseFault>
     ensures all { OnOk result (queue.new.characters ≡ []) }
     ensures counted { OnOk result (queue.new.taken ≡ queue.old.taken + length queue.old.characters) }
-    ensures only_memory { IsOkUnless result Memory }
+    ensures fault { IsOkUnless result Memory }
     ensures number { IfOk result (λ n. n ≡ min (runs_and_members STOPS.bits queue.old.characters) 0xffff_ffff_ffff_ffff) }
 {
     let mut count: u64 = 0;

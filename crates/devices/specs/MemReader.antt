@@ -1,7 +1,7 @@
 -- A reader over memory, and what each of its calls does.
 use Rattle.std.specs.Prelude.{ℕ, ◌++◌, List, length, take, drop, min, if◌then◌else◌, Option, Result, Ok, Err}
 use Rattle.devices.specs.Devices.{one_more}
-use Rattle.devices.specs.Schedule.{fails_next, behind_call}
+use Rattle.devices.specs.Schedule.{fails_next, after_call}
 use Rattle.devices.specs.declared.traits.DeviceFault.{DeviceFault}
 use Rattle.devices.specs.declared.traits.DeviceFault.TheVariants.{Device}
 
@@ -22,11 +22,11 @@ read_answer r room = if fails_next r.fails_in then Err Device else Ok (given r r
 
 -- the reader after a read that fails
 abbrev pub failed_read : Reader → Reader
-failed_read r = record r { fails_in = behind_call r.fails_in; failures = one_more r.failures }
+failed_read r = record r { fails_in = after_call r.fails_in; failures = one_more r.failures }
 
 -- the reader after a read that gave so many bytes
 abbrev pub given_read : Reader → ℕ → Reader
-given_read r n = record r { left = drop n r.left; fails_in = behind_call r.fails_in }
+given_read r n = record r { left = drop n r.left; fails_in = after_call r.fails_in }
 
 -- the reader after a read into a buffer of so many bytes
 abbrev pub after_read : Reader → ℕ → Reader

@@ -2,7 +2,7 @@
 use Rattle.std.specs.Prelude.{ℕ, ◌-◌, ◌++◌, Bool, ◌&&◌, not, ◌==◌, List, length, take, min, if◌then◌else◌, Option, Result, Ok, Err}
 use Rattle.std.specs.Result.{result_unwrap_or}
 use Rattle.devices.specs.Devices.{one_more, write_failed}
-use Rattle.devices.specs.Schedule.{fails_next, behind_call}
+use Rattle.devices.specs.Schedule.{fails_next, after_call}
 use Rattle.devices.specs.declared.traits.DeviceFault.{DeviceFault}
 use Rattle.devices.specs.declared.traits.DeviceFault.TheVariants.{Device}
 
@@ -33,7 +33,7 @@ abbrev pub answered_write : Writer → List ℕ → Result ℕ DeviceFault → W
 answered_write w bytes answer = record w {
   written = w.written ++ take (result_unwrap_or answer 0) bytes;
   room = w.room - result_unwrap_or answer 0;
-  fails_in = behind_call w.fails_in;
+  fails_in = after_call w.fails_in;
   failures = if write_failed bytes answer then one_more w.failures else w.failures;
 }
 

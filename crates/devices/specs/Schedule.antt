@@ -8,5 +8,5 @@ fails_next None = false
 fails_next (Some n) = n == 1
 
 -- the number of the call that fails, counted from after the next call; 0 is no call's number
-abbrev pub behind_call : Option ℕ → Option ℕ
-behind_call fails_in = option_map (λ n. n - 1) fails_in
+abbrev pub after_call : Option ℕ → Option ℕ
+after_call fails_in = option_map (λ n. n - 1) fails_in

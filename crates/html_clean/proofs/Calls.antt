@@ -6,7 +6,7 @@ use Rattle.markup.specs.Trees.{Trees, Nothing, Text, Comment, ProcessingInstruct
 use Rattle.markup.specs.declared.attributes.Attribute.{Attribute}
 use Rattle.markup.specs.declared.names.QualName.{QualName}
 use Rattle.html_clean.specs.declared.filter.Opened.{Opened}
-use Rattle.html_clean.specs.Calls.{call_before, filtered, front_behind, hides, if_passed, open_behind, opened, opened_by, passed, passes, text_passed}
+use Rattle.html_clean.specs.Calls.{call_before, filtered, front_after, hides, if_passed, open_after, opened, opened_by, passed, passes, text_passed}
 use Rattle.html_clean.specs.Cleaned.{cleaned, cleaned_before, element_before, text_before, unmarked, unmarked_by}
 use Rattle.html_clean.specs.Names.{is_void}
 use Rattle.html_clean.specs.Policies.{fate, kept_attributes, plain_text, text_at, without_marks}
@@ -75,7 +75,7 @@ front_of front (Some call) = front_call front call
 
 abbrev fronted : Bool → List Call → List Call
 fronted front [] = []
-fronted front (call ∷ calls) = let on = front_call front call in call_before on (fronted (front_behind front on) calls)
+fronted front (call ∷ calls) = let on = front_call front call in call_before on (fronted (front_after front on) calls)
 
 fronted-behind : (calls : List Call) → fronted false calls ≡ calls
 fronted-behind [] = refl
@@ -116,7 +116,7 @@ passed-front policy stack front (WriteComment text) = refl
 passed-front policy stack front (WriteDoctype name) = refl
 passed-front policy stack front (WriteProcessingInstruction target text) = refl
 
-before-front : (front : Bool) (o on : Option Call) (rest : List Call) → on ≡ front_of front o → call_before on (fronted (front_behind front on) rest) ≡ fronted front (call_before o rest)
+before-front : (front : Bool) (o on : Option Call) (rest : List Call) → on ≡ front_of front o → call_before on (fronted (front_after front on) rest) ≡ fronted front (call_before o rest)
 before-front true None on rest h = rw h refl
 before-front false None on rest h = rw h refl
 before-front front (Some call) on rest h = rw h refl
@@ -125,11 +125,11 @@ filtered-front : (policy : Policy) (calls : List Call) (stack : List Opened) (fr
 filtered-front policy [] stack front = refl
 filtered-front policy (call ∷ calls) stack front =
     let on = passed policy stack front call in
-    ap (call_before on) (filtered-front policy calls (open_behind policy stack call) (front_behind front on))
-    ∙ before-front front (passed policy stack false call) on (filtered policy (open_behind policy stack call) false calls) (passed-front policy stack front call)
+    ap (call_before on) (filtered-front policy calls (open_after policy stack call) (front_after front on))
+    ∙ before-front front (passed policy stack false call) on (filtered policy (open_after policy stack call) false calls) (passed-front policy stack front call)
 
 text-unmarked : (m : List ℕ) (calls : List Call) (front after : Trees) → fronted true calls ≡ calls_of front → calls ≡ calls_of after
-    → call_before (text_passed false m) (fronted (front_behind true (text_passed false m)) calls) ≡ calls_of (unmarked_by m front after)
+    → call_before (text_passed false m) (fronted (front_after true (text_passed false m)) calls) ≡ calls_of (unmarked_by m front after)
 text-unmarked [] calls front after h k = h
 text-unmarked (c ∷ cs) calls front after h k = ap (λ calls. WriteText (c ∷ cs) ∷ calls) (fronted-behind calls ∙ k)
 

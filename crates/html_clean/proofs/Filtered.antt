@@ -4,10 +4,10 @@ use Rattle.std.specs.Prelude.{IfOk}
 use Rattle.markup.specs.Calls.{Call, Refuses, Step, StopsBefore, Walks, and_then, run}
 use Rattle.markup.specs.declared.serializer.SerializeFault.{SerializeFault}
 use Rattle.markup.specs.declared.serializer.SerializeFault.TheVariants.{Memory}
-use Rattle.html_clean.specs.Calls.{call_before, filtered, front_behind, open_behind}
+use Rattle.html_clean.specs.Calls.{call_before, filtered, front_after, open_after}
 use Rattle.html_clean.specs.Counts.{all_counted, with_counts}
 use Rattle.html_clean.specs.declared.counts.Cleaned.{Cleaned}
-use Rattle.html_clean.specs.Filter.{Filtering, IsStopped, behind_call, behind_pass, pass, passed_by, refuses_over, step_over}
+use Rattle.html_clean.specs.Filter.{Filtering, IsStopped, after_call, after_pass, pass, passed_by, refuses_over, step_over}
 
 module _ {S : Type 0} (step : Step S) (refuses : Refuses S) where
   -- calls were made, of which these were passed on
@@ -21,23 +21,23 @@ module _ {S : Type 0} (step : Step S) (refuses : Refuses S) where
 
   -- what is passed on for calls after a call
   abbrev later_calls : Filtering S → Call → List Call → List Call
-  later_calls f call calls = filtered f.policy (open_behind f.policy f.stack call) (front_behind f.front (passed_by f call)) calls
+  later_calls f call calls = filtered f.policy (open_after f.policy f.stack call) (front_after f.front (passed_by f call)) calls
 
   -- by what is passed on for the first call, and what the serializer makes of it
   ran-passed : (f : Filtering S) (call : Call) (calls : List Call) (reached : Filtering S) (on : Call) (r : Result S SerializeFault) → step f.inner on ≡ r
       → ((next : Filtering S) → run (step_over step) next calls ≡ Ok reached → RanAll next calls reached)
-      → and_then (behind_pass f call r) (λ next. run (step_over step) next calls) ≡ Ok reached
+      → and_then (after_pass f call r) (λ next. run (step_over step) next calls) ≡ Ok reached
       → Ran f (call ∷ calls) (on ∷ later_calls f call calls) (λ left. on ∷ later_calls f call (calls ++ left)) reached
   ran-passed f call calls reached on (Err fault) e later h = absurd cc
   ran-passed f call calls reached on (Ok inner) e later h =
-      let ran = later (behind_call f call inner) h in
+      let ran = later (after_call f call inner) h in
       record { inner = rw e ran.inner; split = λ left. ap (λ calls. on ∷ calls) (ran.split left); counts = ran.counts }
 
   ran-by : (f : Filtering S) (call : Call) (calls : List Call) (reached : Filtering S) (on : Option Call)
       → ((next : Filtering S) → run (step_over step) next calls ≡ Ok reached → RanAll next calls reached)
-      → and_then (behind_pass f call (pass step f.inner on)) (λ next. run (step_over step) next calls) ≡ Ok reached
+      → and_then (after_pass f call (pass step f.inner on)) (λ next. run (step_over step) next calls) ≡ Ok reached
       → Ran f (call ∷ calls) (call_before on (later_calls f call calls)) (λ left. call_before on (later_calls f call (calls ++ left))) reached
-  ran-by f call calls reached None later h = let ran = later (behind_call f call f.inner) h in record { inner = ran.inner; split = ran.split; counts = ran.counts }
+  ran-by f call calls reached None later h = let ran = later (after_call f call f.inner) h in record { inner = ran.inner; split = ran.split; counts = ran.counts }
   ran-by f call calls reached (Some on) later h = ran-passed f call calls reached on (step f.inner on) refl later h
 
   same-state : (f reached : Filtering S) → run (step_over step) f [] ≡ Ok reached → f ≡ reached

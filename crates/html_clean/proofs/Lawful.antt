@@ -11,7 +11,7 @@ use Rattle.html_tokens.specs.Laws.{has_no_null, is_not_null}
 use Rattle.html_round_trip.specs.Slices.Forms.{has_no_return, is_attribute_name, is_no_text, is_read_attribute}
 use Rattle.html_clean.specs.Cleaned.{are_lawful_attributes, is_lawful_attribute}
 use Rattle.html_clean.specs.Names.{is_safe_attribute}
-use Rattle.html_clean.specs.Policies.{added_if, is_kept_attribute, is_plain_character, kept_attributes, kept_behind, plain_attribute, plain_text}
+use Rattle.html_clean.specs.Policies.{added_if, is_kept_attribute, is_plain_character, kept_attributes, kept_after, plain_attribute, plain_text}
 use Rattle.html_clean.specs.declared.policy.Policy.{Policy}
 
 pub and-both : (a b : Bool) → a ≡ true → b ≡ true → (a && b) ≡ true
@@ -60,7 +60,7 @@ added policy element kept a true e lawful =
       distinct = distinct-more kept (plain_attribute a) ∙ and-both _ _ lawful.distinct p.1;
     }
 
-behind-lawful : (policy : Policy) (element : List ℕ) (attributes kept : List Attribute) → AreLawful policy element kept → are_lawful_attributes policy element (kept_behind policy element kept attributes) ≡ true
+behind-lawful : (policy : Policy) (element : List ℕ) (attributes kept : List Attribute) → AreLawful policy element kept → are_lawful_attributes policy element (kept_after policy element kept attributes) ≡ true
 behind-lawful policy element [] kept lawful = and-both _ _ lawful.each lawful.distinct
 behind-lawful policy element (a ∷ rest) kept lawful = behind-lawful policy element rest _ (added policy element kept a _ refl lawful)
 

@@ -5,7 +5,7 @@ use Rattle.std.proofs.lemmas.Bool.{and_parts}
 use Rattle.markup.specs.Escape.{escape, escaped, escaped_by}
 use Rattle.markup.specs.Trees.{Trees, Nothing, Text, Comment, ProcessingInstruction, Doctype, Element}
 use Rattle.html_round_trip.specs.Slices.Forms.{has_no_return}
-use Rattle.html_tokens.specs.NormalText.{normal_text, newlines_behind, without_mark}
+use Rattle.html_tokens.specs.NormalText.{normal_text, newlines_after, without_mark}
 use Rattle.html_tokens.proofs.NewlineLaws.{newlines-own}
 use Rattle.html_clean.specs.Cleaned.{are_kept, is_lawful_text, pieces_of, unmarked, unmarked_by}
 use Rattle.html_clean.specs.Pieces.{written_pieces}
@@ -58,4 +58,4 @@ unmarked-same false (c ∷ t) h = refl
 
 pub own-text : (policy : Policy) (trees : Trees) → are_kept policy trees ≡ true → has_no_return (text_of (unmarked trees)) ≡ true → (discard_bom : Bool) → normal_text discard_bom (text_of (unmarked trees)) ≡ text_of (unmarked trees)
 own-text policy trees kept none discard_bom =
-    ap (newlines_behind false) (unmarked-same discard_bom (text_of (unmarked trees)) (starts policy trees kept)) ∙ newlines-own (text_of (unmarked trees)) none
+    ap (newlines_after false) (unmarked-same discard_bom (text_of (unmarked trees)) (starts policy trees kept)) ∙ newlines-own (text_of (unmarked trees)) none

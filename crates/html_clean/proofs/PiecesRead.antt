@@ -18,7 +18,7 @@ use Rattle.html_round_trip.proofs.Slices.SpelledForms.{end-spelled, start-spelle
 use Rattle.html_round_trip.proofs.Slices.Spells.{token-read}
 use Rattle.html_round_trip.proofs.Slices.Texts.{text-read}
 use Rattle.html_clean.specs.PieceLaws.{GoesOn}
-use Rattle.html_clean.specs.Pieces.{End, Piece, Start, Text, are_read_pieces, is_read_piece, last_behind, telling, token_of, written_piece, written_pieces}
+use Rattle.html_clean.specs.Pieces.{End, Piece, Start, Text, are_read_pieces, is_read_piece, last_after, telling, token_of, written_piece, written_pieces}
 
 -- the parts of a start tag that is read back
 pub record IsReadStart (named : List ℕ → Bool) (name : List ℕ) (attributes : List Attribute) : Type 0 where
@@ -43,7 +43,7 @@ module _ {S H F : Type 0} (step : S → Token → ℕ → Result (S × TokenSink
   -- a piece is read as one step with its token
   one : (piece : Piece) → is_read_piece named piece ≡ true → (last : Option (List ℕ)) (breaks : ℕ) (s : S) → is_sound s → (t : List ℕ)
       → let behind = breaks + line_breaks (written_piece piece) in
-      read (in_data last) breaks s (written_piece piece ++ t) ≡ (step s (token_of piece) (line_number behind) >>= λ p. read (in_data (last_behind last (piece ∷ []))) behind p.0 t)
+      read (in_data last) breaks s (written_piece piece ++ t) ≡ (step s (token_of piece) (line_number behind) >>= λ p. read (in_data (last_after last (piece ∷ []))) behind p.0 t)
   one (Start name attributes) h last breaks s sound t =
       let parts = start-parts named name attributes h in
       let behind = breaks + line_breaks (written_piece (Start name attributes)) in
@@ -61,7 +61,7 @@ module _ {S H F : Type 0} (step : S → Token → ℕ → Result (S × TokenSink
       token-read step erred cdata ends rows _ _ _ _ (end-spelled rows last name p.0) breaks s t
       ∙ stays step erred cdata ends rows is_sound joins (in_data last) behind r t (goes_on.ends s sound name p.1 (line_number behind))
 
-  last-two : (last : Option (List ℕ)) (piece : Piece) (rest : List Piece) → last_behind (last_behind last (piece ∷ [])) rest ≡ last_behind last (piece ∷ rest)
+  last-two : (last : Option (List ℕ)) (piece : Piece) (rest : List Piece) → last_after (last_after last (piece ∷ [])) rest ≡ last_after last (piece ∷ rest)
   last-two last (Start name attributes) rest = refl
   last-two last (Text text) rest = refl
   last-two last (End name) rest = refl
@@ -73,24 +73,24 @@ module _ {S H F : Type 0} (step : S → Token → ℕ → Result (S × TokenSink
   none last breaks s t = let e : breaks ≡ breaks + 0 = omega arith in ap (λ n. read (in_data last) n s t) e
 
   -- what is read after pieces
-  abbrev behind_pieces : Option (List ℕ) → ℕ → List ℕ → S → Result S F
-  behind_pieces last breaks t told = read (in_data last) breaks told t
+  abbrev after_pieces : Option (List ℕ) → ℕ → List ℕ → S → Result S F
+  after_pieces last breaks t told = read (in_data last) breaks told t
 
   pub pieces-read : (pieces : List Piece) → are_read_pieces named pieces ≡ true → (last : Option (List ℕ)) (breaks : ℕ) (s : S) → is_sound s → (t : List ℕ)
-      → read (in_data last) breaks s (written_pieces pieces ++ t) ≡ (telling step breaks s pieces >>= λ told. read (in_data (last_behind last pieces)) (breaks + line_breaks (written_pieces pieces)) told t)
+      → read (in_data last) breaks s (written_pieces pieces ++ t) ≡ (telling step breaks s pieces >>= λ told. read (in_data (last_after last pieces)) (breaks + line_breaks (written_pieces pieces)) told t)
   pieces-read [] h last breaks s sound t = none last breaks s t
   pieces-read (piece ∷ rest) h last breaks s sound t =
       let p = and_parts (is_read_piece named piece) (are_read_pieces named rest) h in
       let a = written_piece piece in
       let b = written_pieces rest in
       let behind = breaks + line_breaks a in
-      let next = last_behind last (piece ∷ []) in
+      let next = last_after last (piece ∷ []) in
       let r = step s (token_of piece) (line_number behind) in
-      let ending : S → Result S F = λ told. read (in_data (last_behind last (piece ∷ rest))) (breaks + line_breaks (a ++ b)) told t in
+      let ending : S → Result S F = λ told. read (in_data (last_after last (piece ∷ rest))) (breaks + line_breaks (a ++ b)) told t in
       ap (read (in_data last) breaks s) (append_assoc a b t)
       ∙ (one piece p.0 last breaks s sound (b ++ t)
       ∙ (bind_where r (λ q. read (in_data next) behind q.0 (b ++ t)) (λ q. telling step behind q.0 rest >>= ending)
       (IfOk-weaker r _ _ (λ q k. pieces-read rest p.1 next behind q.0 k t
-      ∙ (ap (λ l. telling step behind q.0 rest >>= behind_pieces l (behind + line_breaks b) t) (last-two last piece rest)
-      ∙ ap (λ n. telling step behind q.0 rest >>= behind_pieces (last_behind last (piece ∷ rest)) n t) (sums breaks a b))) (keeps s sound (token_of piece) (line_number behind)))
+      ∙ (ap (λ l. telling step behind q.0 rest >>= after_pieces l (behind + line_breaks b) t) (last-two last piece rest)
+      ∙ ap (λ n. telling step behind q.0 rest >>= after_pieces (last_after last (piece ∷ rest)) n t) (sums breaks a b))) (keeps s sound (token_of piece) (line_number behind)))
       ∙ sym (bind-assoc r (λ q. telling step behind q.0 rest) ending)))

@@ -11,7 +11,7 @@ use Rattle.html_round_trip.specs.Slices.Forms.{is_no_text}
 use Rattle.html_round_trip.proofs.Slices.Names.{has-none}
 use Rattle.html_clean.specs.Cleaned.{are_kept, cleaned, cleaned_before, unmarked, unmarked_by, element_before, is_lawful_attribute, is_lawful_text, kids_of, text_before}
 use Rattle.html_clean.specs.Names.{is_void}
-use Rattle.html_clean.specs.Policies.{added_if, fate_by, is_kept_attribute, is_kept_name, is_mark, is_plain_character, kept_attributes, kept_behind, plain_attribute, without_marks}
+use Rattle.html_clean.specs.Policies.{added_if, fate_by, is_kept_attribute, is_kept_name, is_mark, is_plain_character, kept_attributes, kept_after, plain_attribute, without_marks}
 use Rattle.html_clean.specs.declared.elements.Fate.{Fate}
 use Rattle.html_clean.specs.declared.elements.Fate.TheVariants.{Kept}
 use Rattle.html_clean.specs.declared.policy.Policy.{Policy}
@@ -36,7 +36,7 @@ with-by true kept a x h e = ap (λ (x : Attribute). kept ++ x ∷ []) e
 with-by false kept a x h e = absurd cc
 
 attributes-same : (policy : Policy) (element : List ℕ) (attributes kept : List Attribute) → list_all (is_lawful_attribute policy element) attributes ≡ true → are_distinct (kept ++ attributes) ≡ true
-    → kept_behind policy element kept attributes ≡ kept ++ attributes
+    → kept_after policy element kept attributes ≡ kept ++ attributes
 attributes-same policy element [] kept h d = sym (append-nil kept)
 attributes-same policy element (a ∷ rest) kept h d =
     let p = and_parts (is_lawful_attribute policy element a) (list_all (is_lawful_attribute policy element) rest) h in
@@ -45,7 +45,7 @@ attributes-same policy element (a ∷ rest) kept h d =
     let test : (is_kept_attribute policy element (plain_attribute a) && not (has_local_name a.name.local kept)) ≡ true =
     and-both _ _ (ap (is_kept_attribute policy element) same ∙ q.0) (ap not (has-none kept a rest d)) in
     let all : (kept ++ a ∷ []) ++ rest ≡ kept ++ a ∷ rest = append_assoc kept (a ∷ []) rest in
-    ap (λ kept. kept_behind policy element kept rest) (with-by _ kept a (plain_attribute a) test same)
+    ap (λ kept. kept_after policy element kept rest) (with-by _ kept a (plain_attribute a) test same)
     ∙ (attributes-same policy element rest (kept ++ a ∷ []) p.1 (ap are_distinct all ∙ d) ∙ all)
 
 fate-kept : (b d : Bool) → b ≡ true → fate_by b d ≡ Kept

@@ -6,7 +6,7 @@ use Rattle.std.specs.List.{filter}
 use Rattle.std.proofs.lemmas.Bool.Decides.{nat_tests}
 use Rattle.std.proofs.lemmas.List.{at_drop_more}
 use Rattle.std.proofs.lemmas.List.Elements.{filter-append}
-use Rattle.html_clean.specs.Urls.{has_begun, is_blank, is_break, is_scheme_character, option_cons, prepended, scheme_behind, scheme_by, scheme_rest, step_of, url_text, without_blanks}
+use Rattle.html_clean.specs.Urls.{has_begun, is_blank, is_break, is_scheme_character, option_cons, prepended, scheme_after, scheme_by, scheme_rest, step_of, url_text, without_blanks}
 use Rattle.html_clean.specs.declared.url.SchemeStep.TheVariants.{Ends, Stops, Grows}
 
 -- THE TEXT
@@ -73,15 +73,15 @@ behind-more d name c rest true a = ap Some (append-nil (d ∷ name))
 behind-more d name c rest false true = prepended-more (d ∷ name) (to_ascii_lowercase c) (scheme_rest rest)
 behind-more d name c rest false false = refl
 
-pub scheme-turn : (name : List ℕ) (c : ℕ) (rest : List ℕ) → scheme_behind name (c ∷ rest) ≡ scheme_by (step_of name c) name (scheme_behind (name ++ to_ascii_lowercase c ∷ []) rest)
+pub scheme-turn : (name : List ℕ) (c : ℕ) (rest : List ℕ) → scheme_after name (c ∷ rest) ≡ scheme_by (step_of name c) name (scheme_after (name ++ to_ascii_lowercase c ∷ []) rest)
 scheme-turn [] c rest = behind-one c rest _ _ refl refl
 scheme-turn (d ∷ name) c rest = behind-more d name c rest (nat_eq c 58) (is_scheme_character c)
 
 -- at the character that is n characters after the front
-pub scheme-at : (name cs : List ℕ) (n c : ℕ) → (n < length cs) × (c ≡ get_or cs n c) → scheme_behind name (drop n cs) ≡ scheme_by (step_of name c) name (scheme_behind (name ++ to_ascii_lowercase c ∷ []) (drop (n + 1) cs))
-scheme-at name cs n c h = at_drop_more (scheme_behind name) cs n c h.0 ∙ (ap (λ x. scheme_behind name (x ∷ drop (n + 1) cs)) (sym h.1) ∙ scheme-turn name c (drop (n + 1) cs))
+pub scheme-at : (name cs : List ℕ) (n c : ℕ) → (n < length cs) × (c ≡ get_or cs n c) → scheme_after name (drop n cs) ≡ scheme_by (step_of name c) name (scheme_after (name ++ to_ascii_lowercase c ∷ []) (drop (n + 1) cs))
+scheme-at name cs n c h = at_drop_more (scheme_after name) cs n c h.0 ∙ (ap (λ x. scheme_after name (x ∷ drop (n + 1) cs)) (sym h.1) ∙ scheme-turn name c (drop (n + 1) cs))
 
-pub scheme-end : (name : List ℕ) → scheme_behind name [] ≡ None
+pub scheme-end : (name : List ℕ) → scheme_after name [] ≡ None
 scheme-end [] = refl
 scheme-end (d ∷ name) = refl
 

@@ -32,10 +32,10 @@ opened_by false Unwrapped void = record { passes = false; hides = false }
 abbrev pub opened : Policy → List Opened → QualName → Opened
 opened policy stack name = opened_by (hides stack) (fate policy name) (is_void name.local)
 
-abbrev pub open_behind : Policy → List Opened → Call → List Opened
-open_behind policy stack (StartElem name attributes) = opened policy stack name ∷ stack
-open_behind policy stack (EndElem name) = rest_of stack
-open_behind policy stack _ = stack
+abbrev pub open_after : Policy → List Opened → Call → List Opened
+open_after policy stack (StartElem name attributes) = opened policy stack name ∷ stack
+open_after policy stack (EndElem name) = rest_of stack
+open_after policy stack _ = stack
 
 abbrev pub if_passed : Bool → Call → Option Call
 if_passed true call = Some call
@@ -54,8 +54,8 @@ passed policy stack front (WriteText text) = text_passed (hides stack) (text_at 
 passed policy stack front _ = None
 
 -- whether nothing was passed on yet, after a call for which this is
-abbrev pub front_behind : Bool → Option Call → Bool
-front_behind front on = front && not (is_some on)
+abbrev pub front_after : Bool → Option Call → Bool
+front_after front on = front && not (is_some on)
 
 abbrev pub call_before : Option Call → List Call → List Call
 call_before None calls = calls
@@ -66,4 +66,4 @@ abbrev pub filtered : Policy → List Opened → Bool → List Call → List Cal
 filtered policy stack front [] = []
 filtered policy stack front (call ∷ calls) =
     let on = passed policy stack front call in
-    call_before on (filtered policy (open_behind policy stack call) (front_behind front on) calls)
+    call_before on (filtered policy (open_after policy stack call) (front_after front on) calls)

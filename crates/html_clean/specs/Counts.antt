@@ -5,7 +5,7 @@ use Rattle.markup.specs.Trees.{Trees}
 use Rattle.markup.specs.declared.attributes.Attribute.{Attribute}
 use Rattle.markup.specs.declared.serializer.SerializeFault.{SerializeFault}
 use Rattle.markup.specs.Calls.Call.{StartElem, WriteComment, WriteProcessingInstruction}
-use Rattle.html_clean.specs.Calls.{hides, open_behind}
+use Rattle.html_clean.specs.Calls.{hides, open_after}
 use Rattle.html_clean.specs.Policies.{fate, kept_attributes}
 use Rattle.html_clean.specs.declared.counts.Cleaned.{Cleaned}
 use Rattle.html_clean.specs.declared.elements.Fate.{Fate}
@@ -42,7 +42,7 @@ counted policy stack counts _ = counts
 -- after calls, one after the other
 abbrev pub all_counted : Policy → List Opened → Cleaned → List Call → Cleaned
 all_counted policy stack counts [] = counts
-all_counted policy stack counts (call ∷ calls) = all_counted policy (open_behind policy stack call) (counted policy stack counts call) calls
+all_counted policy stack counts (call ∷ calls) = all_counted policy (open_after policy stack call) (counted policy stack counts call) calls
 
 abbrev pub nothing_counted : Cleaned
 nothing_counted = record { unwrapped = 0; dropped = 0; attributes = 0; comments = 0 }

@@ -3,7 +3,7 @@ use Rattle.std.specs.Prelude.{◌≡◌, Bool, List, Option, Some, None, Result,
 use Rattle.markup.specs.Calls.{Call, Refuses, Step}
 use Rattle.markup.specs.declared.serializer.SerializeFault.{SerializeFault}
 use Rattle.markup.specs.declared.serializer.SerializeFault.TheVariants.{Memory}
-use Rattle.html_clean.specs.Calls.{front_behind, open_behind, passed}
+use Rattle.html_clean.specs.Calls.{front_after, open_after, passed}
 use Rattle.html_clean.specs.Counts.{counted}
 use Rattle.html_clean.specs.declared.counts.Cleaned.{Cleaned}
 use Rattle.html_clean.specs.declared.filter.Opened.{Opened}
@@ -43,21 +43,21 @@ abbrev pub passed_by : {S : Type 0} → Filtering S → Call → Option Call
 passed_by f call = passed f.policy f.stack f.front call
 
 -- a filter after a call, by what the serializer is after it
-abbrev pub behind_call : {S : Type 0} → Filtering S → Call → S → Filtering S
-behind_call f call inner = record {
+abbrev pub after_call : {S : Type 0} → Filtering S → Call → S → Filtering S
+after_call f call inner = record {
   policy = f.policy;
   inner = inner;
-  stack = open_behind f.policy f.stack call;
-  front = front_behind f.front (passed_by f call);
+  stack = open_after f.policy f.stack call;
+  front = front_after f.front (passed_by f call);
   counts = counted f.policy f.stack f.counts call;
 }
 
-abbrev pub behind_pass : {S : Type 0} → Filtering S → Call → Result S SerializeFault → Result (Filtering S) SerializeFault
-behind_pass f call (Ok inner) = Ok (behind_call f call inner)
-behind_pass f call (Err fault) = Err fault
+abbrev pub after_pass : {S : Type 0} → Filtering S → Call → Result S SerializeFault → Result (Filtering S) SerializeFault
+after_pass f call (Ok inner) = Ok (after_call f call inner)
+after_pass f call (Err fault) = Err fault
 
 abbrev pub step_over : {S : Type 0} → Step S → Step (Filtering S)
-step_over step f call = behind_pass f call (pass step f.inner (passed_by f call))
+step_over step f call = after_pass f call (pass step f.inner (passed_by f call))
 
 abbrev pub refuses_over : {S : Type 0} → Refuses S → Refuses (Filtering S)
 refuses_over refuses old call fault new = IsStopped refuses old.inner (passed_by old call) fault new.inner

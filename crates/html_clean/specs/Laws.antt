@@ -10,7 +10,7 @@ use Rattle.html_tokens.specs.NormalText.{normal_text}
 use Rattle.html_tokens.specs.Reading.{◌>>=◌, reading, line_breaks}
 use Rattle.html_tokens.specs.Table.{Row}
 use Rattle.html_clean.specs.PieceLaws.{GoesOn}
-use Rattle.html_clean.specs.Pieces.{last_behind, telling}
+use Rattle.html_clean.specs.Pieces.{last_after, telling}
 use Rattle.html_clean.specs.Calls.{filtered}
 use Rattle.html_clean.specs.Cleaned.{are_kept, are_kept_pieces, cleaned, is_balanced, pieces_of, unmarked}
 use Rattle.html_clean.specs.Policies.{is_kept_name}
@@ -34,7 +34,7 @@ IsCleanedRead {S} is_sound step cdata ends =
     let pieces = pieces_of (cleaned policy trees) in
     ((discard_bom : Bool) → normal_text discard_bom text ≡ text)
     × (reading step erred cdata ends rows (in_data last) breaks s (text ++ t)
-    ≡ (telling step breaks s pieces >>= λ told. reading step erred cdata ends rows (in_data (last_behind last pieces)) (breaks + line_breaks text) told t))
+    ≡ (telling step breaks s pieces >>= λ told. reading step erred cdata ends rows (in_data (last_after last pieces)) (breaks + line_breaks text) told t))
 
 -- filtering the calls of trees leaves the calls of the cleaned trees
 abbrev pub AreCleanedCalls : Type 0

@@ -34,11 +34,11 @@ token_of (Text text) = CharacterTokens text
 token_of (End name) = end_token name
 
 -- the name of the last start tag, after pieces
-abbrev pub last_behind : Option (List ℕ) → List Piece → Option (List ℕ)
-last_behind last [] = last
-last_behind last (Start name attributes ∷ rest) = last_behind (Some name) rest
-last_behind last (Text text ∷ rest) = last_behind last rest
-last_behind last (End name ∷ rest) = last_behind last rest
+abbrev pub last_after : Option (List ℕ) → List Piece → Option (List ℕ)
+last_after last [] = last
+last_after last (Start name attributes ∷ rest) = last_after (Some name) rest
+last_after last (Text text ∷ rest) = last_after last rest
+last_after last (End name ∷ rest) = last_after last rest
 
 -- what a sink becomes that is told these pieces and nothing else, each on the line of its end, after so many line breaks
 abbrev pub telling : {S H F : Type 0} → (S → Token → ℕ → Result (S × TokenSinkResult H) F) → ℕ → S → List Piece → Result S F

@@ -105,9 +105,9 @@ abbrev pub kept_with : Policy → List ℕ → List Attribute → Attribute → 
 kept_with policy element kept a = added_if (is_kept_attribute policy element (plain_attribute a) && not (has_local_name a.name.local kept)) kept (plain_attribute a)
 
 -- those that are kept after others: of those of one name the first
-abbrev pub kept_behind : Policy → List ℕ → List Attribute → List Attribute → List Attribute
-kept_behind policy element kept [] = kept
-kept_behind policy element kept (a ∷ rest) = kept_behind policy element (kept_with policy element kept a) rest
+abbrev pub kept_after : Policy → List ℕ → List Attribute → List Attribute → List Attribute
+kept_after policy element kept [] = kept
+kept_after policy element kept (a ∷ rest) = kept_after policy element (kept_with policy element kept a) rest
 
 abbrev pub kept_attributes : Policy → List ℕ → List Attribute → List Attribute
-kept_attributes policy element attributes = kept_behind policy element [] attributes
+kept_attributes policy element attributes = kept_after policy element [] attributes

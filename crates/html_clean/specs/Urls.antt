@@ -73,9 +73,9 @@ prepended name None = None
 prepended name (Some cs) = Some (name ++ cs)
 
 -- the scheme, once so much of it was met
-abbrev pub scheme_behind : List ℕ → List ℕ → Option (List ℕ)
-scheme_behind [] cs = scheme_of cs
-scheme_behind (d ∷ name) cs = prepended (d ∷ name) (scheme_rest cs)
+abbrev pub scheme_after : List ℕ → List ℕ → Option (List ℕ)
+scheme_after [] cs = scheme_of cs
+scheme_after (d ∷ name) cs = prepended (d ∷ name) (scheme_rest cs)
 
 -- what a character is there
 abbrev pub step_of : List ℕ → ℕ → SchemeStep

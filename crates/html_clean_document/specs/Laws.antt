@@ -9,7 +9,7 @@ use Rattle.html_clean.specs.Cleaned.{cleaned, pieces_of}
 use Rattle.html_clean.specs.Policies.{is_kept_name}
 use Rattle.html_clean.specs.declared.policy.Policy.{Policy}
 use Rattle.html_clean.specs.PieceLaws.{GoesOn}
-use Rattle.html_clean.specs.Pieces.{last_behind, telling}
+use Rattle.html_clean.specs.Pieces.{last_after, telling}
 use Rattle.html_rules.specs.ForeignContent.{asks_cdata}
 use Rattle.html_rules.specs.State.{State}
 use Rattle.html_rules.specs.Step.{ended, step}
@@ -28,4 +28,4 @@ IsCleanedTold =
     → let text = written scripting default_entry (cleaned policy trees) in
     let pieces = pieces_of (cleaned policy trees) in
     reading step erred asks_cdata ended rows (in_data last) breaks s (text ++ t)
-    ≡ (telling step breaks s pieces >>= λ told. reading step erred asks_cdata ended rows (in_data (last_behind last pieces)) (breaks + line_breaks text) told t)
+    ≡ (telling step breaks s pieces >>= λ told. reading step erred asks_cdata ended rows (in_data (last_after last pieces)) (breaks + line_breaks text) told t)

@@ -5,7 +5,7 @@ use Rattle.markup.specs.Forest.{Above, Forest, IsForest, IsParent, NodeData, chi
 use Rattle.markup.proofs.Parents.{is_among-parent}
 use Rattle.markup.proofs.Reparented.{IsReparented, IsReparented-reparent_children}
 use Rattle.markup.proofs.TemplateContents.{HasContents-same_data}
-use Rattle.html_forest.specs.Links.{Links, after_in, before_in, first_of, is_it, link_at, links_at, moved_behind, next_under, previous_under}
+use Rattle.html_forest.specs.Links.{Links, after_in, before_in, first_of, is_it, link_at, links_at, moved_after, next_under, previous_under}
 use Rattle.html_forest.specs.Views.{IsKept}
 use Rattle.html_forest.proofs.Kept.{links_at-same}
 use Rattle.html_forest.proofs.Linked.{first-behind, last_of-behind, same-links}
@@ -127,18 +127,18 @@ module _ (f g : Forest) (from to : ℕ) (is : IsForest f) (moved : IsReparented 
           ])
         ]
 
-    pub some-moved : (n : ℕ) → moved_behind from to tail (Some head) (last_of (children_of f from)) (children_of f from) n (links_at f n) ≡ links_at g n
+    pub some-moved : (n : ℕ) → moved_after from to tail (Some head) (last_of (children_of f from)) (children_of f from) n (links_at f n) ≡ links_at g n
     some-moved n = same-links _ _ (parent-of n) (previous-of n (parent_of f n) refl) (next-of n (parent_of f n) refl) (first-of n) (last-of n)
 
 -- all nodes keep what they have, once the children moved
-pub moved-links : (f g : Forest) (from to : ℕ) → IsForest f → IsReparented f g from to → from ≢ to → (n : ℕ) → moved_behind from to (last_of (children_of f to)) (first_of (children_of f from)) (last_of (children_of f from)) (children_of f from) n (links_at f n) ≡ links_at g n
+pub moved-links : (f g : Forest) (from to : ℕ) → IsForest f → IsReparented f g from to → from ≢ to → (n : ℕ) → moved_after from to (last_of (children_of f to)) (first_of (children_of f from)) (last_of (children_of f from)) (children_of f from) n (links_at f n) ≡ links_at g n
 moved-links f g from to is moved apart n = by (children_of f from) refl where
-  by : (cs : List ℕ) → children_of f from ≡ cs → moved_behind from to (last_of (children_of f to)) (first_of cs) (last_of (children_of f from)) (children_of f from) n (links_at f n) ≡ links_at g n
+  by : (cs : List ℕ) → children_of f from ≡ cs → moved_after from to (last_of (children_of f to)) (first_of cs) (last_of (children_of f from)) (children_of f from) n (links_at f n) ≡ links_at g n
   by [] e = nothing-moved f g from to is moved apart e n
   by (head ∷ rest) e = some-moved f g from to is moved apart head rest e n
 
 pub IsKept-reparented : (f : Forest) (ss : List NodeData) (ls new : List Links) (from to : ℕ) → IsKept f ss ls → from < node_count f → IsParent f to → ((c : ℕ) → is_among c (children_of f from) ≡ true → Above f c to → ⊥) → from ≢ to → length new ≡ length ls
-    → ((n : ℕ) → link_at new n ≡ moved_behind from to (link_at ls to).last (link_at ls from).first (link_at ls from).last (children_of f from) n (link_at ls n)) → IsKept (reparent_children f from to) ss new
+    → ((n : ℕ) → link_at new n ≡ moved_after from to (link_at ls to).last (link_at ls from).first (link_at ls from).last (children_of f from) n (link_at ls n)) → IsKept (reparent_children f from to) ss new
 IsKept-reparented f ss ls new from to k there at loose apart long links = record {
   is_forest = moved.is;
   has_contents = HasContents-same_data f (reparent_children f from to) k.has_contents moved.same_data;

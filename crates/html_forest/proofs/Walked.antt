@@ -16,16 +16,16 @@ use Rattle.markup.specs.declared.serializer.SerializeFault.{SerializeFault}
 use Rattle.markup.proofs.WalkCalls.{leaf-calls, node-calls, weight-first}
 use Rattle.markup.proofs.WholeTrees.{Within, among-first, among-later, inner-within, trees-first, trees-none}
 use Rattle.html_forest.specs.Links.{after_in, first_of, next_under}
-use Rattle.html_forest.specs.Walk.{Advances, IsAhead, IsBelow, IsEnded, IsSpot, Meets, behind, behind_under, calls_above, calls_left, from, is_end, size_above, size_left, stands_under, those_behind, up_of}
+use Rattle.html_forest.specs.Walk.{Advances, IsAhead, IsBelow, IsEnded, IsSpot, Meets, behind, after_under, calls_above, calls_left, from, is_end, size_above, size_left, stands_under, those_after, up_of}
 use Rattle.html_forest.specs.declared.walk.Spot.{Spot}
 
 -- LISTS
 
-after-those : (n : ℕ) (xs : List ℕ) → after_in n xs ≡ first_of (those_behind n xs)
+after-those : (n : ℕ) (xs : List ℕ) → after_in n xs ≡ first_of (those_after n xs)
 after-those n [] = refl
 after-those n (x ∷ xs) = by (n == x) (after-those n xs)
   where
-    by : (b : Bool) → after_in n xs ≡ first_of (those_behind n xs) → cond b (first_of xs) (after_in n xs) ≡ first_of (cond b xs (those_behind n xs))
+    by : (b : Bool) → after_in n xs ≡ first_of (those_after n xs) → cond b (first_of xs) (after_in n xs) ≡ first_of (cond b xs (those_after n xs))
     by true rest = refl
     by false rest = rest
 
@@ -33,17 +33,17 @@ after-those n (x ∷ xs) = by (n == x) (after-those n xs)
 pub next-behind : (f : Forest) (n : ℕ) → next_under f n (parent_of f n) ≡ first_of (behind f n)
 next-behind f n = by (parent_of f n)
   where
-    by : (o : Option ℕ) → next_under f n o ≡ first_of (behind_under f n o)
+    by : (o : Option ℕ) → next_under f n o ≡ first_of (after_under f n o)
     by None = refl
     by (Some p) = after-those n (children_of f p)
 
 -- what stands before a number in a list, it, and those after it
-split-at : (n : ℕ) (xs : List ℕ) → is_among n xs ≡ true → (done : List ℕ) × (done ++ n ∷ those_behind n xs ≡ xs)
+split-at : (n : ℕ) (xs : List ℕ) → is_among n xs ≡ true → (done : List ℕ) × (done ++ n ∷ those_after n xs ≡ xs)
 split-at n [] among = absurd cc
 split-at n (x ∷ xs) among = by (n == x) refl among (λ is. split-at n xs is)
   where
-    by : (b : Bool) → (n == x) ≡ b → cond b true (is_among n xs) ≡ true → (is_among n xs ≡ true → (done : List ℕ) × (done ++ n ∷ those_behind n xs ≡ xs))
-        → (done : List ℕ) × (done ++ n ∷ cond b xs (those_behind n xs) ≡ x ∷ xs)
+    by : (b : Bool) → (n == x) ≡ b → cond b true (is_among n xs) ≡ true → (is_among n xs ≡ true → (done : List ℕ) × (done ++ n ∷ those_after n xs ≡ xs))
+        → (done : List ℕ) × (done ++ n ∷ cond b xs (those_after n xs) ≡ x ∷ xs)
     by true same is rest = ([], let it : n ≡ x = eqb-true n x same in ap (λ (m : ℕ). m ∷ xs) it)
     by false other is rest = (x ∷ (rest is).0, ap (λ (ys : List ℕ). x ∷ ys) (rest is).1)
 
@@ -52,11 +52,11 @@ among-split [] n rest = among-first n rest
 among-split (x ∷ done) n rest = among-later n x (done ++ n ∷ rest) (among-split done n rest)
 
 -- in a list without repeats
-behind-split : (done : List ℕ) (n : ℕ) (rest : List ℕ) → IsDistinct (done ++ n ∷ rest) → those_behind n (done ++ n ∷ rest) ≡ rest
+behind-split : (done : List ℕ) (n : ℕ) (rest : List ℕ) → IsDistinct (done ++ n ∷ rest) → those_after n (done ++ n ∷ rest) ≡ rest
 behind-split [] n rest distinct = rw (eq-eqb n n refl) refl
 behind-split (x ∷ done) n rest distinct = by (n == x) refl (behind-split done n rest distinct.1)
   where
-    by : (b : Bool) → (n == x) ≡ b → those_behind n (done ++ n ∷ rest) ≡ rest → cond b (done ++ n ∷ rest) (those_behind n (done ++ n ∷ rest)) ≡ rest
+    by : (b : Bool) → (n == x) ≡ b → those_after n (done ++ n ∷ rest) ≡ rest → cond b (done ++ n ∷ rest) (those_after n (done ++ n ∷ rest)) ≡ rest
     by true same more =
         let it : n ≡ x = eqb-true n x same in
         let among : is_among x (done ++ n ∷ rest) ≡ true = rw (← it) (among-split done n rest) in

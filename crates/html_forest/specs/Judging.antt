@@ -5,7 +5,7 @@ use Rattle.markup.specs.NodeCounts.{nodes_in}
 use Rattle.markup.specs.Trees.{Trees, Nothing, Text, Comment, Doctype, Element, trees_before}
 use Rattle.markup.specs.declared.attributes.Attribute.{Attribute}
 use Rattle.markup.specs.declared.names.QualName.{QualName}
-use Rattle.html_plain.specs.Elements.{behind_element, inside, may_end, takes_comments, text_kind}
+use Rattle.html_plain.specs.Elements.{place_after_element, inside, may_end, takes_comments, text_kind}
 use Rattle.html_plain.specs.Grammar.{is_first, is_plain, is_plain_comment, is_plain_doctype, is_plain_text, takes_text}
 use Rattle.html_plain.specs.declared.elements.PlainElement.{PlainElement}
 use Rattle.html_forest.specs.declared.plain.Around.{Around}
@@ -38,16 +38,16 @@ abbrev pub opens_here : Stand → List ℕ → List ℕ → List ℕ → Bool
 opens_here stand name public_id system_id = is_first stand.place && is_plain_doctype name public_id system_id
 
 -- where it goes on after a text
-abbrev pub IsBehindText : Stand → List ℕ → Option Stand → Type 0
-IsBehindText stand text behind = (rest : Trees) → is_plain_at stand (Text text rest) ≡ goes_on_at behind rest
+abbrev pub IsAfterText : Stand → List ℕ → Option Stand → Type 0
+IsAfterText stand text behind = (rest : Trees) → is_plain_at stand (Text text rest) ≡ goes_on_at behind rest
 
 -- and after a comment
-abbrev pub IsBehindComment : Stand → List ℕ → Option Stand → Type 0
-IsBehindComment stand text behind = (rest : Trees) → is_plain_at stand (Comment text rest) ≡ goes_on_at behind rest
+abbrev pub IsAfterComment : Stand → List ℕ → Option Stand → Type 0
+IsAfterComment stand text behind = (rest : Trees) → is_plain_at stand (Comment text rest) ≡ goes_on_at behind rest
 
 -- and after a doctype
-abbrev pub IsBehindDoctype : Stand → List ℕ → List ℕ → List ℕ → Option Stand → Type 0
-IsBehindDoctype stand name public_id system_id behind = (rest : Trees) → is_plain_at stand (Doctype name public_id system_id rest) ≡ goes_on_at behind rest
+abbrev pub IsAfterDoctype : Stand → List ℕ → List ℕ → List ℕ → Option Stand → Type 0
+IsAfterDoctype stand name public_id system_id behind = (rest : Trees) → is_plain_at stand (Doctype name public_id system_id rest) ≡ goes_on_at behind rest
 
 -- and in and after an element that is no template
 abbrev pub IsAround : Stand → QualName → List Attribute → Option Around → Type 0
@@ -55,7 +55,7 @@ IsAround stand name attributes around = (kids rest : Trees) → is_plain_at stan
 
 -- where nodes stand in and after an element that may stand here
 abbrev pub around_of : Stand → PlainElement → Around
-around_of stand k = record { inside = record { place = inside stand.place k; after_text = false }; behind = record { place = behind_element stand.place; after_text = false } }
+around_of stand k = record { inside = record { place = inside stand.place k; after_text = false }; behind = record { place = place_after_element stand.place; after_text = false } }
 
 -- trees after others, where no other place is given for them
 abbrev pub trees_by : Forest → Option Stand → List ℕ → Trees → Trees
@@ -63,9 +63,9 @@ trees_by f None rest behind = trees_before f rest behind
 trees_by f (Some stand) rest behind = Nothing
 
 -- the trees that come after those that are judged, up to where another place is given
-abbrev pub trees_behind : Forest → List Level → Trees
-trees_behind f [] = Nothing
-trees_behind f (level ∷ levels) = trees_by f level.behind level.rest (trees_behind f levels)
+abbrev pub trees_after : Forest → List Level → Trees
+trees_after f [] = Nothing
+trees_after f (level ∷ levels) = trees_by f level.behind level.rest (trees_after f levels)
 
 abbrev pub plain_by : Forest → Option Stand → List ℕ → Trees → Bool → Bool
 plain_by f None rest behind above = above
@@ -74,11 +74,11 @@ plain_by f (Some stand) rest behind above = is_plain_at stand (trees_before f re
 -- whether the levels that have another place are plain
 abbrev pub are_levels_plain : Forest → List Level → Bool
 are_levels_plain f [] = true
-are_levels_plain f (level ∷ levels) = plain_by f level.behind level.rest (trees_behind f levels) (are_levels_plain f levels)
+are_levels_plain f (level ∷ levels) = plain_by f level.behind level.rest (trees_after f levels) (are_levels_plain f levels)
 
 -- whether all that is left is plain: nodes from a stand on, and the levels that wait, of which the last comes first
 abbrev pub is_left_plain : Forest → Stand → List ℕ → List Level → Bool
-is_left_plain f stand rest levels = is_plain_at stand (trees_before f rest (trees_behind f (reverse levels))) && are_levels_plain f (reverse levels)
+is_left_plain f stand rest levels = is_plain_at stand (trees_before f rest (trees_after f (reverse levels))) && are_levels_plain f (reverse levels)
 
 -- from where some nodes end to where those that waited after them begin, and whether the first may end there
 abbrev pub IsAscent : Option Stand → Stand → Stand → Bool → Type 0

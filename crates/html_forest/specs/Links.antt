@@ -51,8 +51,8 @@ is_it None m = false
 is_it (Some n) m = m == n
 
 -- the links of n, once what stands after `previous` is `to`, or what stands first under the parent
-abbrev pub behind_set : ℕ → Option ℕ → Option ℕ → ℕ → Links → Links
-behind_set parent previous to n l = record l {
+abbrev pub after_set : ℕ → Option ℕ → Option ℕ → ℕ → Links → Links
+after_set parent previous to n l = record l {
   next = cond (is_it previous n) to l.next;
   first = cond (n == parent && is_none previous) to l.first;
 }
@@ -71,12 +71,12 @@ moved_to child parent previous next n l = cond (n == child) (record l { parent =
 -- the links of n, once another node stands under a parent between two neighbours
 abbrev pub placed : ℕ → Option ℕ → Option ℕ → ℕ → ℕ → Links → Links
 placed parent previous next child n l =
-    behind_set parent previous (Some child) n (before_set parent next (Some child) n (moved_to child (Some parent) previous next n l))
+    after_set parent previous (Some child) n (before_set parent next (Some child) n (moved_to child (Some parent) previous next n l))
 
 -- the links of n, once that node is taken out from between them
 abbrev pub unplaced : ℕ → Option ℕ → Option ℕ → ℕ → ℕ → Links → Links
 unplaced parent previous next child n l =
-    behind_set parent previous next n (before_set parent next previous n (moved_to child None None None n l))
+    after_set parent previous next n (before_set parent next previous n (moved_to child None None None n l))
 
 -- the links of n, once these nodes have another parent
 abbrev pub adopted : ℕ → List ℕ → ℕ → Links → Links
@@ -95,10 +95,10 @@ abbrev pub emptied : ℕ → ℕ → Links → Links
 emptied parent n l = record l { first = cond (n == parent) None l.first; last = cond (n == parent) None l.last }
 
 -- the links of n, once the children of one node, from `first` to `last`, stand after the tail of another one's
-abbrev pub moved_behind : ℕ → ℕ → Option ℕ → Option ℕ → Option ℕ → List ℕ → ℕ → Links → Links
-moved_behind from to tail None last moved n l = l
-moved_behind from to tail (Some head) last moved n l =
-    emptied from n (ended_by to last n (led_by head tail n (behind_set to tail (Some head) n (adopted to moved n l))))
+abbrev pub moved_after : ℕ → ℕ → Option ℕ → Option ℕ → Option ℕ → List ℕ → ℕ → Links → Links
+moved_after from to tail None last moved n l = l
+moved_after from to tail (Some head) last moved n l =
+    emptied from n (ended_by to last n (led_by head tail n (after_set to tail (Some head) n (adopted to moved n l))))
 
 abbrev pub link_at : List Links → ℕ → Links
 link_at links n = slice_index_or links n no_links

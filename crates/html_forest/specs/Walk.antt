@@ -24,17 +24,17 @@ abbrev pub up_of : Forest → ℕ → ℕ → ℕ → ℕ
 up_of f root depth n = cond (depth == 0) root (stands_under f n (parent_of f n))
 
 -- what stands after the first n of a list
-abbrev pub those_behind : ℕ → List ℕ → List ℕ
-those_behind n [] = []
-those_behind n (m ∷ ms) = cond (n == m) ms (those_behind n ms)
+abbrev pub those_after : ℕ → List ℕ → List ℕ
+those_after n [] = []
+those_after n (m ∷ ms) = cond (n == m) ms (those_after n ms)
 
-abbrev pub behind_under : Forest → ℕ → Option ℕ → List ℕ
-behind_under f n None = []
-behind_under f n (Some parent) = those_behind n (children_of f parent)
+abbrev pub after_under : Forest → ℕ → Option ℕ → List ℕ
+after_under f n None = []
+after_under f n (Some parent) = those_after n (children_of f parent)
 
 -- the nodes after a node, among the children of its parent
 abbrev pub behind : Forest → ℕ → List ℕ
-behind f n = behind_under f n (parent_of f n)
+behind f n = after_under f n (parent_of f n)
 
 -- a node, if there is one, and those after it
 abbrev pub from : Forest → Option ℕ → List ℕ

@@ -1,7 +1,7 @@
 //! Changes of the nodes, one at a time. They know nothing of what makes a forest.
 ghost use Rattle.std.specs.Prelude.{◌≡◌, ◌+◌, ◌<◌, ℕ, ◌∷◌, ◌++◌, [], Some, None, IfSome, slice_set, vec_len};
 ghost use Rattle.std.specs.Vec.{vec_capacity};
-ghost use Rattle.html_forest.specs.Links.{adopted, before_set, behind_set, emptied, ended_by, led_by, link_at, moved_behind, moved_to, no_links, placed, unplaced};
+ghost use Rattle.html_forest.specs.Links.{adopted, before_set, after_set, emptied, ended_by, led_by, link_at, moved_after, moved_to, no_links, placed, unplaced};
 ghost use Rattle.html_forest.specs.Views.{entries_of, links_of, walk_from, IsWalk};
 
 use crate::entry::Entry;
@@ -48,11 +48,11 @@ fn set_links(nodes: &mut Vec<Node>, at: NodeId, links: Links)
 }
 
 /// Notes what stands after a node, or else first in its parent.
-fn set_behind(nodes: &mut Vec<Node>, parent: NodeId, previous: Option<NodeId>, to: Link)
+fn set_after(nodes: &mut Vec<Node>, parent: NodeId, previous: Option<NodeId>, to: Link)
     requires parent { parent < vec_len nodes.old }
     requires previous { IfSome previous (λ id. id < vec_len nodes.old) }
     ensures entries { entries_of nodes.new.items ≡ entries_of nodes.old.items }
-    ensures links { (n : ℕ) → link_at (links_of nodes.new.items) n ≡ behind_set parent previous to n (link_at (links_of nodes.old.items) n) }
+    ensures links { (n : ℕ) → link_at (links_of nodes.new.items) n ≡ after_set parent previous to n (link_at (links_of nodes.old.items) n) }
     ensures len { vec_len nodes.new ≡ vec_len nodes.old }
 {
     match previous {
@@ -126,7 +126,7 @@ pub fn link_between(
     let behind = Link::new(next);
     set_place(nodes, child, above, before, behind);
     set_before(nodes, parent, behind.node(), Link::new(Some(child)));
-    set_behind(nodes, parent, before.node(), Link::new(Some(child)));
+    set_after(nodes, parent, before.node(), Link::new(Some(child)));
 }
 
 /// Takes a node out of its parent, from between its neighbours.
@@ -142,7 +142,7 @@ pub fn unlink(nodes: &mut Vec<Node>, parent: NodeId, child: NodeId)
     let Links { previous, next, .. } = links(nodes, child);
     set_place(nodes, child, Link::none(), Link::none(), Link::none());
     set_before(nodes, parent, next.node(), previous);
-    set_behind(nodes, parent, previous.node(), next);
+    set_after(nodes, parent, previous.node(), next);
 }
 
 /// Notes under which parent some nodes stand that are next to one another, from `first` on.
@@ -207,14 +207,14 @@ pub fn move_children(nodes: &mut Vec<Node>, from: NodeId, to: NodeId)
     requires first { IfSome (link_at (links_of nodes.old.items) from).first (λ id. id < vec_len nodes.old) }
     requires tail { IfSome (link_at (links_of nodes.old.items) to).last (λ id. id < vec_len nodes.old) }
     ensures entries { entries_of nodes.new.items ≡ entries_of nodes.old.items }
-    ensures links { (n : ℕ) → link_at (links_of nodes.new.items) n ≡ moved_behind from to (link_at (links_of nodes.old.items) to).last (link_at (links_of nodes.old.items) from).first (link_at (links_of nodes.old.items) from).last (walk_from nodes.old.items (link_at (links_of nodes.old.items) from).first) n (link_at (links_of nodes.old.items) n) }
+    ensures links { (n : ℕ) → link_at (links_of nodes.new.items) n ≡ moved_after from to (link_at (links_of nodes.old.items) to).last (link_at (links_of nodes.old.items) from).first (link_at (links_of nodes.old.items) from).last (walk_from nodes.old.items (link_at (links_of nodes.old.items) from).first) n (link_at (links_of nodes.old.items) n) }
     ensures len { vec_len nodes.new ≡ vec_len nodes.old }
 {
     let Links { first, last, .. } = links(nodes, from);
     let Links { last: tail, .. } = links(nodes, to);
     if let Some(head) = first.node() {
         adopt(nodes, first.node(), to);
-        set_behind(nodes, to, tail.node(), first);
+        set_after(nodes, to, tail.node(), first);
         set_previous(nodes, head, tail);
         set_last(nodes, to, last);
         set_childless(nodes, from);

@@ -5,7 +5,7 @@ ghost use Rattle.markup.specs.Named.{IsTree};
 ghost use Rattle.markup.specs.declared.fault.ParseFault.TheVariants.{Memory};
 ghost use Rattle.html_plain.specs.Grammar.{is_plain_forest, is_plain_start};
 ghost use Rattle.html_forest.specs.Views.{attributes, characters};
-ghost use Rattle.html_forest.specs.Judging.{AreChildrenTaken, GoesOn, IsAround, IsAscent, IsBehindComment, IsBehindDoctype, IsBehindText, IsElementTaken, IsTaken, around_of, opens_here, takes_comment_here, takes_here};
+ghost use Rattle.html_forest.specs.Judging.{AreChildrenTaken, GoesOn, IsAround, IsAscent, IsAfterComment, IsAfterDoctype, IsAfterText, IsElementTaken, IsTaken, around_of, opens_here, takes_comment_here, takes_here};
 
 use crate::children::Children;
 use crate::forest::Forest;
@@ -49,12 +49,12 @@ impl Stand {
     }
 
     /// Where the next node stands after a text, if that may stand here.
-    fn behind_text(self, text: TextRef<'_>) -> Option<Stand>
-        ensures { IsBehindText self (characters text.entry) result }
+    fn place_after_text(self, text: TextRef<'_>) -> Option<Stand>
+        ensures { IsAfterText self (characters text.entry) result }
     {
         if self.takes(text) {
             Some(Stand {
-                place: self.place.behind_text(),
+                place: self.place.place_after_text(),
                 after_text: true,
             })
         } else {
@@ -70,8 +70,8 @@ impl Stand {
     }
 
     /// Where the next node stands after a comment, if that may stand here.
-    fn behind_comment(self, text: TextRef<'_>) -> Option<Stand>
-        ensures { IsBehindComment self (characters text.entry) result }
+    fn after_comment(self, text: TextRef<'_>) -> Option<Stand>
+        ensures { IsAfterComment self (characters text.entry) result }
     {
         if self.takes_comment(text) {
             Some(Stand {
@@ -92,13 +92,13 @@ impl Stand {
     }
 
     /// Where the next node stands after a doctype, if that may stand here.
-    fn behind_doctype(
+    fn after_doctype(
         self,
         name: TextRef<'_>,
         public_id: TextRef<'_>,
         system_id: TextRef<'_>,
     ) -> Option<Stand>
-        ensures { IsBehindDoctype self (characters name.entry) (characters public_id.entry) (characters system_id.entry) result }
+        ensures { IsAfterDoctype self (characters name.entry) (characters public_id.entry) (characters system_id.entry) result }
     {
         if self.opens(name, public_id, system_id) {
             Some(Stand {
@@ -159,7 +159,7 @@ impl Stand {
                 after_text: false,
             },
             behind: Stand {
-                place: self.place.behind_element(),
+                place: self.place.place_after_element(),
                 after_text: false,
             },
         }
@@ -267,11 +267,11 @@ impl<'a> Judge<'a> {
     {
         match forest.node(id) {
             Some(NodeData::Text(text)) => {
-                let behind = self.stand.behind_text(text);
+                let behind = self.stand.place_after_text(text);
                 Ok(self.go_on(behind))
             }
             Some(NodeData::Comment(text)) => {
-                let behind = self.stand.behind_comment(text);
+                let behind = self.stand.after_comment(text);
                 Ok(self.go_on(behind))
             }
             Some(
@@ -281,7 +281,7 @@ impl<'a> Judge<'a> {
                     system_id,
                 },
             ) => {
-                let behind = self.stand.behind_doctype(name, public_id, system_id);
+                let behind = self.stand.after_doctype(name, public_id, system_id);
                 Ok(self.go_on(behind))
             }
             Some(

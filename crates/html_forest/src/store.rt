@@ -128,7 +128,7 @@ impl Store {
             } => NodeData::Element {
                 name: self.name(*name),
                 attrs: self.attributes(*at, *count as usize),
-                template_contents: behind_if(*template, id),
+                template_contents: after_if(*template, id),
                 integration_point: *integration_point,
             },
             Entry::OwnElement {
@@ -138,7 +138,7 @@ impl Store {
             } => NodeData::Element {
                 name: &element.name,
                 attrs: AttributesRef::new(element.attrs.as_slice()),
-                template_contents: behind_if(*template, id),
+                template_contents: after_if(*template, id),
                 integration_point: *integration_point,
             },
         }
@@ -353,7 +353,7 @@ impl Store {
 }
 
 // The node after a template.
-fn behind_if(template: bool, id: NodeId) -> Option<NodeId>
+fn after_if(template: bool, id: NodeId) -> Option<NodeId>
     requires { id + 1 < 2 ^ 64 }
     ensures { result ≡ cond template (Some (id + 1)) None }
 {

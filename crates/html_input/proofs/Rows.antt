@@ -7,7 +7,7 @@ use Rattle.std.proofs.Math.Seq.{drop-cons}
 use Rattle.std.proofs.lemmas.Bool.{le-ltb, lt-ltb}
 use Rattle.std.proofs.lemmas.List.{drop_all, length-append, take-append-drop}
 use Rattle.html_tokens.specs.declared.table.ReferenceRow.{ReferenceRow}
-use Rattle.html_input.specs.TableFile.{cut_at, row_of, rows_from, value_behind, with_row}
+use Rattle.html_input.specs.TableFile.{cut_at, row_of, rows_from, value_after, with_row}
 
 -- what a split at the first such byte says of the parts
 pub cut_at-split : (mark : ℕ) (bs : List ℕ) (r : Option (Bor (List ℕ) × Bor (List ℕ)))
@@ -90,13 +90,13 @@ small (suc (suc (suc (suc (suc zero))))) value within below = omega arith
 small (suc (suc (suc (suc (suc (suc i)))))) value within below = absurd (omega arith)
 
 -- after a byte that is no digit no value is read
-pub value-none : (digits : List ℕ) (i value byte : ℕ) (of : Option ℕ) → i < length digits → byte ≡ get_or digits i 0 → (digit_value byte < 16 → ⊥) → of ≡ value_behind value (drop i digits) → None ≡ of
+pub value-none : (digits : List ℕ) (i value byte : ℕ) (of : Option ℕ) → i < length digits → byte ≡ get_or digits i 0 → (digit_value byte < 16 → ⊥) → of ≡ value_after value (drop i digits) → None ≡ of
 value-none digits i value byte of within read no_digit so_far =
     sym (so_far ∙ rw (drop-cons digits i 0 within, ← read, le-ltb (digit_value byte) 16 (omega arith)) refl)
 
 -- one digit more of a value
-pub value-more : (digits : List ℕ) (i value byte digit : ℕ) (of : Option ℕ) → i < length digits → byte ≡ get_or digits i 0 → (digit_value byte < 16) × (digit ≡ digit_value byte) → of ≡ value_behind value (drop i digits)
-    → of ≡ value_behind (value * 16 + digit) (drop (i + 1) digits)
+pub value-more : (digits : List ℕ) (i value byte digit : ℕ) (of : Option ℕ) → i < length digits → byte ≡ get_or digits i 0 → (digit_value byte < 16) × (digit ≡ digit_value byte) → of ≡ value_after value (drop i digits)
+    → of ≡ value_after (value * 16 + digit) (drop (i + 1) digits)
 value-more digits i value byte digit of within read is so_far =
     so_far ∙ rw (drop-cons digits i 0 within, ← read, lt-ltb (digit_value byte) 16 is.0, is.1, add-one) refl
 
@@ -105,5 +105,5 @@ pub small-more : (i value byte digit : ℕ) → value < 16 ^ i → (digit_value 
 small-more i value byte digit below is = rw add-one (omega (arith, is.0, is.1))
 
 -- after the last digit the value is whole
-pub value-whole : (digits : List ℕ) (i value : ℕ) (of : Option ℕ) → length digits ≤ i → of ≡ value_behind value (drop i digits) → Some value ≡ of
-value-whole digits i value of all so_far = sym (so_far ∙ ap (value_behind value) (drop_all i digits all))
+pub value-whole : (digits : List ℕ) (i value : ℕ) (of : Option ℕ) → length digits ≤ i → of ≡ value_after value (drop i digits) → Some value ≡ of
+value-whole digits i value of all so_far = sym (so_far ∙ ap (value_after value) (drop_all i digits all))

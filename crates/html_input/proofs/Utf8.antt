@@ -110,8 +110,8 @@ unfolding utf8_error_len
 utf8_error_len-nil = refl
 
 -- a text after a front of it that is text
-text_behind : (bs : List ℕ) (n : ℕ) → IsUtf8 bs → IsUtf8 (take n bs) → n ≤ length bs → IsUtf8 (drop n bs)
-text_behind bs n text front within = IsUtf8-drop bs n text (IsCharBoundary-from_take bs n text within front)
+text_after : (bs : List ℕ) (n : ℕ) → IsUtf8 bs → IsUtf8 (take n bs) → n ≤ length bs → IsUtf8 (drop n bs)
+text_after bs n text front within = IsUtf8-drop bs n text (IsCharBoundary-from_take bs n text within front)
 
 -- a character that a text begins with, and what follows it
 pub record BeginsWithChar (bs : List ℕ) : Type 0 where
@@ -164,7 +164,7 @@ still_short bs more v j k up_to fault longer text =
     let front : IsUtf8 (take v (take (v + j) (bs ++ more))) =
     subst IsUtf8 (sym (take-take v (v + j) (bs ++ more) (omega arith) ∙ take-append-le v bs more (omega arith))) up_to.front in
     let behind : IsUtf8 (take j (ys ++ more)) =
-    subst IsUtf8 (drop-front bs more v j (omega arith)) (text_behind (take (v + j) (bs ++ more)) v text front (omega arith)) in
+    subst IsUtf8 (drop-front bs more v j (omega arith)) (text_after (take (v + j) (bs ++ more)) v text front (omega arith)) in
     let more_len = length-append ys more in
     let some : 0 < length (take j (ys ++ more)) = omega (arith, length-take j (ys ++ more)) in
     let first = first_char (take j (ys ++ more)) behind some in
@@ -205,7 +205,7 @@ IsValidUpTo-behind bs n v within front up_to =
           let text' : IsUtf8 (take (n + j) bs) = subst (λ (i : ℕ). IsUtf8 (take i bs)) m_is text in
           let front' : IsUtf8 (take n (take (n + j) bs)) = subst IsUtf8 (sym (take-take n (n + j) bs (omega arith))) front in
           let fits : n ≤ length (take (n + j) bs) = omega (arith, length-take (n + j) bs) in
-          up_to.longest j (omega arith) (subst IsUtf8 (drop-take n j bs) (text_behind (take (n + j) bs) n text' front' fits));
+          up_to.longest j (omega arith) (subst IsUtf8 (drop-take n j bs) (text_after (take (n + j) bs) n text' front' fits));
     }
 
 -- bytes with no byte begin a text

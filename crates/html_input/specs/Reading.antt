@@ -41,10 +41,10 @@ pub record IsSplit (bytes text cut : List ℕ) : Type 0 where
   pub front : IsFront bytes (length text)
 
 -- Bytes that begin no text, after a text of so many bytes.
-abbrev pub IsFaultBehind : ℕ → List ℕ → TextFault → Type 0
-IsFaultBehind before bytes (NotUtf8 at) = (front : List ℕ) → IsUtf8 front → length front ≡ before → StaysAtFault (front ++ bytes) at
-IsFaultBehind before bytes Read = ⊥
-IsFaultBehind before bytes Memory = Unit {0}
+abbrev pub IsFaultAfter : ℕ → List ℕ → TextFault → Type 0
+IsFaultAfter before bytes (NotUtf8 at) = (front : List ℕ) → IsUtf8 front → length front ≡ before → StaysAtFault (front ++ bytes) at
+IsFaultAfter before bytes Read = ⊥
+IsFaultAfter before bytes Memory = Unit {0}
 
 -- What a fault says of the bytes that were left before and are left after a reading.
 abbrev pub IsReadFault : (old new : Option (List ℕ)) → TextFault → Type 0

@@ -14,13 +14,13 @@ abbrev pub cut_at : ℕ → List ℕ → Option (List ℕ × List ℕ)
 cut_at mark bytes = if nat_lt (position_or_len (λ b. b == mark) bytes) (length bytes) then Some (before_first (λ b. b == mark) bytes, after_first (λ b. b == mark) bytes) else None
 
 -- the number that hexadecimal digits stand for after those of a value
-abbrev pub value_behind : ℕ → List ℕ → Option ℕ
-value_behind value [] = Some value
-value_behind value (b ∷ bs) = if nat_lt (digit_value b) 16 then value_behind (value * 16 + digit_value b) bs else None
+abbrev pub value_after : ℕ → List ℕ → Option ℕ
+value_after value [] = Some value
+value_after value (b ∷ bs) = if nat_lt (digit_value b) 16 then value_after (value * 16 + digit_value b) bs else None
 
 -- the number that one to six hexadecimal digits stand for
 abbrev pub value_of : List ℕ → Option ℕ
-value_of digits = if length digits == 0 || nat_lt 6 (length digits) then None else value_behind 0 digits
+value_of digits = if length digits == 0 || nat_lt 6 (length digits) then None else value_after 0 digits
 
 abbrev pub two_values : Option ℕ → Option ℕ → Option (ℕ × Option ℕ)
 two_values None second = None

@@ -1,7 +1,7 @@
 //! Text whose bytes come in pieces.
 ghost use Rattle.std.specs.Prelude.{◌+◌, ◌<◌, ◌^◌, length, IfOk, IfErr};
 ghost use Rattle.std.specs.String.{string_bytes};
-ghost use Rattle.html_input.specs.Reading.{IsFaultBehind, IsSplit};
+ghost use Rattle.html_input.specs.Reading.{IsFaultAfter, IsSplit};
 
 use crate::fault::TextFault;
 use crate::read::valid_front;
@@ -10,7 +10,7 @@ use crate::read::valid_front;
 pub fn split_text(bytes: Vec<u8>, before: u64) -> Result<(String, Vec<u8>), TextFault>
     requires { before + length bytes.items < 2 ^ 64 }
     ensures ok { IfOk result (λ parts. IsSplit bytes.items (string_bytes parts.0) parts.1.items) }
-    ensures err { IfErr result (IsFaultBehind before bytes.items) }
+    ensures err { IfErr result (IsFaultAfter before bytes.items) }
 {
     let mut bytes = bytes;
     let valid = match valid_front(bytes.as_slice(), 0) {

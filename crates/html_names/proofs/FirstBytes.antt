@@ -10,8 +10,8 @@ use Rattle.html_names.proofs.AnyCase.{high-lowered}
 use Rattle.html_names.proofs.Runs.{cut-at}
 use Rattle.std.proofs.lemmas.Bool.Decides.{nat_tests}
 use Rattle.html_rules.specs.Choice.{choose}
-use Rattle.html_rules.specs.Encodings.{behind_charset, behind_equals, behind_space, encoding_at, encoding_of}
-use Rattle.html_names.specs.Stops.{behind_character, stops, unquoted_value}
+use Rattle.html_rules.specs.Encodings.{after_charset, after_equals, after_space, encoding_at, encoding_of}
+use Rattle.html_names.specs.Stops.{after_character, stops, unquoted_value}
 use Rattle.html_names.specs.declared.encodings.Stop.TheVariants.{ValueEnd}
 use Rattle.std.specs.Char.{len_utf8}
 use Rattle.std.proofs.Math.Seq.{drop-append_seam}
@@ -68,25 +68,25 @@ begins-other bs u l w small h = by (chars bs) refl where
   }
 
 -- what stands after a character, by the first byte
-pub behind-none : (w : ℕ) (bs : List ℕ) → length bs ≡ 0 → behind_character w (chars bs) ≡ None
+pub behind-none : (w : ℕ) (bs : List ℕ) → length bs ≡ 0 → after_character w (chars bs) ≡ None
 behind-none w bs h = rw (no-text bs h) refl
 
-pub behind-some : (w : ℕ) (bs : List ℕ) → IsUtf8 bs → 0 < length bs → w < 128 → get_or bs 0 0 ≡ w → behind_character w (chars bs) ≡ Some (chars (drop 1 bs))
+pub behind-some : (w : ℕ) (bs : List ℕ) → IsUtf8 bs → 0 < length bs → w < 128 → get_or bs 0 0 ≡ w → after_character w (chars bs) ≡ Some (chars (drop 1 bs))
 behind-some w bs u l small e =
     let low : get_or bs 0 0 < 128 = omega arith in
     let is = BeginsWith-ascii bs u l low in
     let same : nat_eq (get_or bs 0 0) w ≡ true = rw e (self-eq w) in
     rw (is.characters, same) refl
 
-pub behind-other : (w : ℕ) (bs : List ℕ) → IsUtf8 bs → 0 < length bs → w < 128 → (get_or bs 0 0 ≡ w → ⊥) → behind_character w (chars bs) ≡ None
+pub behind-other : (w : ℕ) (bs : List ℕ) → IsUtf8 bs → 0 < length bs → w < 128 → (get_or bs 0 0 ≡ w → ⊥) → after_character w (chars bs) ≡ None
 behind-other w bs u l small h =
     let is = begins-other bs u l w small h in
     rw (is.characters, is.other) refl
 
-pub equals-none : (cs : List ℕ) → behind_character 61 cs ≡ None → behind_equals cs ≡ None
+pub equals-none : (cs : List ℕ) → after_character 61 cs ≡ None → after_equals cs ≡ None
 equals-none [] e = refl
 equals-none (c ∷ cs) e = by (nat_eq c 61) refl e where
-  by : (b : Bool) → nat_eq c 61 ≡ b → choose b (λ _. Some cs) (λ _. None) ≡ None → behind_equals (c ∷ cs) ≡ None
+  by : (b : Bool) → nat_eq c 61 ≡ b → choose b (λ _. Some cs) (λ _. None) ≡ None → after_equals (c ∷ cs) ≡ None
   by true is e = absurd cc
   by false is e = rw is refl
 
@@ -128,14 +128,14 @@ BeginsWord-begins w bs u h b =
     record { cut = cut.1; rest = cut.3 }
 
 -- the first character of a text, and what stands after it
-pub charset-begins : (t : List ℕ) → begins_any_case (codes "charset") t ≡ true → behind_charset t ≡ behind_equals (behind_space (drop 7 t))
+pub charset-begins : (t : List ℕ) → begins_any_case (codes "charset") t ≡ true → after_charset t ≡ after_equals (after_space (drop 7 t))
 charset-begins t h = rw h refl
 
-pub encoding-found : (c : ℕ) (t value : List ℕ) → behind_charset (c ∷ t) ≡ Some value → encoding_of (c ∷ t) ≡ encoding_at value
+pub encoding-found : (c : ℕ) (t value : List ℕ) → after_charset (c ∷ t) ≡ Some value → encoding_of (c ∷ t) ≡ encoding_at value
 unfolding encoding_of
 encoding-found c t value h = rw h refl
 
-pub encoding-further : (c : ℕ) (t : List ℕ) → behind_charset (c ∷ t) ≡ None → encoding_of (c ∷ t) ≡ encoding_of t
+pub encoding-further : (c : ℕ) (t : List ℕ) → after_charset (c ∷ t) ≡ None → encoding_of (c ∷ t) ≡ encoding_of t
 unfolding encoding_of
 encoding-further c t h = rw h refl
 
@@ -153,8 +153,8 @@ past-first bs rest c n u e m =
       record { first = c; characters = chars_past_char bs rest c u e; text = text; shorter = omega (arith, ap length e, length-append (encode_utf8 c) rest, length-encode c, len_utf8_bounds c) },
     )
 
-pub further : (bs rest : List ℕ) → IsRest bs rest → behind_charset (chars bs) ≡ None → encoding_of (chars bs) ≡ encoding_of (chars rest)
-further bs rest is h = let none : behind_charset (is.first ∷ chars rest) ≡ None = rw is.characters at h in rw is.characters (encoding-further is.first (chars rest) none)
+pub further : (bs rest : List ℕ) → IsRest bs rest → after_charset (chars bs) ≡ None → encoding_of (chars bs) ≡ encoding_of (chars rest)
+further bs rest is h = let none : after_charset (is.first ∷ chars rest) ≡ None = rw is.characters at h in rw is.characters (encoding-further is.first (chars rest) none)
 
-pub found : (bs rest value : List ℕ) → IsRest bs rest → behind_charset (chars bs) ≡ Some value → encoding_of (chars bs) ≡ encoding_at value
-found bs rest value is h = let some : behind_charset (is.first ∷ chars rest) ≡ Some value = rw is.characters at h in rw is.characters (encoding-found is.first (chars rest) value some)
+pub found : (bs rest value : List ℕ) → IsRest bs rest → after_charset (chars bs) ≡ Some value → encoding_of (chars bs) ≡ encoding_at value
+found bs rest value is h = let some : after_charset (is.first ∷ chars rest) ≡ Some value = rw is.characters at h in rw is.characters (encoding-found is.first (chars rest) value some)

@@ -19,9 +19,9 @@ up_to p t =
     choose (nat_lt n (length t)) (λ _. Some (take n t)) (λ _. None)
 
 -- what stands after a character, if a text begins with it
-abbrev pub behind_character : ℕ → List ℕ → Option (List ℕ)
-behind_character w [] = None
-behind_character w (c ∷ t) = choose (nat_eq c w) (λ _. Some t) (λ _. None)
+abbrev pub after_character : ℕ → List ℕ → Option (List ℕ)
+after_character w [] = None
+after_character w (c ∷ t) = choose (nat_eq c w) (λ _. Some t) (λ _. None)
 
 -- a value without quotes, if there is any text
 abbrev pub unquoted_value : List ℕ → Option (List ℕ)

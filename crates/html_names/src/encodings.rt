@@ -3,8 +3,8 @@
 ghost use Rattle.std.specs.Prelude.{◌≡◌, ◌<◌, Some, None, MatchOption, [], length, take, drop, nat_lt, ◌≤◌};
 ghost use Rattle.std.specs.Str.{IsCharBoundary, chars};
 ghost use Rattle.html_tokens.specs.Characters.{run};
-ghost use Rattle.html_rules.specs.Encodings.{is_space, behind_charset, behind_equals, behind_space, encoding_at, encoding_of};
-ghost use Rattle.html_names.specs.Stops.{behind_character, stops, unquoted_value, up_to};
+ghost use Rattle.html_rules.specs.Encodings.{is_space, after_charset, after_equals, after_space, encoding_at, encoding_of};
+ghost use Rattle.html_names.specs.Stops.{after_character, stops, unquoted_value, up_to};
 ghost use Rattle.html_names.specs.Given.{Gives, IsRest};
 ghost use Rattle.html_names.specs.declared.encodings.Stop.TheVariants.{ValueEnd};
 
@@ -66,8 +66,8 @@ fn run(text: &str, stop: Stop) -> usize
 }
 
 /// A text after the white space at its front.
-fn behind_space(text: &str) -> &str
-    ensures { chars result.now ≡ behind_space (chars text.now) }
+fn after_space(text: &str) -> &str
+    ensures { chars result.now ≡ after_space (chars text.now) }
 {
     &text[run(text, Stop::Dark)..]
 }
@@ -94,7 +94,7 @@ fn up_to_value_end(text: &str) -> &str
 /// What stands after a character, if a text begins with it. It is of ASCII.
 fn behind(text: &str, character: u8) -> Option<&str>
     requires { character < 128 }
-    ensures { Gives (behind_character character (chars text.now)) result }
+    ensures { Gives (after_character character (chars text.now)) result }
 {
     if text.is_empty() {
         return None;
@@ -131,21 +131,21 @@ fn encoding_at(text: &str) -> Option<&str>
 }
 
 /// What stands after "=" and white space, if "=" is next.
-fn behind_equals(text: &str) -> Option<&str>
-    ensures { Gives (behind_equals (chars text.now)) result }
+fn after_equals(text: &str) -> Option<&str>
+    ensures { Gives (after_equals (chars text.now)) result }
 {
     let rest = behind(text, b'=')?;
-    Some(behind_space(rest))
+    Some(after_space(rest))
 }
 
 /// What stands after "charset" and "=", if a text begins so.
-fn behind_charset(text: &str) -> Option<&str>
-    ensures { Gives (behind_charset (chars text.now)) result }
+fn after_charset(text: &str) -> Option<&str>
+    ensures { Gives (after_charset (chars text.now)) result }
 {
     if !any_case::begins(text, "charset") {
         return None;
     }
-    behind_equals(behind_space(&text[7..]))
+    after_equals(after_space(&text[7..]))
 }
 
 /// What stands after the first character, if there is one.
@@ -163,7 +163,7 @@ pub fn extract_a_character_encoding_from_a_meta_element(content: &str) -> Option
 {
     let mut rest = content;
     while let Some(further) = without_first(rest) {
-        if let Some(value) = behind_charset(rest) {
+        if let Some(value) = after_charset(rest) {
             return encoding_at(value);
         }
         rest = further;

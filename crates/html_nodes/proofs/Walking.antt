@@ -80,12 +80,12 @@ walk-cut f is top n whole (under p _ before after rest e b) =
       is = up.is ∙ (ap (λ (l : List ℕ). up.before ++ p ∷ l) (below-cut f is p n before after rest e) ∙ sym (append_assoc up.before (p ∷ front) (n ∷ tail)));
     }
 
-pub record IsBehind (f : Forest) (top n : ℕ) : Type 0 where
+pub record IsAfter (f : Forest) (top n : ℕ) : Type 0 where
   pub rest : List ℕ
   pub behind : Behind f top n rest
 
-behind-list : (f : Forest) (l top : ℕ) → ((m : ℕ) (rest : List ℕ) → Behind f top m rest → (n : ℕ) → is_among n (below_within l f m) ≡ true → IsBehind f top n)
-    → (p : ℕ) (rest : List ℕ) → Behind f top p rest → (before ns : List ℕ) → children_of f p ≡ before ++ ns → (n : ℕ) → is_among n (each_with_below (below_within l f) ns) ≡ true → IsBehind f top n
+behind-list : (f : Forest) (l top : ℕ) → ((m : ℕ) (rest : List ℕ) → Behind f top m rest → (n : ℕ) → is_among n (below_within l f m) ≡ true → IsAfter f top n)
+    → (p : ℕ) (rest : List ℕ) → Behind f top p rest → (before ns : List ℕ) → children_of f p ≡ before ++ ns → (n : ℕ) → is_among n (each_with_below (below_within l f) ns) ≡ true → IsAfter f top n
 behind-list f l top inside p rest b before [] e n h = absurd (cc)
 behind-list f l top inside p rest b before (m ∷ ms) e n h =
     elim (cases_eq n m) [
@@ -97,13 +97,13 @@ behind-list f l top inside p rest b before (m ∷ ms) e n h =
           ]
     ]
 
-behind-within : (f : Forest) (l top m : ℕ) (rest : List ℕ) → Behind f top m rest → (n : ℕ) → is_among n (below_within l f m) ≡ true → IsBehind f top n
+behind-within : (f : Forest) (l top m : ℕ) (rest : List ℕ) → Behind f top m rest → (n : ℕ) → is_among n (below_within l f m) ≡ true → IsAfter f top n
 unfolding below_within
 behind-within f zero top m rest b n h = absurd (cc)
 behind-within f (suc l) top m rest b n h = behind-list f l top (λ k r c q g. behind-within f l top k r c q g) m rest b [] (children_of f m) refl n h
 
 -- each node that a walk lists stands somewhere in it
-pub among-behind : (f : Forest) (top n : ℕ) → is_among n (top ∷ below f top) ≡ true → IsBehind f top n
+pub among-behind : (f : Forest) (top n : ℕ) → is_among n (top ∷ below f top) ≡ true → IsAfter f top n
 among-behind f top n h =
     elim (cases_eq n top) [
       | inl same ↦ rw same (record { rest = []; behind = at_top })
@@ -111,7 +111,7 @@ among-behind f top n h =
     ]
 
 -- and each node below is listed
-pub below-behind : (f : Forest) → IsForest f → (top n : ℕ) → IsBelow f top n → IsBehind f top n
+pub below-behind : (f : Forest) → IsForest f → (top n : ℕ) → IsBelow f top n → IsAfter f top n
 below-behind f is top n (child e) =
     let cut = among-cut n (children_of f top) (is_among-parent f n top e) in
     record { rest = each_with_below (below f) cut.0 ++ []; behind = under top n cut.1.before cut.0 [] cut.1.is at_top }
@@ -189,7 +189,7 @@ parent-is f is top n whole b other h p e =
     some-same : {a b : ℕ} → Some a ≡ Some b → a ≡ b
     some-same h = cc
 
-pub has-parent : (f : Forest) → IsForest f → (top n : ℕ) → IsBehind f top n → n ≢ top → parent_of f n ≡ None → ⊥
+pub has-parent : (f : Forest) → IsForest f → (top n : ℕ) → IsAfter f top n → n ≢ top → parent_of f n ≡ None → ⊥
 has-parent f is top n b other h = let up = stands-under f is top n b.rest b.behind other in let some = up.has in cc
 
 behind-none : (f : Forest) → IsForest f → (top : ℕ) (whole : List ℕ) → Behind f top top whole → first_of whole ≡ None
@@ -209,7 +209,7 @@ pub top-is : (f : Forest) → IsForest f → (top n : ℕ) (whole : List ℕ) �
 top-is f is top n whole b same = sym (behind-none f is top whole (rw same at b))
 
 -- there is less to climb from a parent
-pub climb-less : (f : Forest) → IsForest f → (top n : ℕ) → IsBehind f top n → n ≢ top → (p : ℕ) → parent_of f n ≡ Some p
+pub climb-less : (f : Forest) → IsForest f → (top n : ℕ) → IsAfter f top n → n ≢ top → (p : ℕ) → parent_of f n ≡ Some p
     → length (below f n) < length (below f p) × length (below f p) ≤ length (below f top)
 climb-less f is top n b other p e =
     let up = stands-under f is top n b.rest b.behind other in

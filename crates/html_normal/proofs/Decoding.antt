@@ -10,12 +10,12 @@ use Rattle.std.proofs.lemmas.Str.{IsUtf8-append, IsUtf8-nil, chars-append, chars
 use Rattle.markup.specs.declared.fault.ParseFault.{ParseFault}
 use Rattle.markup.specs.declared.fault.ParseFault.TheVariants as parse
 use Rattle.markup.specs.declared.tree_sink.TreeSink.{Ghosts as TreeGhosts}
-use Rattle.html_input.specs.Reading.{HasBegun, IsFaultBehind, IsFront, IsSplit, ShowsNotUtf8, StaysAtFault}
+use Rattle.html_input.specs.Reading.{HasBegun, IsFaultAfter, IsFront, IsSplit, ShowsNotUtf8, StaysAtFault}
 use Rattle.html_input.specs.declared.fault.TextFault.{TextFault}
 use Rattle.html_input.specs.declared.fault.TextFault.TheVariants as text
 use Rattle.html_input.proofs.Utf8.{BeginsText-front, IsFront-nil, begun-shown, front-behind, known_split, moved-more, moved-none, shows-end, shows-fault}
 use Rattle.html_parser.specs.Documents.{builder}
-use Rattle.html_parser.specs.Read.{FailsBehind, HasRead, ReadsOn, read_whole}
+use Rattle.html_parser.specs.Read.{FailsAfter, HasRead, ReadsOn, read_whole}
 use Rattle.html_tokenizer.specs.declared.tokenizer.Tokenizer.{Tokenizer}
 use Rattle.html_tree_builder.specs.declared.builder.TreeBuilder.{TreeBuilder}
 use Rattle.html_normal.specs.Faults.{fault_of, input_fault_of}
@@ -54,7 +54,7 @@ module _ (old mid new : Option (List ℕ)) (decoded held piece : List ℕ) (take
       }
 
   -- a piece was read that shows bytes at fault
-  pub fault-shown : (refused : Type 0) (fault : TextFault) (bytes : List ℕ) → bytes ≡ held ++ piece → length piece ≤ 4096 → IsFaultBehind taken bytes fault → IsInputFault refused old new (input_fault_of fault)
+  pub fault-shown : (refused : Type 0) (fault : TextFault) (bytes : List ℕ) → bytes ≡ held ++ piece → length piece ≤ 4096 → IsFaultAfter taken bytes fault → IsInputFault refused old new (input_fault_of fault)
   fault-shown refused (text.NotUtf8 at) bytes is short shown =
       let whole : decoded ++ bytes ≡ (decoded ++ held) ++ piece = ap (λ bs. decoded ++ bs) is ∙ sym (append_assoc decoded held piece) in
       let fault = subst (λ (bs : List ℕ). StaysAtFault bs at) whole (shown decoded so_far.text (sym so_far.counted)) in
@@ -121,7 +121,7 @@ module _ {K H O : Type 0} (Sink : TreeGhosts K H O) where
       record { behind = more ++ there.behind; is = subst (λ (cs : List ℕ). IsErr (read_whole (builder Sink) begin cs)) (append_assoc before more there.behind) there.is }
 
   -- a fault of a parser
-  pub parse-fault : (fault : ParseFault) (old new : Option (List ℕ)) (k k' : Tokenizer (TreeBuilder K H O)) (more : List ℕ) → ReadsOn (builder Sink) k k' more → FailsBehind (builder Sink) k' fault → IsInputFault (MayRefuse Sink k) old new (fault_of fault)
+  pub parse-fault : (fault : ParseFault) (old new : Option (List ℕ)) (k k' : Tokenizer (TreeBuilder K H O)) (more : List ℕ) → ReadsOn (builder Sink) k k' more → FailsAfter (builder Sink) k' fault → IsInputFault (MayRefuse Sink k) old new (fault_of fault)
   parse-fault parse.Memory old new k k' more reads fails = tt
   parse-fault parse.Failed old new k k' more reads fails = tt
   parse-fault parse.TokenInText old new k k' more reads fails = refused-before k k' more reads (fails.refused tt)

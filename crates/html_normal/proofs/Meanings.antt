@@ -20,7 +20,7 @@ use Rattle.markup.specs.declared.tree_sink.TreeSink.{Ghosts as TreeGhosts}
 use Rattle.html_forest.specs.Walk.{walked}
 use Rattle.html_input.proofs.Whole.{all-read}
 use Rattle.html_parser.specs.Documents.{IsBuilt, builder, of_document}
-use Rattle.html_parser.specs.Read.{Beginning, FailsBehind, HasRead, IsRefusedBehind, IsTaken, RisesTo, owed_by, read_whole}
+use Rattle.html_parser.specs.Read.{Beginning, FailsAfter, HasRead, IsRefusedAfter, IsTaken, RisesTo, owed_by, read_whole}
 use Rattle.html_plain.specs.Grammar.{is_plain_forest}
 use Rattle.html_rules.specs.Documents.{Setting}
 use Rattle.html_serialize.specs.Puts.{WriterView, with_bytes}
@@ -30,7 +30,7 @@ use Rattle.html_tokens.specs.Table.{Row}
 use Rattle.html_tokens.specs.declared.options.TokenizerOpts.{TokenizerOpts}
 use Rattle.html_tokens.specs.declared.sink.TokenSink.{Ghosts}
 use Rattle.html_tokenizer.specs.declared.tokenizer.Tokenizer.{Tokenizer}
-use Rattle.html_normal.specs.Document.{CountsErrors, default_opts, default_setting, document_bytes, faults_of, is_free_of_told, is_quiet_document, told_characters}
+use Rattle.html_normal.specs.Document.{CountsErrors, default_opts, default_setting, document_bytes, faults_of, is_free_of_emitted, is_quiet_document, emitted_characters}
 use Rattle.html_normal.specs.Faults.{fault_of, write_fault_of}
 use Rattle.html_normal.specs.Normal.{CountsReads, IsBegun, IsFailed, IsInputFault, IsNormalised, IsRead, is_write_fault}
 use Rattle.html_normal.specs.declared.fault.NormalFault.{NormalFault}
@@ -46,7 +46,7 @@ ok-or-err (Ok x) ok err = absurd (search rules)
 ok-or-err (Err e) ok err = absurd (search rules)
 
 -- where no text is refused, none was
-pub none-refused : {K H : Type 0} (Sink : Ghosts K H) (begin : Beginning Sink.State) (k : Tokenizer K) → HasRead Sink begin [] k → IsTaken Sink begin → ((b : Beginning Sink.State) (before : List ℕ) → HasRead Sink b before k → IsRefusedBehind Sink b before) → ⊥
+pub none-refused : {K H : Type 0} (Sink : Ghosts K H) (begin : Beginning Sink.State) (k : Tokenizer K) → HasRead Sink begin [] k → IsTaken Sink begin → ((b : Beginning Sink.State) (before : List ℕ) → HasRead Sink b before k → IsRefusedAfter Sink b before) → ⊥
 none-refused Sink begin k read taken refuses =
     let there = refuses begin [] read in
     ok-or-err (read_whole Sink begin there.behind) (taken there.behind) there.is
@@ -59,7 +59,7 @@ not-refused refused Memory old new never is = is
 not-refused refused Refused old new never is = never is
 
 -- a fault of the end
-pub finish-fault : {K H : Type 0} (Sink : Ghosts K H) (fault : ParseFault) (old new : Option (List ℕ)) (begin : Beginning Sink.State) (before : List ℕ) (k : Tokenizer K) → HasRead Sink begin before k → IsTaken Sink begin → FailsBehind Sink k fault
+pub finish-fault : {K H : Type 0} (Sink : Ghosts K H) (fault : ParseFault) (old new : Option (List ℕ)) (begin : Beginning Sink.State) (before : List ℕ) (k : Tokenizer K) → HasRead Sink begin before k → IsTaken Sink begin → FailsAfter Sink k fault
     → IsInputFault ⊥ old new (fault_of fault)
 finish-fault Sink parse.Memory old new begin before k read taken fails = tt
 finish-fault Sink parse.Failed old new begin before k read taken fails = tt
@@ -85,8 +85,8 @@ from-none m errors h = omega arith
 -- the errors of a forest that was built count what its text owes
 built-counts : {K H : Type 0} (Sink : TreeGhosts K H Forest) (table : List Row) (exact : Bool) (text : List ℕ) (errors : ℕ) → RisesTo (owed_by (builder Sink) (of_document table (opts_with exact) default_setting empty_forest) text) 0 errors → CountsErrors table exact text errors
 built-counts Sink table exact text errors r = record {
-  enough = from-none (faults_of table text + told_characters exact text) errors r.enough;
-  none = λ quiet free. r.stays (and_from (is_quiet_document table text) (is_free_of_told exact text) quiet free);
+  enough = from-none (faults_of table text + emitted_characters exact text) errors r.enough;
+  none = λ quiet free. r.stays (and_from (is_quiet_document table text) (is_free_of_emitted exact text) quiet free);
 }
 
 module _ {K H : Type 0} (Sink : TreeGhosts K H Forest) where

@@ -51,17 +51,17 @@ abbrev pub is_quiet_document : List Row → List ℕ → Bool
 is_quiet_document table text = is_quiet_reading step is_quiet asks_cdata ended table (stand_of default_opts) 0 (hushed (before_document default_setting empty_forest)) (normal_text true text)
 
 -- how many characters of a text are errors on their own: control characters and noncharacters, where these are told
-abbrev pub told_characters : Bool → List ℕ → ℕ
-told_characters exact text = (owed_for_text exact (normal_text true text)).faults
+abbrev pub emitted_characters : Bool → List ℕ → ℕ
+emitted_characters exact text = (owed_for_text exact (normal_text true text)).faults
 
 -- whether a text has none of these
-abbrev pub is_free_of_told : Bool → List ℕ → Bool
-is_free_of_told exact text = (owed_for_text exact (normal_text true text)).is_quiet
+abbrev pub is_free_of_emitted : Bool → List ℕ → Bool
+is_free_of_emitted exact text = (owed_for_text exact (normal_text true text)).is_quiet
 
 -- A number of errors counts each faulty item of a text and each character that is told, and maybe more; of a text without any it is 0.
 pub record CountsErrors (table : List Row) (exact : Bool) (text : List ℕ) (errors : ℕ) : Type 0 where
-  pub enough : min (faults_of table text + told_characters exact text) 0xffff_ffff_ffff_ffff ≤ errors
-  pub none : is_quiet_document table text ≡ true → is_free_of_told exact text ≡ true → errors ≡ 0
+  pub enough : min (faults_of table text + emitted_characters exact text) 0xffff_ffff_ffff_ffff ≤ errors
+  pub none : is_quiet_document table text ≡ true → is_free_of_emitted exact text ≡ true → errors ≡ 0
 
 -- the trees that stand in a document
 abbrev pub document_trees : Forest → Trees

@@ -9,7 +9,7 @@ use Rattle.html_plain.specs.Grammar.{is_plain_forest}
 use Rattle.html_tokens.specs.Laws.{ReadsEscapes}
 use Rattle.html_tokens.specs.Table.{Row}
 use Rattle.html_normal.specs.Again.{IsNormal}
-use Rattle.html_normal.specs.Document.{document_bytes, document_trees, is_free_of_told}
+use Rattle.html_normal.specs.Document.{document_bytes, document_trees, is_free_of_emitted}
 use Rattle.html_normal.specs.Normal.{IsNormalised}
 use Rattle.html_normal.specs.declared.report.Report.{Report}
 
@@ -19,7 +19,7 @@ pub record IsWritten (exact : Bool) (bytes : List ℕ) (old new : Option (List �
   pub plain : report.plain ≡ true
   pub no_quirks : report.quirks ≡ NoQuirks
   pub output : new ≡ append_known old bytes
-  pub no_error : is_free_of_told exact (chars bytes) ≡ true → report.errors ≡ 0
+  pub no_error : is_free_of_emitted exact (chars bytes) ≡ true → report.errors ≡ 0
 
 -- Normal bytes are read as a document with the trees that they are normal with, and written as they are, however they are read, and
 -- without an error.

@@ -4,7 +4,7 @@ use Rattle.std.specs.Io.KnownBytes.{IsAtEnd, prepend_known}
 use Rattle.std.specs.Str.{chars}
 use Rattle.markup.specs.declared.tree_sink.TreeSink.{Ghosts as TreeGhosts}
 use Rattle.html_parser.specs.Documents.{builder}
-use Rattle.html_parser.specs.Read.{Beginning, HasRead, IsRefusedBehind, ReadsOn, stopped_by}
+use Rattle.html_parser.specs.Read.{Beginning, HasRead, IsRefusedAfter, ReadsOn, stopped_by}
 use Rattle.html_queue.specs.Queue.{Queue}
 use Rattle.html_rules.specs.State.{State}
 use Rattle.html_tokenizer.specs.Calls.{IsReadyIf, refusal_of}
@@ -28,4 +28,4 @@ module _ {K H O : Type 0} (Sink : TreeGhosts K H O) where
 
   -- some text that begins as what was read is refused
   abbrev pub MayRefuse : Tokenizer (TreeBuilder K H O) → Type 0
-  MayRefuse k = (begin : Beginning State) (before : List ℕ) → HasRead (builder Sink) begin before k → IsRefusedBehind (builder Sink) begin before
+  MayRefuse k = (begin : Beginning State) (before : List ℕ) → HasRead (builder Sink) begin before k → IsRefusedAfter (builder Sink) begin before

@@ -8,7 +8,7 @@ use Rattle.html_rules.specs.State.{hushed}
 use Rattle.html_tokens.specs.Notes.{noting_error, without_notes}
 use Rattle.html_tokens.specs.Reading.{erred_by}
 use Rattle.html_tokenizer.specs.Calls.{IsReadyIf}
-use Rattle.html_tokenizer.specs.Rest.{coming, fault_behind, pending, rest}
+use Rattle.html_tokenizer.specs.Rest.{coming, fault_after, pending, rest}
 use Rattle.html_tokenizer.specs.declared.tokenizer.Tokenizer.{Tokenizer}
 use Rattle.html_tokenizer.proofs.Steps.Keeping.{held-other}
 use Rattle.html_tree_builder.specs.States.{built}
@@ -31,11 +31,11 @@ module _ {K H O : Type 0} (Sink : TreeGhosts K H O) where
     notes = r.notes;
     same = λ t.
         ap (λ v. without_notes (rest (listening b) (with_sink k sink) (v, r.notes) t)) (view-counted k.sink sink e)
-        ∙ ap without_notes (held-other (listening b) k.state k (record k.sink { sink = sink }) k.stream k.stream.breaks (erred_by noting_error (fault_behind k.char_ref) (b.view k.sink, r.notes)) (pending k.char_ref ++ coming k t) refl)
+        ∙ ap without_notes (held-other (listening b) k.state k (record k.sink { sink = sink }) k.stream k.stream.breaks (erred_by noting_error (fault_after k.char_ref) (b.view k.sink, r.notes)) (pending k.char_ref ++ coming k t) refl)
         ∙ r.same t;
     noted = λ t.
         ap (λ v. rest (listening b) (with_sink k sink) (v, r.notes) t) (view-counted k.sink sink e)
-        ∙ held-other (listening b) k.state k (record k.sink { sink = sink }) k.stream k.stream.breaks (erred_by noting_error (fault_behind k.char_ref) (b.view k.sink, r.notes)) (pending k.char_ref ++ coming k t) refl
+        ∙ held-other (listening b) k.state k (record k.sink { sink = sink }) k.stream k.stream.breaks (erred_by noting_error (fault_after k.char_ref) (b.view k.sink, r.notes)) (pending k.char_ref ++ coming k t) refl
         ∙ r.noted t;
     came = r.came;
     comes = r.comes;

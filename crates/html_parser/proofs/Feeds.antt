@@ -19,7 +19,7 @@ use Rattle.html_tokenizer.specs.Calls.{last_of, EndGives, FailsToEnd, Fed, FeedG
 use Rattle.html_tokenizer.specs.Rest.{coming}
 use Rattle.html_tokenizer.specs.Steps.{FailsAmong, more, together}
 use Rattle.html_tokenizer.specs.declared.tokenizer.Tokenizer.{Tokenizer}
-use Rattle.html_parser.specs.Read.{Beginning, EndsAll, FailsBehind, FeedsAll, HasRead, IsLeft, IsRefusedBehind, ReadsOn, RisesTo, TakesText, beginning, left_by, note_whole, read_whole}
+use Rattle.html_parser.specs.Read.{Beginning, EndsAll, FailsAfter, FeedsAll, HasRead, IsLeft, IsRefusedAfter, ReadsOn, RisesTo, TakesText, beginning, left_by, note_whole, read_whole}
 use Rattle.html_parser.proofs.Rising.{by-number, nothing-comes, rises-ended, rises-moved, rises-new}
 
 -- what is refused is refused also where what is noted is left out
@@ -96,7 +96,7 @@ module _ {K H : Type 0} (Sink : Ghosts K H) where
   had-failed among old left given fault fails e = subst (λ x. FailsAmong Sink among old left given x) e fails
 
   -- where a call fails by a refusal, what it was to take is refused
-  refused-behind : (old : Tokenizer K) (left : K) (from to : Queue) (fault : ParseFault) → HasFailed Sink old left from to fault → IsRefusal fault → (begin : Beginning Sink.State) (before : List ℕ) → HasRead Sink begin before old → IsRefusedBehind Sink begin before
+  refused-behind : (old : Tokenizer K) (left : K) (from to : Queue) (fault : ParseFault) → HasFailed Sink old left from to fault → IsRefusal fault → (begin : Beginning Sink.State) (before : List ℕ) → HasRead Sink begin before old → IsRefusedAfter Sink begin before
   refused-behind old left from to fault failed refusal begin before r =
       let r' = moved-behind old failed.at from failed.via failed.moved begin before r in
       let text = failed.moved.taken ++ (failed.stuck.lost ++ []) in
@@ -106,14 +106,14 @@ module _ {K H : Type 0} (Sink : Ghosts K H) where
         is = subst (λ x. IsErr x) (r'.same (failed.stuck.lost ++ []) ∙ ap (read_whole Sink begin) (append_assoc before failed.moved.taken (failed.stuck.lost ++ []))) err;
       }
 
-  failed-behind : (old : Tokenizer K) (left : K) (from to : Queue) (fault : ParseFault) → HasFailed Sink old left from to fault → FailsBehind Sink old fault
+  failed-behind : (old : Tokenizer K) (left : K) (from to : Queue) (fault : ParseFault) → HasFailed Sink old left from to fault → FailsAfter Sink old fault
   failed-behind old left from to fault failed = record {
     refused = refused-behind old left from to fault failed;
     failed = λ e. failed.moved.stays.failed (had-failed _ failed.at.sink left _ fault (failed.stuck.fails no_notes []) e);
   }
 
   -- so where the end can't be told
-  end-behind : (old new : Tokenizer K) (fault : ParseFault) → FailsToEnd Sink old new fault → FailsBehind Sink old fault
+  end-behind : (old new : Tokenizer K) (fault : ParseFault) → FailsToEnd Sink old new fault → FailsAfter Sink old fault
   end-behind old new fault failed = record {
     refused = λ refusal begin before r. record {
       behind = [];
@@ -123,13 +123,13 @@ module _ {K H : Type 0} (Sink : Ghosts K H) where
   }
 
   -- what is refused after a text that was read is refused after what was read before it
-  pub behind-both : (begin : Beginning Sink.State) (before text : List ℕ) → IsRefusedBehind Sink begin (before ++ text) → IsRefusedBehind Sink begin before
+  pub behind-both : (begin : Beginning Sink.State) (before text : List ℕ) → IsRefusedAfter Sink begin (before ++ text) → IsRefusedAfter Sink begin before
   behind-both begin before text r = record {
     behind = text ++ r.behind;
     is = subst (λ x. IsErr (read_whole Sink begin x)) (append_assoc before text r.behind) r.is;
   }
 
-  pub fails-on : (old new : Tokenizer K) (text : List ℕ) (fault : ParseFault) → ReadsOn Sink old new text → FailsBehind Sink new fault → FailsBehind Sink old fault
+  pub fails-on : (old new : Tokenizer K) (text : List ℕ) (fault : ParseFault) → ReadsOn Sink old new text → FailsAfter Sink new fault → FailsAfter Sink old fault
   fails-on old new text fault reads fails = record {
     refused = λ refusal begin before r. behind-both begin before text (fails.refused refusal begin (before ++ text) (reads.reads begin before r));
     failed = λ e. reads.works (fails.failed e);

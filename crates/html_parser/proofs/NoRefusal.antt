@@ -12,7 +12,7 @@ use Rattle.html_tokenizer.specs.declared.tokenizer.Tokenizer.{Tokenizer}
 use Rattle.html_tree_builder.specs.declared.builder.TreeBuilder.{TreeBuilder}
 use Rattle.html_parser.specs.Documents.{Begins, Finishes, TellsError, builder}
 use Rattle.html_parser.specs.Laws.{HasReadTaken, IsNoTextRefused, TakesEach, only_fault}
-use Rattle.html_parser.specs.Read.{Beginning, FailsBehind, TakesText, behind_error, stopped_by}
+use Rattle.html_parser.specs.Read.{Beginning, FailsAfter, TakesText, after_error, stopped_by}
 
 not-both : {A F : Type 0} (r : Result A F) → IsErr r → IsOk r → ⊥
 not-both (Ok x) h k = absurd cc
@@ -36,7 +36,7 @@ fault-is : {A : Type 0} (result : Result A ParseFault) (fault : ParseFault) → 
 fault-is result fault e = subst (λ r. IfErr r (λ x. x ≡ fault)) (sym e) refl
 
 module _ {K H O : Type 0} (Sink : TreeGhosts K H O) where
-  memory-alone : (k : Tokenizer (TreeBuilder K H O)) (fault : ParseFault) → HasReadTaken Sink k → FailsBehind (builder Sink) k fault → fault ≡ Memory
+  memory-alone : (k : Tokenizer (TreeBuilder K H O)) (fault : ParseFault) → HasReadTaken Sink k → FailsAfter (builder Sink) k fault → fault ≡ Memory
   memory-alone k fault h fails = memory-is fault
       (λ r. let refused = fails.refused r h.begin h.before h.read in not-both _ refused.is (h.taken (h.before ++ refused.behind)))
       (λ e. true≢false (sym (fails.failed e) ∙ h.works))
@@ -76,7 +76,7 @@ module _ {K H O : Type 0} (Sink : TreeGhosts K H O) where
 
   errs : (stopped : Option ParseFault) (old new : Tokenizer (TreeBuilder K H O)) → TakesEach Sink stopped old → TellsError Sink old new → TakesEach Sink stopped new
   errs None old new h t = record {
-    begin = behind_error h.begin;
+    begin = after_error h.begin;
     before = h.before;
     read = t.read h.begin h.before h.read;
     taken = h.taken;

@@ -3,7 +3,7 @@ use Rattle.std.proofs.Common.{◌≡◌, ◌∙◌, ℕ, ◌+◌, ◌≤◌, Boo
 use Rattle.std.specs.Prelude.{◌&&◌, min}
 use Rattle.std.proofs.lemmas.Bool.{and_parts}
 use Rattle.std.proofs.lemmas.Bool.Decides.{nat_tests}
-use Rattle.html_tokens.specs.NormalText.{newlines_behind, without_mark}
+use Rattle.html_tokens.specs.NormalText.{newlines_after, without_mark}
 use Rattle.html_tokens.specs.Notes.{Notes, errors_of, no_notes, was_quiet}
 use Rattle.html_tokens.specs.Sink.{Refusal, Reply, one_more}
 use Rattle.html_tokenizer.specs.Calls.{owed_for_text}
@@ -13,7 +13,7 @@ use Rattle.html_tokenizer.specs.declared.tokenizer.Tokenizer.{Tokenizer}
 use Rattle.html_tokenizer.proofs.Errors.Rises.{IsNoMore, more-sum, none-no-more, rises-besides, rises-less, rises-same}
 use Rattle.html_parser.specs.Read.{RisesTo, owed_in}
 
-no-text : (cr mark : Bool) → newlines_behind cr (without_mark mark []) ≡ []
+no-text : (cr mark : Bool) → newlines_after cr (without_mark mark []) ≡ []
 no-text cr true = refl
 no-text cr false = refl
 

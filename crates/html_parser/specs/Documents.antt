@@ -20,7 +20,7 @@ use Rattle.html_tokenizer.specs.Calls.{IsReadyIf, refusal_of}
 use Rattle.html_tokenizer.specs.declared.tokenizer.Tokenizer.{Tokenizer}
 use Rattle.html_tree_builder.specs.States.{built}
 use Rattle.html_tree_builder.specs.declared.builder.TreeBuilder.{TreeBuilder}
-use Rattle.html_parser.specs.Read.{Beginning, FailsBehind, HasRead, IsTaken, KeepsRead, RisesTo, beginning, owed_by, read_whole, stopped_by}
+use Rattle.html_parser.specs.Read.{Beginning, FailsAfter, HasRead, IsTaken, KeepsRead, RisesTo, beginning, owed_by, read_whole, stopped_by}
 
 -- a tree builder, as what takes tokens
 abbrev pub builder : {K H O : Type 0} → TreeGhosts K H O → Ghosts (TreeBuilder K H O) H
@@ -64,7 +64,7 @@ pub record IsBuilt {K H O : Type 0} (Sink : TreeGhosts K H O) (begin : Beginning
 -- What waited was read, and a text, and its end: what was built is what the whole text makes.
 abbrev pub Finishes : {K H O : Type 0} → TreeGhosts K H O → Option ParseFault → Tokenizer (TreeBuilder K H O) → List ℕ → Result O ParseFault → Type 0
 Finishes Sink None k text (Ok output) = (begin : Beginning State) (before : List ℕ) → HasRead (builder Sink) begin before k → IsBuilt Sink begin (before ++ text) output
-Finishes Sink None k text (Err fault) = FailsBehind (builder Sink) k fault
+Finishes Sink None k text (Err fault) = FailsAfter (builder Sink) k fault
 Finishes Sink (Some fault) k text result = result ≡ Err fault
 
 -- A parser stands before all text: nothing was read, nothing waits, and nothing stands against it or its builder.

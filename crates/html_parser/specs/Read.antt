@@ -38,8 +38,8 @@ beginning table opts s errors = record {
 }
 
 -- the same beginning where one error more was counted before
-abbrev pub behind_error : {S : Type 0} → Beginning S → Beginning S
-behind_error begin = record begin { errors = one_more begin.errors }
+abbrev pub after_error : {S : Type 0} → Beginning S → Beginning S
+after_error begin = record begin { errors = one_more begin.errors }
 
 -- what is owed for what was noted
 abbrev pub owed_in : Notes ℕ → Owed
@@ -89,27 +89,27 @@ module _ {K H : Type 0} (Sink : Ghosts K H) where
 
   -- whatever was read still was, after one error more
   abbrev pub KeepsRead : Tokenizer K → Tokenizer K → Type 0
-  KeepsRead old new = (begin : Beginning Sink.State) (before : List ℕ) → HasRead begin before old → HasRead (behind_error begin) before new
+  KeepsRead old new = (begin : Beginning Sink.State) (before : List ℕ) → HasRead begin before old → HasRead (after_error begin) before new
 
   -- no token of a text is refused
   abbrev pub IsTaken : Beginning Sink.State → Type 0
   IsTaken begin = (text : List ℕ) → IsOk (read_whole begin text)
 
   -- a text that begins so is refused
-  pub record IsRefusedBehind (begin : Beginning Sink.State) (before : List ℕ) : Type 0 where
+  pub record IsRefusedAfter (begin : Beginning Sink.State) (before : List ℕ) : Type 0 where
     pub behind : List ℕ
     pub is : IsErr (read_whole begin (before ++ behind))
 
   -- What a fault tells, where nothing stood against the call: by a refusal a text that begins as what was read is refused, and by
   -- `Failed` the sink had failed. Of want of memory nothing is said.
-  pub record FailsBehind (k : Tokenizer K) (fault : ParseFault) : Type 0 where
-    pub refused : IsRefusal fault → (begin : Beginning Sink.State) (before : List ℕ) → HasRead begin before k → IsRefusedBehind begin before
+  pub record FailsAfter (k : Tokenizer K) (fault : ParseFault) : Type 0 where
+    pub refused : IsRefusal fault → (begin : Beginning Sink.State) (before : List ℕ) → HasRead begin before k → IsRefusedAfter begin before
     pub failed : fault ≡ Failed → Sink.has_failed k.sink ≡ true
 
   -- All of an input was read, past every pause; or the tokenizer failed. What stands against a call leaves all as it is.
   abbrev pub FeedsAll : Option ParseFault → Tokenizer K → Tokenizer K → Queue → Queue → Result (Unit {0}) ParseFault → Type 0
   FeedsAll None old new from to (Ok x) = ReadsOn old new from.characters × (to.characters ≡ []) × (refusal_of new ≡ None)
-  FeedsAll None old new from to (Err fault) = (new.stream.has_failed ≡ true) × FailsBehind old fault
+  FeedsAll None old new from to (Err fault) = (new.stream.has_failed ≡ true) × FailsAfter old fault
   FeedsAll (Some fault) old new from to result = (result ≡ Err fault) × (new ≡ old) × (to ≡ from)
 
   -- A sink is left as the whole text leaves it; its number of errors is what its end made of it, which had risen by what the text owes.
@@ -127,11 +127,11 @@ module _ {K H : Type 0} (Sink : Ghosts K H) where
   -- All of a text was read, and its end: the sink is left as the whole text leaves it.
   abbrev pub EndsAll : Option ParseFault → Tokenizer K → List ℕ → Result K ParseFault → Type 0
   EndsAll None k text (Ok sink) = (begin : Beginning Sink.State) (before : List ℕ) → HasRead begin before k → IsLeft begin (before ++ text) sink
-  EndsAll None k text (Err fault) = FailsBehind k fault
+  EndsAll None k text (Err fault) = FailsAfter k fault
   EndsAll (Some fault) k text result = result ≡ Err fault
 
   -- What waited was read, and then a text, past every pause; or the tokenizer failed, or the text could not be kept.
   abbrev pub TakesText : Option ParseFault → Option ParseFault → Tokenizer K → Tokenizer K → Queue → Queue → List ℕ → Result (Unit {0}) ParseFault → Type 0
   TakesText None left old new from to text (Ok x) = ReadsOn old new (from.characters ++ text) × (to.characters ≡ []) × (left ≡ None)
-  TakesText None left old new from to text (Err fault) = (left ≡ Some Failed) × FailsBehind old fault
+  TakesText None left old new from to text (Err fault) = (left ≡ Some Failed) × FailsAfter old fault
   TakesText (Some fault) left old new from to text result = (result ≡ Err fault) × (new ≡ old) × (to ≡ from)

@@ -148,7 +148,7 @@ fn titles_end_with_the_text(rt: HostRuntime) -> Result<(), Fail> {
 }
 
 #[test]
-fn every_token_is_refused_behind_the_end(rt: HostRuntime) -> Result<(), Fail> {
+fn every_token_is_refused_after_the_end(rt: HostRuntime) -> Result<(), Fail> {
     let alloc = rt.alloc();
     let mut forest = Forest::new(alloc)?;
     let document = forest.get_document();

@@ -5,13 +5,13 @@ use Rattle.std.specs.List.{list_all}
 use Rattle.markup.specs.Trees.{Trees, Nothing, Text, Comment, ProcessingInstruction, Doctype, Element}
 use Rattle.markup.specs.declared.attributes.Attribute.{Attribute}
 use Rattle.markup.specs.declared.names.QualName.{QualName}
-use Rattle.html_plain.specs.Elements.{behind_element, holds, html_name, inside, spelled}
+use Rattle.html_plain.specs.Elements.{place_after_element, holds, html_name, inside, spelled}
 use Rattle.html_plain.specs.Frames.{AreDocumentsFramed, text_before}
 use Rattle.html_plain.specs.Grammar.{IsPlain, are_plain_attributes, is_plain_text, is_white}
 use Rattle.html_plain.specs.declared.elements.PlainElement.{PlainElement}
 use Rattle.html_plain.specs.declared.elements.PlainElement.TheVariants.{Html, Head, Body}
 use Rattle.html_plain.specs.declared.place.PlainPlace.{PlainPlace}
-use Rattle.html_plain.specs.declared.place.PlainPlace.TheVariants.{BeforeRoot, BehindRoot, BeforeHead, BehindHead, BeforeBody, BehindBody, InFlow, InHead}
+use Rattle.html_plain.specs.declared.place.PlainPlace.TheVariants.{BeforeRoot, AfterRoot, BeforeHead, AfterHead, BeforeBody, AfterBody, InFlow, InHead}
 
 html-only : (k : PlainElement) → holds BeforeRoot k ≡ true → k ≡ Html
 html-only Html h = refl
@@ -25,9 +25,9 @@ body-only : (k : PlainElement) → holds BeforeBody k ≡ true → k ≡ Body
 body-only Body h = refl
 body-only k h = absurd cc
 
-body-behind_head : (k : PlainElement) → holds BehindHead k ≡ true → k ≡ Body
-body-behind_head Body h = refl
-body-behind_head k h = absurd cc
+body-after_head : (k : PlainElement) → holds AfterHead k ≡ true → k ≡ Body
+body-after_head Body h = refl
+body-after_head k h = absurd cc
 
 -- what is known of an element where only one may stand
 record IsOne (pl : PlainPlace) (j : PlainElement) (name : QualName) (attributes : List Attribute) (template : Bool) (kids rest : Trees) : Type 0 where
@@ -35,7 +35,7 @@ record IsOne (pl : PlainPlace) (j : PlainElement) (name : QualName) (attributes 
   ordinary : template ≡ false
   tagged : are_plain_attributes attributes ≡ true
   within : IsPlain (inside pl j) false kids
-  behind : IsPlain (behind_element pl) false rest
+  behind : IsPlain (place_after_element pl) false rest
 
 one : (pl : PlainPlace) (j : PlainElement) → ((k : PlainElement) → holds pl k ≡ true → k ≡ j) → (b : Bool) (name : QualName) (attributes : List Attribute) (template : Bool) (kids rest : Trees) → IsPlain pl b (Element name attributes template kids rest) → IsOne pl j name attributes template kids rest
 one pl j only b name attributes template kids rest h =
@@ -49,21 +49,21 @@ one pl j only b name attributes template kids rest h =
       behind = w.5;
     }
 
-nothing-behind_root : (b : Bool) (trees : Trees) → IsPlain BehindRoot b trees → trees ≡ Nothing
-nothing-behind_root b Nothing h = refl
-nothing-behind_root b (Text text rest) h = absurd (let no = h.2 in cc)
-nothing-behind_root b (Comment text rest) h = absurd (let no = h.0 in cc)
-nothing-behind_root b (ProcessingInstruction target text rest) h = absurd h
-nothing-behind_root b (Doctype name public_id system_id rest) h = absurd (let no = h.0 in cc)
-nothing-behind_root b (Element name attributes template kids rest) h = absurd (let no = h.1.2 in cc)
+nothing-after_root : (b : Bool) (trees : Trees) → IsPlain AfterRoot b trees → trees ≡ Nothing
+nothing-after_root b Nothing h = refl
+nothing-after_root b (Text text rest) h = absurd (let no = h.2 in cc)
+nothing-after_root b (Comment text rest) h = absurd (let no = h.0 in cc)
+nothing-after_root b (ProcessingInstruction target text rest) h = absurd h
+nothing-after_root b (Doctype name public_id system_id rest) h = absurd (let no = h.0 in cc)
+nothing-after_root b (Element name attributes template kids rest) h = absurd (let no = h.1.2 in cc)
 
-nothing-behind_body : (b : Bool) (trees : Trees) → IsPlain BehindBody b trees → trees ≡ Nothing
-nothing-behind_body b Nothing h = refl
-nothing-behind_body b (Text text rest) h = absurd (let no = h.2 in cc)
-nothing-behind_body b (Comment text rest) h = absurd (let no = h.0 in cc)
-nothing-behind_body b (ProcessingInstruction target text rest) h = absurd h
-nothing-behind_body b (Doctype name public_id system_id rest) h = absurd (let no = h.0 in cc)
-nothing-behind_body b (Element name attributes template kids rest) h = absurd (let no = h.1.2 in cc)
+nothing-after_body : (b : Bool) (trees : Trees) → IsPlain AfterBody b trees → trees ≡ Nothing
+nothing-after_body b Nothing h = refl
+nothing-after_body b (Text text rest) h = absurd (let no = h.2 in cc)
+nothing-after_body b (Comment text rest) h = absurd (let no = h.0 in cc)
+nothing-after_body b (ProcessingInstruction target text rest) h = absurd h
+nothing-after_body b (Doctype name public_id system_id rest) h = absurd (let no = h.0 in cc)
+nothing-after_body b (Element name attributes template kids rest) h = absurd (let no = h.1.2 in cc)
 
 -- BODY
 
@@ -85,11 +85,11 @@ body-comes b (ProcessingInstruction target text rest) h = absurd h
 body-comes b (Doctype name public_id system_id rest) h = absurd (let no = h.0 in cc)
 body-comes b (Element name attributes template kids rest) h =
     let is = one BeforeBody Body body-only b name attributes template kids rest h in
-    body-of name attributes template kids rest is.called is.ordinary (nothing-behind_body false rest is.behind) is.tagged is.within
+    body-of name attributes template kids rest is.called is.ordinary (nothing-after_body false rest is.behind) is.tagged is.within
 
 -- BEHIND THE HEAD
 
-record IsBehindHead (trees : Trees) : Type 0 where
+record IsAfterHead (trees : Trees) : Type 0 where
   space : List ℕ
   body : List Attribute
   flow : Trees
@@ -98,22 +98,22 @@ record IsBehindHead (trees : Trees) : Type 0 where
   plain : are_plain_attributes body ≡ true
   flows : IsPlain InFlow false flow
 
-behind_head-of : (space : List ℕ) (trees : Trees) → list_all is_white space ≡ true → IsBody trees → IsBehindHead (text_before space trees)
-behind_head-of space trees w b = record { space = space; body = b.attributes; flow = b.flow; is = ap (text_before space) b.is; white = w; plain = b.plain; flows = b.flows }
+after_head-of : (space : List ℕ) (trees : Trees) → list_all is_white space ≡ true → IsBody trees → IsAfterHead (text_before space trees)
+after_head-of space trees w b = record { space = space; body = b.attributes; flow = b.flow; is = ap (text_before space) b.is; white = w; plain = b.plain; flows = b.flows }
 
-spaced : (text : List ℕ) (rest : Trees) → is_plain_text text ≡ true → list_all is_white text ≡ true → IsBody rest → IsBehindHead (Text text rest)
+spaced : (text : List ℕ) (rest : Trees) → is_plain_text text ≡ true → list_all is_white text ≡ true → IsBody rest → IsAfterHead (Text text rest)
 spaced [] rest p w b = absurd cc
-spaced (c ∷ cs) rest p w b = behind_head-of (c ∷ cs) rest w b
+spaced (c ∷ cs) rest p w b = after_head-of (c ∷ cs) rest w b
 
-behind_head : (b : Bool) (trees : Trees) → IsPlain BehindHead b trees → IsBehindHead trees
-behind_head b Nothing h = absurd (let no = h in cc)
-behind_head b (Text text rest) h = spaced text rest h.1 h.2 (body-comes true rest h.3)
-behind_head b (Comment text rest) h = absurd (let no = h.0 in cc)
-behind_head b (ProcessingInstruction target text rest) h = absurd h
-behind_head b (Doctype name public_id system_id rest) h = absurd (let no = h.0 in cc)
-behind_head b (Element name attributes template kids rest) h =
-    let is = one BehindHead Body body-behind_head b name attributes template kids rest h in
-    behind_head-of [] (Element name attributes template kids rest) refl (body-of name attributes template kids rest is.called is.ordinary (nothing-behind_body false rest is.behind) is.tagged is.within)
+after_head : (b : Bool) (trees : Trees) → IsPlain AfterHead b trees → IsAfterHead trees
+after_head b Nothing h = absurd (let no = h in cc)
+after_head b (Text text rest) h = spaced text rest h.1 h.2 (body-comes true rest h.3)
+after_head b (Comment text rest) h = absurd (let no = h.0 in cc)
+after_head b (ProcessingInstruction target text rest) h = absurd h
+after_head b (Doctype name public_id system_id rest) h = absurd (let no = h.0 in cc)
+after_head b (Element name attributes template kids rest) h =
+    let is = one AfterHead Body body-after_head b name attributes template kids rest h in
+    after_head-of [] (Element name attributes template kids rest) refl (body-of name attributes template kids rest is.called is.ordinary (nothing-after_body false rest is.behind) is.tagged is.within)
 
 -- THE ROOT AND THE DOCTYPE
 
@@ -124,9 +124,9 @@ record IsRootFilled (trees : Trees) : Type 0 where
   holds : IsPlain InHead false heads
   rest : Trees
   is : trees ≡ Element (html_name (codes "head")) head false heads rest
-  behind : IsBehindHead rest
+  behind : IsAfterHead rest
 
-head-of : (name : QualName) (attributes : List Attribute) (template : Bool) (kids rest : Trees) → name ≡ html_name (codes "head") → template ≡ false → are_plain_attributes attributes ≡ true → IsPlain InHead false kids → IsBehindHead rest → IsRootFilled (Element name attributes template kids rest)
+head-of : (name : QualName) (attributes : List Attribute) (template : Bool) (kids rest : Trees) → name ≡ html_name (codes "head") → template ≡ false → are_plain_attributes attributes ≡ true → IsPlain InHead false kids → IsAfterHead rest → IsRootFilled (Element name attributes template kids rest)
 head-of name attributes template kids rest e t a k r = record { head = attributes; heads = kids; plain = a; holds = k; rest = rest; is = rw (e, t) refl; behind = r }
 
 root-filled : (b : Bool) (trees : Trees) → IsPlain BeforeHead b trees → IsRootFilled trees
@@ -137,7 +137,7 @@ root-filled b (ProcessingInstruction target text rest) h = absurd h
 root-filled b (Doctype name public_id system_id rest) h = absurd (let no = h.0 in cc)
 root-filled b (Element name attributes template kids rest) h =
     let is = one BeforeHead Head head-only b name attributes template kids rest h in
-    head-of name attributes template kids rest is.called is.ordinary is.tagged is.within (behind_head false rest is.behind)
+    head-of name attributes template kids rest is.called is.ordinary is.tagged is.within (after_head false rest is.behind)
 
 record IsRoot (trees : Trees) : Type 0 where
   root : List Attribute
@@ -157,7 +157,7 @@ root-comes b (ProcessingInstruction target text rest) h = absurd h
 root-comes b (Doctype name public_id system_id rest) h = absurd (let no = h.0 in cc)
 root-comes b (Element name attributes template kids rest) h =
     let is = one BeforeRoot Html html-only b name attributes template kids rest h in
-    root-of name attributes template kids rest is.called is.ordinary (nothing-behind_root false rest is.behind) is.tagged (root-filled false kids is.within)
+    root-of name attributes template kids rest is.called is.ordinary (nothing-after_root false rest is.behind) is.tagged (root-filled false kids is.within)
 
 doctype-same : (name public_id system_id : List ℕ) (rest other : Trees) → name ≡ codes "html" → public_id ≡ [] → system_id ≡ [] → rest ≡ other → Doctype name public_id system_id rest ≡ Doctype (codes "html") [] [] other
 doctype-same name public_id system_id rest other e p s r = rw (e, p, s, r) refl

@@ -16,7 +16,7 @@ use Rattle.html_plain.specs.declared.elements.PlainElement.TheVariants.{Html, He
 use Rattle.html_plain.specs.declared.place.PlainPlace.{PlainPlace}
 use Rattle.html_plain.specs.declared.place.TextKind.{TextKind}
 use Rattle.html_plain.specs.declared.place.TextKind.TheVariants.{NoText, WhiteSpace, AnyText}
-use Rattle.html_plain.specs.declared.place.PlainPlace.TheVariants.{BeforeDoctype, BeforeRoot, BehindRoot, BeforeHead, BehindHead, BeforeBody, BehindBody, InHead, BehindTitle, InTitle, InFlow, InLine, InList, InTable, InTableBody, InRow, InBreak}
+use Rattle.html_plain.specs.declared.place.PlainPlace.TheVariants.{BeforeDoctype, BeforeRoot, AfterRoot, BeforeHead, AfterHead, BeforeBody, AfterBody, InHead, AfterTitle, InTitle, InFlow, InLine, InList, InTable, InTableBody, InRow, InBreak}
 
 -- NAMES
 
@@ -115,7 +115,7 @@ is_cell _ = false
 abbrev pub holds : PlainPlace → PlainElement → Bool
 holds BeforeRoot Html = true
 holds BeforeHead Head = true
-holds BehindHead Body = true
+holds AfterHead Body = true
 holds BeforeBody Body = true
 holds InHead Title = true
 holds InFlow k = is_block k || is_inline k
@@ -150,24 +150,24 @@ inside place (Formatted format) = InLine (is_in_link place)
 inside place Link = InLine true
 
 -- where the next node stands after an element that stands here
-abbrev pub behind_element : PlainPlace → PlainPlace
-behind_element BeforeRoot = BehindRoot
-behind_element BeforeHead = BehindHead
-behind_element BehindHead = BehindBody
-behind_element BeforeBody = BehindBody
-behind_element InHead = BehindTitle
-behind_element place = place
+abbrev pub place_after_element : PlainPlace → PlainPlace
+place_after_element BeforeRoot = AfterRoot
+place_after_element BeforeHead = AfterHead
+place_after_element AfterHead = AfterBody
+place_after_element BeforeBody = AfterBody
+place_after_element InHead = AfterTitle
+place_after_element place = place
 
 -- and after a text
-abbrev pub behind_text : PlainPlace → PlainPlace
-behind_text BehindHead = BeforeBody
-behind_text place = place
+abbrev pub place_after_text : PlainPlace → PlainPlace
+place_after_text AfterHead = BeforeBody
+place_after_text place = place
 
 -- which texts may stand in a place
 abbrev pub text_kind : PlainPlace → TextKind
-text_kind BehindHead = WhiteSpace
+text_kind AfterHead = WhiteSpace
 text_kind InHead = WhiteSpace
-text_kind BehindTitle = WhiteSpace
+text_kind AfterTitle = WhiteSpace
 text_kind InTitle = AnyText
 text_kind InFlow = AnyText
 text_kind (InLine in_link) = AnyText
@@ -187,6 +187,6 @@ abbrev pub may_end : PlainPlace → Bool
 may_end BeforeDoctype = false
 may_end BeforeRoot = false
 may_end BeforeHead = false
-may_end BehindHead = false
+may_end AfterHead = false
 may_end BeforeBody = false
 may_end place = true

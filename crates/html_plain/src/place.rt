@@ -11,19 +11,19 @@ pub enum PlainPlace {
     /// After the doctype: `html` comes.
     BeforeRoot,
     /// After `html`: nothing comes.
-    BehindRoot,
+    AfterRoot,
     /// First in `html`: `head` comes.
     BeforeHead,
     /// After `head`: white space or `body` comes.
-    BehindHead,
+    AfterHead,
     /// After white space after `head`: `body` comes.
     BeforeBody,
     /// After `body`: nothing comes.
-    BehindBody,
+    AfterBody,
     /// In `head`: white space and a title may come.
     InHead,
     /// In `head`, after the title: white space may come.
-    BehindTitle,
+    AfterTitle,
     /// In `title`: text may come.
     InTitle,
     /// In `body`, `div`, `li`, `td` and `th`: text, comments, blocks and inline elements may come.
@@ -57,7 +57,7 @@ pub enum TextKind {
 }
 
 impl PlainPlace {
-    ghost use Rattle.html_plain.specs.Elements.{behind_element, behind_text, holds, inside, may_end, takes_comments, text_kind};
+    ghost use Rattle.html_plain.specs.Elements.{place_after_element, place_after_text, holds, inside, may_end, takes_comments, text_kind};
     ghost use Rattle.html_plain.specs.Grammar.{is_first};
 
     /// Whether an element may stand here.
@@ -67,10 +67,7 @@ impl PlainPlace {
         match self {
             PlainPlace::BeforeRoot => matches!(element, PlainElement::Html),
             PlainPlace::BeforeHead => matches!(element, PlainElement::Head),
-            PlainPlace::BehindHead | PlainPlace::BeforeBody => matches!(
-                element,
-                PlainElement::Body
-            ),
+            PlainPlace::AfterHead | PlainPlace::BeforeBody => matches!(element, PlainElement::Body),
             PlainPlace::InHead => matches!(element, PlainElement::Title),
             PlainPlace::InFlow => element.is_block() || element.is_inline(),
             PlainPlace::InLine(in_link) => {
@@ -111,24 +108,24 @@ impl PlainPlace {
     }
 
     /// Where the next node stands after an element that stands here.
-    pub fn behind_element(self) -> PlainPlace
-        ensures { result ≡ behind_element self }
+    pub fn place_after_element(self) -> PlainPlace
+        ensures { result ≡ place_after_element self }
     {
         match self {
-            PlainPlace::BeforeRoot => PlainPlace::BehindRoot,
-            PlainPlace::BeforeHead => PlainPlace::BehindHead,
-            PlainPlace::BehindHead | PlainPlace::BeforeBody => PlainPlace::BehindBody,
-            PlainPlace::InHead => PlainPlace::BehindTitle,
+            PlainPlace::BeforeRoot => PlainPlace::AfterRoot,
+            PlainPlace::BeforeHead => PlainPlace::AfterHead,
+            PlainPlace::AfterHead | PlainPlace::BeforeBody => PlainPlace::AfterBody,
+            PlainPlace::InHead => PlainPlace::AfterTitle,
             place => place,
         }
     }
 
     /// Where the next node stands after a text that stands here.
-    pub fn behind_text(self) -> PlainPlace
-        ensures { result ≡ behind_text self }
+    pub fn place_after_text(self) -> PlainPlace
+        ensures { result ≡ place_after_text self }
     {
         match self {
-            PlainPlace::BehindHead => PlainPlace::BeforeBody,
+            PlainPlace::AfterHead => PlainPlace::BeforeBody,
             place => place,
         }
     }
@@ -139,9 +136,9 @@ impl PlainPlace {
     {
         match self {
             PlainPlace::InTitle | PlainPlace::InFlow | PlainPlace::InLine(_) => TextKind::AnyText,
-            PlainPlace::BehindHead
+            PlainPlace::AfterHead
             | PlainPlace::InHead
-            | PlainPlace::BehindTitle
+            | PlainPlace::AfterTitle
             | PlainPlace::InList
             | PlainPlace::InTable
             | PlainPlace::InTableBody
@@ -173,7 +170,7 @@ impl PlainPlace {
             PlainPlace::BeforeDoctype
                 | PlainPlace::BeforeRoot
                 | PlainPlace::BeforeHead
-                | PlainPlace::BehindHead
+                | PlainPlace::AfterHead
                 | PlainPlace::BeforeBody
         )
     }

@@ -105,7 +105,7 @@ impl BufferQueue {
     pub fn push_back(&mut self, text: String) -> Result<(), ParseFault>
         ensures ok { OnOk result (self.new ≡ record self.old { characters = self.old.characters ++ chars (string_bytes text) }) }
         ensures err { OnErr result (self.new ≡ self.old) }
-        ensures only_memory { IsOkUnless result Memory }
+        ensures fault { IsOkUnless result Memory }
     {
         self.cursor.push_back(text)?;
         Ok(())
@@ -115,7 +115,7 @@ impl BufferQueue {
     pub fn push_front(&mut self, text: String) -> Result<(), ParseFault>
         ensures ok { OnOk result (self.new ≡ record self.old { characters = chars (string_bytes text) ++ self.old.characters }) }
         ensures err { OnErr result (self.new ≡ self.old) }
-        ensures only_memory { IsOkUnless result Memory }
+        ensures fault { IsOkUnless result Memory }
     {
         self.cursor.push_front(text)?;
         Ok(())
@@ -126,7 +126,7 @@ impl BufferQueue {
     pub fn pop_except_from(&mut self, set: SmallCharSet) -> Result<Option<SetResult>, ParseFault>
         ensures ok { IfOk result (Pops set.bits self.old self.new) }
         ensures err { OnErr result (self.new ≡ self.old) }
-        ensures only_memory { IsOkUnless result Memory }
+        ensures fault { IsOkUnless result Memory }
     {
         let rest = self.cursor.as_str();
         if rest.is_empty() {

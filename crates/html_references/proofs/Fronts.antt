@@ -7,7 +7,7 @@ use Rattle.std.proofs.lemmas.Bool.{lt-ltb, or_parts}
 use Rattle.std.proofs.lemmas.Bool.Decides.{nat_tests}
 use Rattle.markup.specs.Plain.{is_plain}
 use Rattle.html_references.specs.Order.{IsOrder, name_at, ordered_name}
-use Rattle.html_references.specs.References.{goes_on, goes_on_behind, is_front, is_named, longest}
+use Rattle.html_references.specs.References.{goes_on, goes_on_after, is_front, is_named, longest}
 use Rattle.html_references.proofs.Begins.{fitting-is}
 use Rattle.html_references.proofs.Longest.{named_at}
 use Rattle.html_references.proofs.Matches.{place_of_any}
@@ -52,13 +52,13 @@ and_assoc true b c = refl
 and_assoc false b c = refl
 
 -- a name that begins with a text is that text, or goes on after it
-name-front : (name text : List ℕ) → starts_with nat_eq name text ≡ (bytes_eq name text || goes_on_behind text name)
+name-front : (name text : List ℕ) → starts_with nat_eq name text ≡ (bytes_eq name text || goes_on_after text name)
 name-front [] [] = refl
 name-front [] (t ∷ ts) = refl
 name-front (n ∷ ns) [] = sym (lt-ltb 0 (suc (length ns)) (omega arith))
 name-front (n ∷ ns) (t ∷ ts) =
     rw (nat_eq-sym t n, shift (length ts) (length ns), and_assoc (nat_eq n t) (starts_with nat_eq ns ts) (nat_lt (length ts) (length ns)))
-    (under_or (nat_eq n t) (starts_with nat_eq ns ts) (bytes_eq ns ts) (goes_on_behind ts ns) (name-front ns ts))
+    (under_or (nat_eq n t) (starts_with nat_eq ns ts) (bytes_eq ns ts) (goes_on_after ts ns) (name-front ns ts))
 
 or-pairs : (a b c d : Bool) → ((a || b) || (c || d)) ≡ ((a || c) || (b || d))
 or-pairs true b c d = refl
@@ -71,8 +71,8 @@ pub front-or : (rows : List ReferenceRow) (text : List ℕ) → is_front rows te
 front-or [] text = refl
 front-or (row ∷ rows) text =
     ap (λ b. b || is_front rows text) (name-front row.name text)
-    ∙ ap (λ b. (bytes_eq row.name text || goes_on_behind text row.name) || b) (front-or rows text)
-    ∙ or-pairs (bytes_eq row.name text) (goes_on_behind text row.name) (is_named rows text) (goes_on rows text)
+    ∙ ap (λ b. (bytes_eq row.name text || goes_on_after text row.name) || b) (front-or rows text)
+    ∙ or-pairs (bytes_eq row.name text) (goes_on_after text row.name) (is_named rows text) (goes_on rows text)
 
 or-true : (a b : Bool) → a ≡ true → (a || b) ≡ true
 or-true a b e = rw e refl

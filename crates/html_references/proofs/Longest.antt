@@ -8,7 +8,7 @@ use Rattle.std.specs.Cmp.Lexicographic.{pointwise}
 use Rattle.std.proofs.lemmas.Bool.{and_parts, and_from, cases_lt, cond-true, cond-false, eqb-true, false_from_ne_true, le-leb, lt-leb, lt-ltb, or_parts, true≢false}
 use Rattle.std.proofs.lemmas.Bool.Decides.{nat_tests}
 use Rattle.std.proofs.lemmas.List.{length-take-le, take_more, take-append-drop}
-use Rattle.html_references.specs.References.{goes_on, goes_on_behind, is_named, is_reference_name, longer_of, longest}
+use Rattle.html_references.specs.References.{goes_on, goes_on_after, is_named, is_reference_name, longer_of, longest}
 use Rattle.html_references.specs.Order.{IsOrder, name_at}
 use Rattle.html_references.proofs.Begins.{fitting-is}
 use Rattle.html_references.proofs.Matches.{same_place}
@@ -29,7 +29,7 @@ and_assoc true b c = refl
 and_assoc false b c = refl
 
 -- a name that does not go on after what is held begins a longer text where it begins what is held
-starts_with-cut : (held more name : List ℕ) → goes_on_behind held name ≡ false → starts_with nat_eq (held ++ more) name ≡ starts_with nat_eq held name
+starts_with-cut : (held more name : List ℕ) → goes_on_after held name ≡ false → starts_with nat_eq (held ++ more) name ≡ starts_with nat_eq held name
 starts_with-cut held more [] g = refl
 starts_with-cut [] more (n ∷ ns) g = absurd (true≢false (sym (lt-ltb 0 (suc (length ns)) (omega arith)) ∙ g))
 starts_with-cut (h ∷ hs) more (n ∷ ns) g =
@@ -41,7 +41,7 @@ starts_with-cut (h ∷ hs) more (n ∷ ns) g =
 pub longest-cut : (rows : List ReferenceRow) (held more : List ℕ) → goes_on rows held ≡ false → longest rows (held ++ more) ≡ longest rows held
 longest-cut [] held more g = refl
 longest-cut (row ∷ rows) held more g =
-    let p = or_parts (goes_on_behind held row.name) (goes_on rows held) g in
+    let p = or_parts (goes_on_after held row.name) (goes_on rows held) g in
     rw (fitting-is (held ++ more) row, fitting-is held row, starts_with-cut held more row.name p.0, longest-cut rows held more p.1) refl
 
 starts_with-nil : (ns : List ℕ) → starts_with nat_eq [] ns ≡ pointwise nat_eq ns []

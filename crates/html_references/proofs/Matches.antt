@@ -11,7 +11,7 @@ use Rattle.std.proofs.lemmas.Bool.{and_parts, and_from, cases_lt, cases_order, e
 use Rattle.std.proofs.lemmas.Bool.Decides.{nat_tests}
 use Rattle.std.proofs.lemmas.Cmp.{nat_list_cmp_total, tied_itself}
 use Rattle.std.proofs.lemmas.Slice.Eq.{bytes_eq-Decides}
-use Rattle.html_references.specs.References.{goes_on, goes_on_behind, is_named}
+use Rattle.html_references.specs.References.{goes_on, goes_on_after, is_named}
 use Rattle.html_references.specs.Order.{IsBefore, IsOrder, IsOrdered, IsPlaceOf, name_at, ordered_name}
 use Rattle.html_tokens.specs.declared.table.ReferenceRow.{ReferenceRow}
 
@@ -39,8 +39,8 @@ then_less x y o h = grind (arith, nat_tests)
 same_then : (x y : ℕ) (o p : Ordering) → x ≡ y → o ≡ p → ordering_then (nat_cmp x y) o ≡ p
 same_then x y o p e h = rw (e, nat_cmp-same y) h
 
-not_behind : (x y : ℕ) (o : Ordering) → x < y → ordering_then (nat_cmp y x) o ≡ Less → ⊥
-not_behind x y o l h = grind (arith, nat_tests)
+not_after : (x y : ℕ) (o : Ordering) → x < y → ordering_then (nat_cmp y x) o ≡ Less → ⊥
+not_after x y o l h = grind (arith, nat_tests)
 
 -- what begins with a text and stands after it is longer
 pub longer_when_before : (held name : List ℕ) → starts_with nat_eq name held ≡ true → IsBefore held name → nat_lt (length held) (length name) ≡ true
@@ -58,7 +58,7 @@ longer_when_before (h ∷ hs) (x ∷ xs) s b =
     (then_less h x _ b)
 
 -- a text stands before what goes on after it
-pub before_when_longer : (held name : List ℕ) → goes_on_behind held name ≡ true → IsBefore held name
+pub before_when_longer : (held name : List ℕ) → goes_on_after held name ≡ true → IsBefore held name
 before_when_longer [] [] h = cc
 before_when_longer [] (x ∷ xs) h = refl
 before_when_longer (h ∷ hs) [] g = cc
@@ -77,7 +77,7 @@ starts_between (h ∷ hs) (x ∷ xs) (y ∷ ys) p q s =
     let r = and_parts (nat_eq h y) (starts_with nat_eq ys hs) s in
     let e : h ≡ y = eqb-true h y r.0 in
     ⊎_elim
-    (λ (l : h < x). absurd (not_behind y x _ (omega arith) q))
+    (λ (l : h < x). absurd (not_after y x _ (omega arith) q))
     (λ (u : (h ≡ x) × (slice_cmp nat_cmp hs xs ≡ Less)).
     ⊎_elim
     (λ (l : x < y). absurd (omega arith))
@@ -89,7 +89,7 @@ starts_between (h ∷ hs) (x ∷ xs) (y ∷ ys) p q s =
 -- the first name after what is held tells that some name goes on
 pub goes_on_first : (rows : List ReferenceRow) (order held : List ℕ) (index : ℕ) → IsOrdered rows order → index < length order → IsBefore held (ordered_name rows order index) → starts_with nat_eq (ordered_name rows order index) held ≡ true → goes_on rows held ≡ true
 goes_on_first rows order held index o l b s =
-    any_at (goes_on_behind held) rows (get_or order index 0) (o.within index l)
+    any_at (goes_on_after held) rows (get_or order index 0) (o.within index l)
     (and_from _ _ s (longer_when_before held (ordered_name rows order index) s b))
 
 -- a text is not before itself
@@ -100,9 +100,9 @@ IsBefore-irrefl text h = let e = tied_itself nat_list_cmp_total text in absurd (
     different e = cc
 
 -- a name that goes on stands at an index
-at_index : (rows : List ReferenceRow) (order held : List ℕ) → IsOrder rows order → goes_on rows held ≡ true → (index : ℕ) × (index < length order) × (goes_on_behind held (ordered_name rows order index) ≡ true)
+at_index : (rows : List ReferenceRow) (order held : List ℕ) → IsOrder rows order → goes_on rows held ≡ true → (index : ℕ) × (index < length order) × (goes_on_after held (ordered_name rows order index) ≡ true)
 at_index rows order held o g =
-    let p = place_of_any (goes_on_behind held) rows g in
+    let p = place_of_any (goes_on_after held) rows g in
     let w = o.whole p.0 p.1 in
     (w.0, w.1, rw w.2 p.2)
 
@@ -143,8 +143,8 @@ pub not_both : (a b : List ℕ) → IsBefore a b → IsBefore b a → ⊥
 not_both a b p q = IsBefore-irrefl a (nat_list_cmp_total.trans a b a p q)
 
 -- after a name come only the names at later indices
-pub behind_name : (rows : List ReferenceRow) (order text : List ℕ) (index : ℕ) → IsOrdered rows order → index < length order → ordered_name rows order index ≡ text → (i : ℕ) → i < length order → IsBefore text (ordered_name rows order i) → index + 1 ≤ i
-behind_name rows order text index o l e i m b =
+pub after_name : (rows : List ReferenceRow) (order text : List ℕ) (index : ℕ) → IsOrdered rows order → index < length order → ordered_name rows order index ≡ text → (i : ℕ) → i < length order → IsBefore text (ordered_name rows order i) → index + 1 ≤ i
+after_name rows order text index o l e i m b =
     ⊎_elim
     (λ (s : i ≡ index). absurd (IsBefore-irrefl text (rw (s, e) at b)))
     (λ u. ⊎_elim
@@ -153,8 +153,8 @@ behind_name rows order text index o l e i m b =
     (cases_order i index)
 
 -- after a text that is no name come only the names from its place on
-pub behind_place : (rows : List ReferenceRow) (order text : List ℕ) (index : ℕ) → IsPlaceOf rows order text index → (i : ℕ) → IsBefore text (ordered_name rows order i) → index ≤ i
-behind_place rows order text index p i b =
+pub after_place : (rows : List ReferenceRow) (order text : List ℕ) (index : ℕ) → IsPlaceOf rows order text index → (i : ℕ) → IsBefore text (ordered_name rows order i) → index ≤ i
+after_place rows order text index p i b =
     ⊎_elim
     (λ (s : i < index). absurd (not_both text (ordered_name rows order i) b (p.1 i s)))
     (λ (s : index ≤ i). s)

@@ -11,7 +11,7 @@ use lib.Utf8.{encodes}
 use Rattle.markup.specs.Plain.{is_plain}
 use Rattle.markup.proofs.Plain.{chars-plain}
 use Rattle.html_references.specs.Order.{IsOrder, name_at}
-use Rattle.html_references.specs.References.{goes_on, goes_on_behind, is_reference_name, longest}
+use Rattle.html_references.specs.References.{goes_on, goes_on_after, is_reference_name, longest}
 use Rattle.html_tokens.specs.declared.table.ReferenceRow.{ReferenceRow}
 use Rattle.html_references.proofs.Begins.{fitting-is}
 use Rattle.html_references.proofs.Longest.{named_at}
@@ -41,7 +41,7 @@ front_plain (n ∷ ns) (f ∷ fs) p s =
 
 goes_on_plain : (rows : List ReferenceRow) (order : List ℕ) → IsOrder rows order → (held : List ℕ) → goes_on rows held ≡ true → is_plain held ≡ true
 goes_on_plain rows order o held g =
-    let p = place_of_any (goes_on_behind held) rows g in
+    let p = place_of_any (goes_on_after held) rows g in
     front_plain (name_at rows p.0) held (is_plain-name (name_at rows p.0) (named_at rows order o p.0 p.1)) (and_parts (starts_with nat_eq (name_at rows p.0) held) _ p.2).0
 
 pub goes_on-chars : (rows : List ReferenceRow) (order bytes : List ℕ) → IsOrder rows order → IsUtf8 bytes → goes_on rows bytes ≡ goes_on rows (chars bytes)

@@ -6,9 +6,9 @@ use Rattle.std.proofs.lemmas.Bool.{and_parts, cond-true, cond-false, not_from_fa
 use Rattle.std.proofs.lemmas.List.{drop_all, get_or_default, get_or-take, length-take-le, take_all}
 use Rattle.std.proofs.lemmas.Slice.Eq.{bytes_eq-Decides}
 use Rattle.html_references.specs.Order.{IsArranged, IsFirstRepeat, IsOrder, IsTable, is_good, name_at, own_fault}
-use Rattle.html_references.specs.References.{fault_behind, fault_of, first_fault, has_values, is_named, is_reference_name}
+use Rattle.html_references.specs.References.{fault_after, fault_of, first_fault, has_values, is_named, is_reference_name}
 use Rattle.html_references.proofs.Arranging.{distinct-before, distinct-repeatless, earlier-same, order-arranged}
-use Rattle.html_references.proofs.Faults.{fault_behind-absent, fault_behind-named, first_fault-at}
+use Rattle.html_references.proofs.Faults.{fault_after-absent, fault_after-named, first_fault-at}
 use Rattle.html_references.proofs.Matches.{any_at, place_of_any}
 use Rattle.html_references.proofs.Orders.{name_at-get_or}
 use Rattle.html_tokens.specs.declared.table.ReferenceRow.{ReferenceRow}
@@ -49,14 +49,14 @@ front_without_fault rows (suc n) l good distinct =
     let same : name_at rows n ≡ row.name = name_at-get_or rows n some_row (omega arith) in
     let rest = front_without_fault rows n (omega arith) (λ k m. good k (omega arith)) (λ a b m o. distinct a b m (omega arith)) in
     let unnamed = not_named rows n row (omega arith) same (λ a b m o. distinct a b m (omega arith)) in
-    rw (← add-one n) (first_fault-at rows n row None (omega arith) (get_or_default rows n some_row row (omega arith)) (fault_behind-absent (take n rows) row parts.0 parts.1 unnamed) rest)
+    rw (← add-one n) (first_fault-at rows n row None (omega arith) (get_or_default rows n some_row row (omega arith)) (fault_after-absent (take n rows) row parts.0 parts.1 unnamed) rest)
 
 -- a row that is not good by itself
-fault_behind-own : (earlier : List ReferenceRow) (row : ReferenceRow) (n v : Bool) → is_reference_name row.name ≡ n → has_values row ≡ v → n && v ≡ false → fault_behind earlier row ≡ Some (cond n (BadValue (length earlier + 1)) (BadName (length earlier + 1)))
-fault_behind-own earlier row false v p q h = cond-true (not (is_reference_name row.name)) _ _ (not_from_false _ p)
-fault_behind-own earlier row true false p q h =
+fault_after-own : (earlier : List ReferenceRow) (row : ReferenceRow) (n v : Bool) → is_reference_name row.name ≡ n → has_values row ≡ v → n && v ≡ false → fault_after earlier row ≡ Some (cond n (BadValue (length earlier + 1)) (BadName (length earlier + 1)))
+fault_after-own earlier row false v p q h = cond-true (not (is_reference_name row.name)) _ _ (not_from_false _ p)
+fault_after-own earlier row true false p q h =
     cond-false (not (is_reference_name row.name)) _ _ (not_from_true _ p) ∙ cond-true (not (has_values row)) _ _ (not_from_false _ q)
-fault_behind-own earlier row true true p q h = cc
+fault_after-own earlier row true true p q h = cc
 
 front_good : (rows : List ReferenceRow) (n : ℕ) → n ≤ length rows → All (λ row. is_good row ≡ true) (take n rows) → (k : ℕ) → k < n → is_good (get_or rows k some_row) ≡ true
 front_good rows n l good k m =
@@ -87,7 +87,7 @@ module _ (rows : List ReferenceRow) (n : ℕ) (order : List ℕ) (within : n ≤
   pub own_fault-first : (row : ReferenceRow) → IsFirstRepeat (take n rows) order None → n < length rows → row ≡ get_or rows n row → is_good row ≡ false → fault_of rows ≡ Some (own_fault (n + 1) row)
   own_fault-first row none l e bad =
       first_fault-at rows n row (Some (own_fault (n + 1) row)) l e
-      (fault_behind-own (take n rows) row _ _ refl refl bad ∙ ap (λ k. Some (own_fault (k + 1) row)) front_length)
+      (fault_after-own (take n rows) row _ _ refl refl bad ∙ ap (λ k. Some (own_fault (k + 1) row)) front_length)
       (no_fault_in_front none)
 
   -- the first row that repeats a name is the first faulty one
@@ -110,6 +110,6 @@ module _ (rows : List ReferenceRow) (n : ℕ) (order : List ℕ) (within : n ≤
       let named : is_named (take place rows) row.name ≡ true =
       any_at (λ name. bytes_eq name row.name) (take place rows) (get_or order index 0) (omega arith) ((bytes_eq-Decides (name_at (take place rows) (get_or order index 0)) row.name).1 same) in
       first_fault-at rows place row (Some (Duplicate (place + 1))) (omega arith) (get_or_default rows place some_row row (omega arith))
-      (fault_behind-named (take place rows) row parts.0 parts.1 named ∙ ap (λ k. Some (Duplicate (k + 1))) long)
+      (fault_after-named (take place rows) row parts.0 parts.1 named ∙ ap (λ k. Some (Duplicate (k + 1))) long)
       (front_without_fault rows place (omega arith) (λ k m. front_good rows n within good k (omega arith))
       (distinct_in_front rows n place (omega arith) (λ a b l m. distinct-before (take n rows) order arranged place repeated.1 a b l m (omega (arith, front_length)))))

@@ -9,7 +9,7 @@ use Rattle.std.proofs.lemmas.List.Elements.{All-nil, All-cons, All-push, All-wea
 use Rattle.std.proofs.lemmas.List.Quantifiers.{all_pairs_push}
 use Rattle.std.proofs.lemmas.Slice.Eq.{bytes_eq-Decides}
 use Rattle.html_references.specs.Order.{name_at}
-use Rattle.html_references.specs.References.{IsCheckedTable, IsFirstFault, MatchesLongest, fault_behind, fault_of, first_fault, has_values, is_named, is_reference_name, longer_of, longest}
+use Rattle.html_references.specs.References.{IsCheckedTable, IsFirstFault, MatchesLongest, fault_after, fault_of, first_fault, has_values, is_named, is_reference_name, longer_of, longest}
 use Rattle.html_tokens.specs.declared.table.ReferenceRow.{ReferenceRow}
 use Rattle.html_tokens.specs.declared.table.TableFault.{TableFault}
 use Rattle.html_tokens.specs.declared.table.TableFault.TheVariants.{Memory}
@@ -21,7 +21,7 @@ use Rattle.html_references.proofs.Orders.{name_at-get_or}
 some≢none : {A : Type 0} {x : A} → Some x ≡ None → ⊥
 some≢none q = cc
 
-good_values : (earlier : List ReferenceRow) (row : ReferenceRow) → fault_behind earlier row ≡ None → has_values row ≡ true
+good_values : (earlier : List ReferenceRow) (row : ReferenceRow) → fault_after earlier row ≡ None → has_values row ≡ true
 good_values earlier row e = decided (has_values row) refl
   where
     decided : (b : Bool) → has_values row ≡ b → has_values row ≡ true
@@ -29,7 +29,7 @@ good_values earlier row e = decided (has_values row) refl
     decided false h =
         absurd (some≢none (sym (cond-false (not (is_reference_name row.name)) _ _ (not_from_true _ (name_without_fault earlier row e)) ∙ cond-true (not (has_values row)) _ _ (not_from_false _ h)) ∙ e))
 
-own_name : (earlier : List ReferenceRow) (row : ReferenceRow) → fault_behind earlier row ≡ None → is_named earlier row.name ≡ false
+own_name : (earlier : List ReferenceRow) (row : ReferenceRow) → fault_after earlier row ≡ None → is_named earlier row.name ≡ false
 own_name earlier row e = decided (is_named earlier row.name) refl
   where
     decided : (b : Bool) → is_named earlier row.name ≡ b → is_named earlier row.name ≡ false
@@ -41,7 +41,7 @@ checked_nil : IsCheckedTable []
 checked_nil = record { names = All-nil (λ row. IsTrue (is_reference_name row.name)); values = All-nil (λ row. IsTrue (has_values row)); distinct = λ i j d l m. absurd (omega arith) }
 
 -- a checked table with a row that has no fault after it
-checked_push : (earlier : List ReferenceRow) (row : ReferenceRow) → IsCheckedTable earlier → fault_behind earlier row ≡ None → IsCheckedTable (earlier ++ row ∷ [])
+checked_push : (earlier : List ReferenceRow) (row : ReferenceRow) → IsCheckedTable earlier → fault_after earlier row ≡ None → IsCheckedTable (earlier ++ row ∷ [])
 checked_push earlier row c e = record {
   names = All-push (λ r. IsTrue (is_reference_name r.name)) earlier row c.names (name_without_fault earlier row e);
   values = All-push (λ r. IsTrue (has_values r)) earlier row c.values (good_values earlier row e);
@@ -52,26 +52,26 @@ checked_push earlier row c e = record {
 }
 
 -- one row of a table without a fault
-checked_turn : (earlier : List ReferenceRow) (row : ReferenceRow) (rows : List ReferenceRow) (o : Option TableFault) → fault_behind earlier row ≡ o → option_or o (first_fault (earlier ++ row ∷ []) rows) ≡ None → IsCheckedTable earlier → (IsCheckedTable (earlier ++ row ∷ []) → first_fault (earlier ++ row ∷ []) rows ≡ None → IsCheckedTable ((earlier ++ row ∷ []) ++ rows)) → IsCheckedTable (earlier ++ row ∷ rows)
+checked_turn : (earlier : List ReferenceRow) (row : ReferenceRow) (rows : List ReferenceRow) (o : Option TableFault) → fault_after earlier row ≡ o → option_or o (first_fault (earlier ++ row ∷ []) rows) ≡ None → IsCheckedTable earlier → (IsCheckedTable (earlier ++ row ∷ []) → first_fault (earlier ++ row ∷ []) rows ≡ None → IsCheckedTable ((earlier ++ row ∷ []) ++ rows)) → IsCheckedTable (earlier ++ row ∷ rows)
 checked_turn earlier row rows None h e c next = subst IsCheckedTable (append_assoc earlier (row ∷ []) rows) (next (checked_push earlier row c h) e)
 checked_turn earlier row rows (Some fault) h e c next = absurd (some≢none e)
 
 rest_checked : (rows earlier : List ReferenceRow) → IsCheckedTable earlier → first_fault earlier rows ≡ None → IsCheckedTable (earlier ++ rows)
 rest_checked [] earlier c e = subst IsCheckedTable (sym (append-nil earlier)) c
-rest_checked (row ∷ rows) earlier c e = checked_turn earlier row rows (fault_behind earlier row) refl e c (rest_checked rows (earlier ++ row ∷ []))
+rest_checked (row ∷ rows) earlier c e = checked_turn earlier row rows (fault_after earlier row) refl e c (rest_checked rows (earlier ++ row ∷ []))
 
 -- a table without a fault is checked
 pub checked_from_fault_of : (rows : List ReferenceRow) → fault_of rows ≡ None → IsCheckedTable rows
 checked_from_fault_of rows e = rest_checked rows [] checked_nil e
 
 -- one row of a table with a fault
-first_turn : (earlier : List ReferenceRow) (row : ReferenceRow) (rows : List ReferenceRow) (fault : TableFault) (o : Option TableFault) → fault_behind earlier row ≡ o → option_or o (first_fault (earlier ++ row ∷ []) rows) ≡ Some fault → IsCheckedTable earlier → (IsCheckedTable (earlier ++ row ∷ []) → first_fault (earlier ++ row ∷ []) rows ≡ Some fault → IsFirstFault ((earlier ++ row ∷ []) ++ rows) fault) → IsFirstFault (earlier ++ row ∷ rows) fault
+first_turn : (earlier : List ReferenceRow) (row : ReferenceRow) (rows : List ReferenceRow) (fault : TableFault) (o : Option TableFault) → fault_after earlier row ≡ o → option_or o (first_fault (earlier ++ row ∷ []) rows) ≡ Some fault → IsCheckedTable earlier → (IsCheckedTable (earlier ++ row ∷ []) → first_fault (earlier ++ row ∷ []) rows ≡ Some fault → IsFirstFault ((earlier ++ row ∷ []) ++ rows) fault) → IsFirstFault (earlier ++ row ∷ rows) fault
 first_turn earlier row rows fault None h e c next = subst (λ t. IsFirstFault t fault) (append_assoc earlier (row ∷ []) rows) (next (checked_push earlier row c h) e)
 first_turn earlier row rows fault (Some other) h e c next = record { earlier = earlier; row = row; later = rows; split = refl; checked = c; faulty = h ∙ e }
 
 rest_first : (rows earlier : List ReferenceRow) (fault : TableFault) → IsCheckedTable earlier → first_fault earlier rows ≡ Some fault → IsFirstFault (earlier ++ rows) fault
 rest_first [] earlier fault c e = absurd (some≢none (sym e))
-rest_first (row ∷ rows) earlier fault c e = first_turn earlier row rows fault (fault_behind earlier row) refl e c (rest_first rows (earlier ++ row ∷ []) fault)
+rest_first (row ∷ rows) earlier fault c e = first_turn earlier row rows fault (fault_after earlier row) refl e c (rest_first rows (earlier ++ row ∷ []) fault)
 
 -- the fault of a table is that of its first faulty row
 first_from_fault_of : (rows : List ReferenceRow) (fault : TableFault) → fault_of rows ≡ Some fault → IsFirstFault rows fault

@@ -7,7 +7,7 @@ use Rattle.std.specs.Str.{bytes_eq}
 use Rattle.html_tokens.specs.declared.table.ReferenceRow.{ReferenceRow}
 use Rattle.html_tokens.specs.declared.table.TableFault.{TableFault}
 use Rattle.html_tokens.specs.declared.table.TableFault.TheVariants.{BadName, Duplicate, BadValue}
-pub use Rattle.html_tokens.specs.Table.{goes_on, goes_on_behind, longer_of, longest}
+pub use Rattle.html_tokens.specs.Table.{goes_on, goes_on_after, longer_of, longest}
 
 -- a name without the ";" at its end
 abbrev pub stem : List ℕ → List ℕ
@@ -33,8 +33,8 @@ abbrev pub is_front : List ReferenceRow → List ℕ → Bool
 is_front rows text = list_any (λ row. starts_with nat_eq row.name text) rows
 
 -- what is wrong with a row that stands after earlier ones, by its number, counted from 1
-abbrev pub fault_behind : List ReferenceRow → ReferenceRow → Option TableFault
-fault_behind earlier row =
+abbrev pub fault_after : List ReferenceRow → ReferenceRow → Option TableFault
+fault_after earlier row =
     if not (is_reference_name row.name) then Some (BadName (length earlier + 1))
     else if not (has_values row) then Some (BadValue (length earlier + 1))
     else if is_named earlier row.name then Some (Duplicate (length earlier + 1)) else None
@@ -42,7 +42,7 @@ fault_behind earlier row =
 -- the fault of the first faulty row of those that stand after earlier ones
 abbrev pub first_fault : List ReferenceRow → List ReferenceRow → Option TableFault
 first_fault earlier [] = None
-first_fault earlier (row ∷ rows) = option_or (fault_behind earlier row) (first_fault (earlier ++ row ∷ []) rows)
+first_fault earlier (row ∷ rows) = option_or (fault_after earlier row) (first_fault (earlier ++ row ∷ []) rows)
 
 -- the fault of the first faulty row of a table
 abbrev pub fault_of : List ReferenceRow → Option TableFault
@@ -71,7 +71,7 @@ pub record IsFirstFault (rows : List ReferenceRow) (fault : TableFault) : Type 0
   pub later : List ReferenceRow
   pub split : rows ≡ earlier ++ row ∷ later
   pub checked : IsCheckedTable earlier
-  pub faulty : fault_behind earlier row ≡ Some fault
+  pub faulty : fault_after earlier row ≡ Some fault
 
 -- the text begins with the name of this row of the table, and with no longer one
 pub record IsLongestMatch (rows : List ReferenceRow) (text : List ℕ) (row : ReferenceRow) : Type 0 where

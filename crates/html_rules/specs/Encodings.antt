@@ -11,8 +11,8 @@ abbrev pub is_space : ℕ → Bool
 is_space c = nat_eq c 9 || nat_eq c 10 || nat_eq c 12 || nat_eq c 13 || nat_eq c 32
 
 -- a text after the white space at its front
-abbrev pub behind_space : List ℕ → List ℕ
-behind_space t = drop (run (λ c. not (is_space c)) t) t
+abbrev pub after_space : List ℕ → List ℕ
+after_space t = drop (run (λ c. not (is_space c)) t) t
 
 -- what stands before a quote; nothing where there is none
 abbrev pub up_to_quote : ℕ → List ℕ → Option (List ℕ)
@@ -28,13 +28,13 @@ encoding_at (c ∷ t) =
     (λ _. Some (take (run (λ d. is_space d || nat_eq d 59) (c ∷ t)) (c ∷ t)))
 
 -- what stands after "=", if that is next
-abbrev pub behind_equals : List ℕ → Option (List ℕ)
-behind_equals [] = None
-behind_equals (c ∷ t) = choose (nat_eq c 61) (λ _. Some (behind_space t)) (λ _. None)
+abbrev pub after_equals : List ℕ → Option (List ℕ)
+after_equals [] = None
+after_equals (c ∷ t) = choose (nat_eq c 61) (λ _. Some (after_space t)) (λ _. None)
 
 -- what stands after "charset" and "=", if a text begins so
-abbrev pub behind_charset : List ℕ → Option (List ℕ)
-behind_charset t = choose (begins_any_case (codes "charset") t) (λ _. behind_equals (behind_space (drop 7 t))) (λ _. None)
+abbrev pub after_charset : List ℕ → Option (List ℕ)
+after_charset t = choose (begins_any_case (codes "charset") t) (λ _. after_equals (after_space (drop 7 t))) (λ _. None)
 
 abbrev pub encoding_by : Option (List ℕ) → (Unit {0} → Option (List ℕ)) → Option (List ℕ)
 encoding_by (Some value) go = encoding_at value
@@ -43,7 +43,7 @@ encoding_by None go = go tt
 -- the encoding that a text names: by the first "charset" in any case that "=" follows
 unfoldable pub encoding_of : List ℕ → Option (List ℕ)
 encoding_of [] = None
-encoding_of (c ∷ t) = encoding_by (behind_charset (c ∷ t)) (λ _. encoding_of t)
+encoding_of (c ∷ t) = encoding_by (after_charset (c ∷ t)) (λ _. encoding_of t)
 
 abbrev pub encoding_of_content : Option (List ℕ) → Option (List ℕ)
 encoding_of_content None = None

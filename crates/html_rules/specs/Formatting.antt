@@ -81,14 +81,14 @@ create_formatting_element_for tag s = list_current tag (insert_element_for tag (
 unfoldable pub push_marker : State → State
 push_marker s = record s { active_formatting = Marker ∷ s.active_formatting }
 
-abbrev pub behind_marker : List Entry → List Entry
-behind_marker [] = []
-behind_marker (Marker ∷ entries) = entries
-behind_marker (Element n tag ∷ entries) = behind_marker entries
+abbrev pub after_marker : List Entry → List Entry
+after_marker [] = []
+after_marker (Marker ∷ entries) = entries
+after_marker (Element n tag ∷ entries) = after_marker entries
 
 -- "clear the list of active formatting elements up to the last marker"
 unfoldable pub clear_active_formatting_to_marker : State → State
-clear_active_formatting_to_marker s = record s { active_formatting = behind_marker s.active_formatting }
+clear_active_formatting_to_marker s = record s { active_formatting = after_marker s.active_formatting }
 
 -- with these entries at the end of the list: each after the last one that is a marker or open is inserted again, in order
 abbrev pub reopen : List Entry → State → State

@@ -22,19 +22,19 @@ abbrev pub untouched : State → Settled
 untouched s = record { state = s; reply = reply.Continue; turns = 0; is_settled = true }
 
 -- what came of a token, with the turns that were taken before it
-abbrev pub behind : Settled → Settled → Settled
-behind before settled = record settled { turns = before.turns + settled.turns; is_settled = before.is_settled && settled.is_settled }
+abbrev pub followed_by : Settled → Settled → Settled
+followed_by before settled = record settled { turns = before.turns + settled.turns; is_settled = before.is_settled && settled.is_settled }
 
 -- a text, where this came of what stands before it: each character is a token
 abbrev pub text_taken : List ℕ → Settled → Settled
 text_taken [] before = before
-text_taken (c ∷ cs) before = let settled = settle (CharacterTokens (c ∷ [])) before.state in text_taken cs (behind before settled)
+text_taken (c ∷ cs) before = let settled = settle (CharacterTokens (c ∷ [])) before.state in text_taken cs (followed_by before settled)
 
 -- a text after the line feed at its front, if that is to be dropped
-abbrev pub behind_line_feed : Bool → List ℕ → List ℕ
-behind_line_feed false text = text
-behind_line_feed true [] = []
-behind_line_feed true (c ∷ cs) = choose (nat_eq c 10) (λ _. cs) (λ _. c ∷ cs)
+abbrev pub after_line_feed : Bool → List ℕ → List ℕ
+after_line_feed false text = text
+after_line_feed true [] = []
+after_line_feed true (c ∷ cs) = choose (nat_eq c 10) (λ _. cs) (λ _. c ∷ cs)
 
 abbrev pub if_kept : Bool → Doctype → State → State
 if_kept drop_doctype d s = choose drop_doctype (λ _. s) (λ _. append_doctype_to_document d s)
@@ -52,7 +52,7 @@ doctype_taken mode d s = parse_error s
 
 -- what a token makes of a state in which nothing stands against it
 abbrev pub taken_by : Bool → Token → State → Settled
-taken_by ignore_lf (CharacterTokens text) s = text_taken (behind_line_feed ignore_lf text) (untouched s)
+taken_by ignore_lf (CharacterTokens text) s = text_taken (after_line_feed ignore_lf text) (untouched s)
 taken_by ignore_lf (DoctypeToken d) s = untouched (doctype_taken s.mode d s)
 taken_by ignore_lf t s = settle t s
 

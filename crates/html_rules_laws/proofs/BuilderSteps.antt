@@ -13,7 +13,7 @@ use Rattle.html_rules.specs.Actions.{set_ignore_lf}
 use Rattle.html_rules.specs.Choice.{choose}
 use Rattle.html_rules.specs.Stack.{parse_error}
 use Rattle.html_rules.specs.State.{State, hushed}
-use Rattle.html_rules.specs.Step.{answered, behind_line_feed, is_barred, is_idle, is_quiet, step, taken, text_taken, untouched}
+use Rattle.html_rules.specs.Step.{answered, after_line_feed, is_barred, is_idle, is_quiet, step, taken, text_taken, untouched}
 use Rattle.html_rules.specs.declared.insertion_mode.InsertionMode.{InsertionMode}
 use Rattle.html_rules.specs.declared.insertion_mode.InsertionMode.TheVariants.{Text}
 use Rattle.html_rules_laws.proofs.ErrorsMonotone.Rises.{rises, taken-hushed}
@@ -98,7 +98,7 @@ busy-own t s = subst (λ made. CountsOwn (nat_eq (taken t (hushed s)).state.fore
 no_text-quiet : (s : State) → is_quiet (hushed s) (CharacterTokens []) ≡ true
 unfolding is_quiet taken set_ignore_lf
 no_text-quiet s = by s.ignore_lf where
-  by : (b : Bool) → nat_eq (text_taken (behind_line_feed b []) (untouched (set_ignore_lf false (hushed s)))).state.forest.errors 0 ≡ true
+  by : (b : Bool) → nat_eq (text_taken (after_line_feed b []) (untouched (set_ignore_lf false (hushed s)))).state.forest.errors 0 ≡ true
   by true = refl
   by false = refl
 

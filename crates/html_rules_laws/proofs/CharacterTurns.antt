@@ -16,7 +16,7 @@ use Rattle.html_rules.specs.Sets.{is_among, mathml_names_of, names_in, names_of,
 use Rattle.html_rules.specs.Shape.{fits_in, fits_mode, has_root, has_template_modes, is_at_root, one_if}
 use Rattle.html_rules.specs.Stack.{open_templates, parse_error, pop_but_root, without_current_but_root}
 use Rattle.html_rules.specs.State.{Open, State, current_is, is_in}
-use Rattle.html_rules.specs.Step.{behind, text_taken}
+use Rattle.html_rules.specs.Step.{followed_by, text_taken}
 use Rattle.html_rules.specs.Table.{Row, row, Class, WhiteSpace, Character, AnythingElse, Nothing, Done, Condition, Always}
 use Rattle.html_rules.specs.Tokens.{class_fits}
 use Rattle.html_rules.specs.declared.insertion_mode.InsertionMode.{InsertionMode}
@@ -334,4 +334,4 @@ settle-keeps c s h = within-keeps 16 (four_for_each s.open_elems (character c)) 
 -- text leaves a ready state ready
 pub text-keeps : (text : List ℕ) (before : Settled) → Ready before.state → Ready (text_taken text before).state
 text-keeps [] before h = h
-text-keeps (c ∷ cs) before h = text-keeps cs (behind before (settle (character c) before.state)) (settle-keeps c before.state h)
+text-keeps (c ∷ cs) before h = text-keeps cs (followed_by before (settle (character c) before.state)) (settle-keeps c before.state h)

@@ -16,7 +16,7 @@ use Rattle.html_rules.specs.ForeignContent.{is_foreign}
 use Rattle.html_rules.specs.Modes.Foreign.{in_foreign_content}
 use Rattle.html_rules.specs.Rules.{Ending, Finished, Again, Replied, Settled, Turn, concluded, encoding_reply, first_fit, fits, four_for_each, most_modes, rows, settle, settled_by, turn, turn_by_row, using_rules_for, within}
 use Rattle.html_rules.specs.State.{Open, State, current_number}
-use Rattle.html_rules.specs.Step.{behind, behind_line_feed, taken, taken_by, text_taken, untouched}
+use Rattle.html_rules.specs.Step.{followed_by, after_line_feed, taken, taken_by, text_taken, untouched}
 use Rattle.html_rules.specs.Table.{Row, Class, StartTags, EndTags, AnyStartTag, AnyEndTag, Conclusion, Done, Acknowledged, Reprocess, ReprocessInOriginal, ReprocessInMode, Using, UsingThen, UsingCurrentMode, RawText, PlainText, RunScript, ReportEncoding}
 use Rattle.html_rules.specs.Tokens.{attributes_of, class_fits}
 use Rattle.html_rules.specs.declared.insertion_mode.InsertionMode.{InsertionMode}
@@ -126,10 +126,10 @@ settle-well t s = within-well 16 (four_for_each s.open_elems t) t (four-well s.o
 
 pub text-continues : (text : List ℕ) (before : Settled) → before.reply ≡ reply.Continue → (text_taken text before).reply ≡ reply.Continue
 text-continues [] before h = h
-text-continues (c ∷ cs) before h = text-continues cs (behind before (settle (CharacterTokens (c ∷ [])) before.state)) (settle-well (CharacterTokens (c ∷ [])) before.state)
+text-continues (c ∷ cs) before h = text-continues cs (followed_by before (settle (CharacterTokens (c ∷ [])) before.state)) (settle-well (CharacterTokens (c ∷ [])) before.state)
 
 taken_by-well : (b : Bool) (t : Token) (s : State) → IsReplyTo t (taken_by b t s).reply
-taken_by-well b (CharacterTokens text) s = text-continues (behind_line_feed b text) (untouched s) refl
+taken_by-well b (CharacterTokens text) s = text-continues (after_line_feed b text) (untouched s) refl
 taken_by-well b (DoctypeToken d) s = refl
 taken_by-well b (TagToken tag) s = settle-well (TagToken tag) s
 taken_by-well b (CommentToken text) s = settle-well (CommentToken text) s

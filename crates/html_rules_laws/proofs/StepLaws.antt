@@ -11,7 +11,7 @@ use Rattle.html_rules.specs.Choice.{choose}
 use Rattle.html_rules.specs.Rules.{Settled, settle}
 use Rattle.html_rules.specs.Shape.{fits_mode, has_template_modes, is_fit}
 use Rattle.html_rules.specs.State.{State, hushed}
-use Rattle.html_rules.specs.Step.{answered, behind, behind_line_feed, ended, is_barred, is_idle, is_quiet, refusal_of, step, step_by, taken, text_taken, untouched}
+use Rattle.html_rules.specs.Step.{answered, followed_by, after_line_feed, ended, is_barred, is_idle, is_quiet, refusal_of, step, step_by, taken, text_taken, untouched}
 use Rattle.html_rules.specs.declared.insertion_mode.InsertionMode.{InsertionMode}
 use Rattle.html_rules.specs.declared.insertion_mode.InsertionMode.TheVariants.{Text}
 use Rattle.html_rules_laws.specs.Lawful.{AreTokensTakenLawfully, TextSound}
@@ -24,21 +24,21 @@ use Rattle.html_rules_laws.proofs.ErrorsMonotone.Rises.{rises-none, taken-hushed
 
 text_taken-append : (a b : List ℕ) (before : Settled) → text_taken (a ++ b) before ≡ text_taken b (text_taken a before)
 text_taken-append [] b before = refl
-text_taken-append (c ∷ cs) b before = text_taken-append cs b (behind before (settle (CharacterTokens (c ∷ [])) before.state))
+text_taken-append (c ∷ cs) b before = text_taken-append cs b (followed_by before (settle (CharacterTokens (c ∷ [])) before.state))
 
 choose-append : (d : Bool) (c : ℕ) (cs b : List ℕ) → choose d (λ _. cs ++ b) (λ _. c ∷ cs ++ b) ≡ choose d (λ _. cs) (λ _. c ∷ cs) ++ b
 choose-append true c cs b = refl
 choose-append false c cs b = refl
 
-behind_line_feed-append : (lf : Bool) (c : ℕ) (cs b : List ℕ) → behind_line_feed lf ((c ∷ cs) ++ b) ≡ behind_line_feed lf (c ∷ cs) ++ b
-behind_line_feed-append false c cs b = refl
-behind_line_feed-append true c cs b = choose-append (nat_eq c 10) c cs b
+after_line_feed-append : (lf : Bool) (c : ℕ) (cs b : List ℕ) → after_line_feed lf ((c ∷ cs) ++ b) ≡ after_line_feed lf (c ∷ cs) ++ b
+after_line_feed-append false c cs b = refl
+after_line_feed-append true c cs b = choose-append (nat_eq c 10) c cs b
 
 -- the state goes by the state before alone
 text-state : (text : List ℕ) (x y : Settled) → x.state ≡ y.state → (text_taken text x).state ≡ (text_taken text y).state
 text-state [] x y e = e
 text-state (c ∷ cs) x y e =
-    text-state cs (behind x (settle (CharacterTokens (c ∷ [])) x.state)) (behind y (settle (CharacterTokens (c ∷ [])) y.state)) (ap (λ s. (settle (CharacterTokens (c ∷ [])) s).state) e)
+    text-state cs (followed_by x (settle (CharacterTokens (c ∷ [])) x.state)) (followed_by y (settle (CharacterTokens (c ∷ [])) y.state)) (ap (λ s. (settle (CharacterTokens (c ∷ [])) s).state) e)
 
 ignore-same : (x : State) → x.ignore_lf ≡ false → set_ignore_lf false x ≡ x
 unfolding set_ignore_lf
@@ -48,12 +48,12 @@ ignore-same x e = ap (λ b. record x { ignore_lf = b }) (sym e)
 left : List ℕ → State → Settled
 left text s = taken (CharacterTokens text) s
 
-left-is : (text : List ℕ) (s : State) → left text s ≡ text_taken (behind_line_feed s.ignore_lf text) (untouched (set_ignore_lf false s))
+left-is : (text : List ℕ) (s : State) → left text s ≡ text_taken (after_line_feed s.ignore_lf text) (untouched (set_ignore_lf false s))
 unfolding left taken
 left-is text s = refl
 
 left-Ready : (text : List ℕ) (s : State) → Ready (set_ignore_lf false s) → Ready (left text s).state
-left-Ready text s h = rw (left-is text s) (text-keeps (behind_line_feed s.ignore_lf text) (untouched (set_ignore_lf false s)) h)
+left-Ready text s h = rw (left-is text s) (text-keeps (after_line_feed s.ignore_lf text) (untouched (set_ignore_lf false s)) h)
 
 left-joined : (c : ℕ) (cs b : List ℕ) (s : State) → Ready (set_ignore_lf false s) → (left ((c ∷ cs) ++ b) s).state ≡ (left b (left (c ∷ cs) s).state).state
 left-joined c cs b s h =
@@ -61,11 +61,11 @@ left-joined c cs b s h =
     let ready = left-Ready (c ∷ cs) s h in
     let x : State = (left (c ∷ cs) s).state in
     let second : left b x ≡ text_taken b (untouched x) =
-    left-is b x ∙ ap (λ lf. text_taken (behind_line_feed lf b) (untouched (set_ignore_lf false x))) ready.kept_lf ∙ ap (λ y. text_taken b (untouched y)) (ignore-same x ready.kept_lf) in
+    left-is b x ∙ ap (λ lf. text_taken (after_line_feed lf b) (untouched (set_ignore_lf false x))) ready.kept_lf ∙ ap (λ y. text_taken b (untouched y)) (ignore-same x ready.kept_lf) in
     ap (λ made. made.state)
     (left-is ((c ∷ cs) ++ b) s
-    ∙ ap (λ text. text_taken text (untouched (set_ignore_lf false s))) (behind_line_feed-append s.ignore_lf c cs b)
-    ∙ text_taken-append (behind_line_feed s.ignore_lf (c ∷ cs)) b (untouched (set_ignore_lf false s))
+    ∙ ap (λ text. text_taken text (untouched (set_ignore_lf false s))) (after_line_feed-append s.ignore_lf c cs b)
+    ∙ text_taken-append (after_line_feed s.ignore_lf (c ∷ cs)) b (untouched (set_ignore_lf false s))
     ∙ ap (text_taken b) (sym first))
     ∙ text-state b (left (c ∷ cs) s) (untouched x) refl
     ∙ ap (λ made. made.state) (sym second)
@@ -212,7 +212,7 @@ quiet-is text s = refl
 no_text-left : (s : State) → (left [] s).state.forest.errors ≡ s.forest.errors
 unfolding set_ignore_lf
 no_text-left s = ap (λ made. made.state.forest.errors) (left-is [] s) ∙ by s.ignore_lf where
-  by : (b : Bool) → (text_taken (behind_line_feed b []) (untouched (set_ignore_lf false s))).state.forest.errors ≡ s.forest.errors
+  by : (b : Bool) → (text_taken (after_line_feed b []) (untouched (set_ignore_lf false s))).state.forest.errors ≡ s.forest.errors
   by true = refl
   by false = refl
 

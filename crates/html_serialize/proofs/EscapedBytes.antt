@@ -10,7 +10,7 @@ use Rattle.std.proofs.Math.Seq.{drop-cons}
 use Rattle.markup.specs.Escape.{Mode, escape_in, escaped_in}
 use Rattle.markup.specs.Escape.Mode.{InText, InValue}
 use lib.Utf8.{encode, next}
-use Rattle.html_serialize.specs.Bytes.{IsNext, escape_bytes, in_value, is_replaced, place_behind, reference_of, written_through}
+use Rattle.html_serialize.specs.Bytes.{IsNext, escape_bytes, in_value, is_replaced, place_after, reference_of, written_through}
 
 drop_drop : (xs : List ℕ) (n m : ℕ) → drop m (drop n xs) ≡ drop (n + m) xs
 drop_drop xs n m = search (rules, common_steps)
@@ -42,7 +42,7 @@ lt-false a b more = grind (arith, nat_tests)
 
 -- a character that is escaped, with its second byte if it has one
 pub escape_bytes-reference : (mode : Mode) (bs : List ℕ) (at : ℕ) → at < length bs → is_replaced mode (slice_index bs at) (slice_index bs (suc at)) ≡ true
-    → escape_bytes mode false (drop at bs) ≡ reference_of (slice_index bs at) ++ escape_bytes mode false (drop (place_behind bs at) bs)
+    → escape_bytes mode false (drop at bs) ≡ reference_of (slice_index bs at) ++ escape_bytes mode false (drop (place_after bs at) bs)
 escape_bytes-reference mode bs at below passes =
     rw (drop-cons bs at 0 below)
     (let next : slice_index (drop (suc at) bs) 0 ≡ slice_index bs (suc at) = get_or-drop (suc at) bs 0 0 ∙ (let e : suc at + 0 ≡ suc at = omega arith in ap (slice_index bs) e) in
@@ -62,14 +62,14 @@ escape_bytes-reference mode bs at below passes =
 
 -- what is written from a place through the next escaped character, and the rest
 pub escape_bytes-through : (mode : Mode) (bs : List ℕ) (start at : ℕ) → start ≤ at → IsNext (is_replaced mode) bs start at
-    → escape_bytes mode false (drop start bs) ≡ written_through bs start at ++ escape_bytes mode false (drop (place_behind bs at) bs)
+    → escape_bytes mode false (drop start bs) ≡ written_through bs start at ++ escape_bytes mode false (drop (place_after bs at) bs)
 escape_bytes-through mode bs start at low is =
     escape_bytes-run mode bs start at low is
     ∙ ap (λ (xs : List ℕ). take (at - start) (drop start bs) ++ xs) (elim (cases_Bool (nat_lt at (length bs))) [
       | inl below ↦ let less : at < length bs = grind (arith, nat_tests) in escape_bytes-reference mode bs at less (is.passes less) ∙ rw below refl
       | inr end ↦ rw end refl
     ])
-    ∙ sym (append_assoc (take (at - start) (drop start bs)) (cond (nat_lt at (length bs)) (reference_of (slice_index bs at)) []) (escape_bytes mode false (drop (place_behind bs at) bs)))
+    ∙ sym (append_assoc (take (at - start) (drop start bs)) (cond (nat_lt at (length bs)) (reference_of (slice_index bs at)) []) (escape_bytes mode false (drop (place_after bs at) bs)))
 
 and_false : (b : Bool) → (b && false) ≡ false
 and_false true = refl
@@ -198,8 +198,8 @@ escape_bytes-encodes mode (c ∷ cs) =
     ∙ sym (encodes-append (escaped_in mode c) (escape_in mode cs))
 
 -- what is found at the end of a search lies within the bytes, with its second byte if it has one
-pub place_behind-within : (mode : Mode) (bs : List ℕ) (start at : ℕ) → IsNext (is_replaced mode) bs start at → place_behind bs at ≤ length bs
-place_behind-within mode bs start at is =
+pub place_after-within : (mode : Mode) (bs : List ℕ) (start at : ℕ) → IsNext (is_replaced mode) bs start at → place_after bs at ≤ length bs
+place_after-within mode bs start at is =
     elim (cases_lt at (length bs)) [
       | inl below ↦ rw (lt-true at (length bs) below) (by_lead (is.passes below) below (cases_eq (slice_index bs at) 0xC2))
       | inr end ↦ rw (lt-false at (length bs) end) is.within
@@ -222,8 +222,8 @@ place_behind-within mode bs start at is =
     by_lead passes below (inr other) = rw (ne_eqb (slice_index bs at) 0xC2 other) (omega arith)
 
 -- it lies after where the search began, if that is not the end
-pub place_behind-later : (bs : List ℕ) (start at : ℕ) → start ≤ at → start ≤ place_behind bs at
-place_behind-later bs start at low =
+pub place_after-later : (bs : List ℕ) (start at : ℕ) → start ≤ at → start ≤ place_after bs at
+place_after-later bs start at low =
     elim (cases_lt at (length bs)) [
       | inl below ↦ rw (lt-true at (length bs) below) (by_lead (nat_eq (slice_index bs at) 0xC2))
       | inr end ↦ rw (lt-false at (length bs) end) low

@@ -49,22 +49,22 @@ length_by letter = cond (nat_eq letter 97) 5 (cond (nat_eq letter 108) 4 (cond (
 first_char : List ℕ → ℕ
 first_char text = cond (nat_eq (get_or text 0 0) 0x26) (char_by (get_or text 1 0)) (get_or text 0 0)
 
-behind_first : List ℕ → List ℕ
-behind_first text = cond (nat_eq (get_or text 0 0) 0x26) (drop (length_by (get_or text 1 0)) text) (drop 1 text)
+after_first : List ℕ → List ℕ
+after_first text = cond (nat_eq (get_or text 0 0) 0x26) (drop (length_by (get_or text 1 0)) text) (drop 1 text)
 
 record IsCut (mode : Mode) (c : ℕ) (rest : List ℕ) : Type 0 where
   char : first_char (escaped_in mode c ++ rest) ≡ c
-  behind : behind_first (escaped_in mode c ++ rest) ≡ rest
+  behind : after_first (escaped_in mode c ++ rest) ≡ rest
 
 plain_cut : (mode : Mode) (rest : List ℕ) (c : ℕ) → IsUnescaped c → IsCut mode c rest
-unfolding first_char behind_first char_by length_by
+unfolding first_char after_first char_by length_by
 plain_cut mode rest c is = record {
   char = rw (escaped-plain mode c is) (rw (ne_eqb c 0x26 is.amp) refl);
   behind = rw (escaped-plain mode c is) (rw (ne_eqb c 0x26 is.amp) refl);
 }
 
 cut : (mode : Mode) (rest : List ℕ) (c : ℕ) → IsCut mode c rest
-unfolding first_char behind_first char_by length_by
+unfolding first_char after_first char_by length_by
 cut InText rest c =
     by_kind (λ c. IsCut InText c rest) (record { char = refl; behind = refl }) (record { char = refl; behind = refl }) (record { char = refl; behind = refl }) (record { char = refl; behind = refl }) (record { char = refl; behind = refl }) (plain_cut InText rest) c
 cut InValue rest c =
@@ -81,4 +81,4 @@ escape_in-apart mode (c ∷ cs) [] e = absurd (some mode (escape_in mode cs) c e
 escape_in-apart mode (c ∷ cs) (d ∷ ds) e =
     let one = cut mode (escape_in mode cs) c in
     let other = cut mode (escape_in mode ds) d in
-    ap₂ (λ (x : ℕ) (xs : List ℕ). x ∷ xs) (sym one.char ∙ ap first_char e ∙ other.char) (escape_in-apart mode cs ds (sym one.behind ∙ ap behind_first e ∙ other.behind))
+    ap₂ (λ (x : ℕ) (xs : List ℕ). x ∷ xs) (sym one.char ∙ ap first_char e ∙ other.char) (escape_in-apart mode cs ds (sym one.behind ∙ ap after_first e ∙ other.behind))

@@ -11,7 +11,7 @@ use Rattle.markup.specs.declared.serializer.SerializeFault.{SerializeFault}
 use Rattle.markup.specs.declared.serializer.SerializeFault.TheVariants.{Write, NoParent, NoElemInfo, Memory, Failed}
 use Rattle.markup.specs.declared.serializer.TraversalScope.{TraversalScope}
 use Rattle.html_serialize.specs.Puts.{WriterView, with_bytes}
-use Rattle.html_serialize.specs.Serializing.{Began, Serializes, Serializing, Writes, bytes_in, bytes_of, behind_stack, entry_for, map_ok, refuses, stack_behind, started, step}
+use Rattle.html_serialize.specs.Serializing.{Began, Serializes, Serializing, Writes, bytes_in, bytes_of, with_stack_after, entry_for, map_ok, refuses, stack_after, started, step}
 use Rattle.html_serialize.proofs.Putting.{Broke-behind, Broke-longer, with_bytes-append, with_bytes-none}
 
 abbrev with_text : WriterView → List ℕ → WriterView
@@ -57,13 +57,13 @@ run-trees (Element name attributes template kids next) sc cr top stack told rest
     ∙ with_text-append told (start_under top name attributes) (written sc own kids ++ (end_of own name ++ written sc top next)))
 
 -- the bytes that calls write, up to the first that is refused
-bytes_behind : (Serializing → List ℕ) → Result Serializing SerializeFault → List ℕ
-bytes_behind more (Ok next) = more next
-bytes_behind more (Err fault) = []
+bytes_after : (Serializing → List ℕ) → Result Serializing SerializeFault → List ℕ
+bytes_after more (Ok next) = more next
+bytes_after more (Err fault) = []
 
 bytes_run : Serializing → List Call → List ℕ
 bytes_run s [] = []
-bytes_run s (call ∷ calls) = bytes_of s call ++ bytes_behind (λ next. bytes_run next calls) (step s call)
+bytes_run s (call ∷ calls) = bytes_of s call ++ bytes_after (λ next. bytes_run next calls) (step s call)
 
 -- what is told after calls that were all made, and the bytes of those before others
 record Ran (s : Serializing) (made left : List Call) (reached : Serializing) : Type 0 where
@@ -73,16 +73,16 @@ record Ran (s : Serializing) (made left : List Call) (reached : Serializing) : T
 
 step-told : (s : Serializing) (call : Call) (next : Serializing) → step s call ≡ Ok next → next.told ≡ with_bytes s.told (bytes_of s call)
 unfolding step
-step-told s call next is = by_failed s.failed (stack_behind s call) is
+step-told s call next is = by_failed s.failed (stack_after s call) is
   where
-    by_failed : (b : Bool) (behind : Result (List Entry) SerializeFault) → cond b (Err Failed) (map_ok (behind_stack s call) behind) ≡ Ok next → next.told ≡ with_bytes s.told (bytes_of s call)
+    by_failed : (b : Bool) (behind : Result (List Entry) SerializeFault) → cond b (Err Failed) (map_ok (with_stack_after s call) behind) ≡ Ok next → next.told ≡ with_bytes s.told (bytes_of s call)
     by_failed true behind is = absurd cc
-    by_failed false (Ok stack) is = let same : behind_stack s call stack ≡ next = cc in ap (λ (x : Serializing). x.told) (sym same)
+    by_failed false (Ok stack) is = let same : with_stack_after s call stack ≡ next = cc in ap (λ (x : Serializing). x.told) (sym same)
     by_failed false (Err fault) is = absurd cc
 
 ran-step : (s : Serializing) (call : Call) (made left : List Call) (reached : Serializing) (r : Result Serializing SerializeFault) → step s call ≡ r
     → and_then r (λ next. run step next made) ≡ Ok reached → ((next : Serializing) → run step next made ≡ Ok reached → Ran next made left reached) → Ran s (call ∷ made) left reached
-unfolding bytes_run bytes_behind
+unfolding bytes_run bytes_after
 ran-step s call made left reached (Err fault) first is rest = absurd cc
 ran-step s call made left reached (Ok next) first is rest =
     let behind = rest next is in
@@ -95,7 +95,7 @@ ran-step s call made left reached (Ok next) first is rest =
     }
 
 ran : (made left : List Call) (s reached : Serializing) → run step s made ≡ Ok reached → Ran s made left reached
-unfolding bytes_run bytes_behind
+unfolding bytes_run bytes_after
 ran [] left s reached is =
     let same : s ≡ reached = cc in
     record { told = ap (λ (x : Serializing). x.told) (sym same) ∙ with_bytes-none s.told; bytes = ap (λ (x : Serializing). bytes_run x left) same; goes = ap (λ (x : Serializing). run step x left) same }
@@ -122,7 +122,7 @@ encodes-four a b c d =
 bytes-trees : (trees : Trees) (scripting creates : Bool) (top : Entry) (stack : List Entry) (told : WriterView) (rest : List Call)
     → bytes_run (at scripting creates (top ∷ stack) told) (calls_before trees rest)
     ≡ encode_utf8_all (written scripting top trees) ++ bytes_run (at scripting creates (top ∷ stack) (with_text told (written scripting top trees))) rest
-unfolding step written bytes_run bytes_behind
+unfolding step written bytes_run bytes_after
 bytes-trees Nothing sc cr top stack told rest = ap (λ (t : WriterView). bytes_run (at sc cr (top ∷ stack) t) rest) (with_bytes-none told)
 bytes-trees (Text text next) sc cr top stack told rest = one sc cr top stack told rest (text_under top text) next _ (bytes-trees next sc cr top stack (with_text told (text_under top text)) rest)
 bytes-trees (Comment text next) sc cr top stack told rest = one sc cr top stack told rest (written_comment text) next _ (bytes-trees next sc cr top stack (with_text told (written_comment text)) rest)
@@ -164,7 +164,7 @@ refused_writes : (R : Type 0) (bytes : List ℕ) (s reached left end : Serializi
     → run step reached (call ∷ calls) ≡ Ok end → bytes ≡ bytes_run s made ++ bytes_run reached (call ∷ calls) → refuses reached call fault left → Writes bytes s.told (err {R = R} fault) left.told
 unfolding refuses bytes_run
 refused_writes R bytes s reached left end made call calls Write behind all whole failed =
-    let more = bytes_behind (λ next. bytes_run next calls) (step reached call) in
+    let more = bytes_after (λ next. bytes_run next calls) (step reached call) in
     rw whole (Broke-behind s.told reached.told left.told (bytes_run s made) (bytes_of reached call ++ more) behind.told (Broke-longer reached.told left.told (bytes_of reached call) more failed.broke))
 refused_writes R bytes s reached left end made call calls Memory behind all whole failed = began s.told reached.told left.told (bytes_run s made) (bytes_run reached (call ∷ calls)) bytes behind.told failed.same whole
 refused_writes R bytes s reached left end made call calls NoParent behind all whole failed = not_refused reached end call calls NoParent all failed.refused

@@ -6,7 +6,7 @@ use Rattle.markup.specs.Trees.{Entry}
 use Rattle.markup.specs.declared.serializer.SerializeFault.{SerializeFault}
 use Rattle.markup.specs.declared.serializer.SerializeFault.TheVariants.{Write, NoParent, NoElemInfo, Memory, Failed}
 use Rattle.html_serialize.specs.Puts.{Broke, Puts, WriterView}
-use Rattle.html_serialize.specs.Serializing.{Does, Serializing, behind_stack, bytes_of, is_fatal, may_grow, refuses, stack_behind, step}
+use Rattle.html_serialize.specs.Serializing.{Does, Serializing, with_stack_after, bytes_of, is_fatal, may_grow, refuses, stack_after, step}
 
 IsOk-from : {A : Type 0} (behind : Result A SerializeFault) (x : A) → behind ≡ Ok x → IsOk behind
 IsOk-from behind x is = rw is refl
@@ -30,7 +30,7 @@ pub answered-failed : (s : Serializing) (call : Call) → s.failed ≡ true → 
 unfolding refuses step
 answered-failed s call failed = record { refused = rw failed refl; same = refl }
 
-pub step-ok : (s : Serializing) (call : Call) (stack : List Entry) → s.failed ≡ false → stack_behind s call ≡ Ok stack → step s call ≡ Ok (behind_stack s call stack)
+pub step-ok : (s : Serializing) (call : Call) (stack : List Entry) → s.failed ≡ false → stack_after s call ≡ Ok stack → step s call ≡ Ok (with_stack_after s call stack)
 unfolding step
 step-ok s call stack well is = rw (well, is) refl
 
@@ -43,16 +43,16 @@ unchanged s stack' told' failed' well fatal same_stack same_told =
 -- a call's answer, by what it left of the stack and of what the writer tells
 pub answered : {R : Type 0} (s : Serializing) (call : Call) (stack' : List Entry) (told' : WriterView) (failed' : Bool) (result : Result R SerializeFault)
     → s.failed ≡ false → failed' ≡ is_fatal result → (result ≡ Err Memory → may_grow call ≡ true)
-    → Does (stack_behind s call) (bytes_of s call) s.stack s.told result stack' told'
+    → Does (stack_after s call) (bytes_of s call) s.stack s.told result stack' told'
     → Answers step refuses s call result (record s { stack = stack'; told = told'; failed = failed' })
 unfolding refuses step
 answered s call stack' told' failed' (Ok answer) well fatal grows does = rw (fatal, does.1, well, does.0) refl
 answered s call stack' told' failed' (Err Write) well fatal grows does =
-    let behind = given (stack_behind s call) does.0 in
-    record { behind = behind_stack s call behind.0; taken = step-ok s call behind.0 well behind.1; broke = does.1; failed = fatal }
+    let behind = given (stack_after s call) does.0 in
+    record { behind = with_stack_after s call behind.0; taken = step-ok s call behind.0 well behind.1; broke = does.1; failed = fatal }
 answered s call stack' told' failed' (Err Memory) well fatal grows does =
-    let behind = given (stack_behind s call) does.0 in
-    record { grows = grows refl; behind = behind_stack s call behind.0; taken = step-ok s call behind.0 well behind.1; same = does.1; failed = fatal }
+    let behind = given (stack_after s call) does.0 in
+    record { grows = grows refl; behind = with_stack_after s call behind.0; taken = step-ok s call behind.0 well behind.1; same = does.1; failed = fatal }
 answered s call stack' told' failed' (Err NoParent) well fatal grows does = record {
   refused = rw (well, does.0) refl;
   same = unchanged s stack' told' failed' well fatal does.1 does.2;
@@ -69,18 +69,18 @@ answered s call stack' told' failed' (Err Failed) well fatal grows does = record
 -- the same of a call that takes no memory
 pub answered-none : {R : Type 0} (s : Serializing) (call : Call) (stack' : List Entry) (told' : WriterView) (failed' : Bool) (result : Result R SerializeFault)
     → s.failed ≡ false → failed' ≡ is_fatal result → IfErr result (λ fault. fault ≢ Memory)
-    → Does (stack_behind s call) (bytes_of s call) s.stack s.told result stack' told'
+    → Does (stack_after s call) (bytes_of s call) s.stack s.told result stack' told'
     → Answers step refuses s call result (record s { stack = stack'; told = told'; failed = failed' })
 answered-none s call stack' told' failed' result well fatal none does =
     answered s call stack' told' failed' result well fatal (λ is. absurd ((rw is at none) refl)) does
 
 -- the same of a call that only puts bytes
 pub answered-puts : {R : Type 0} (s : Serializing) (call : Call) (told' : WriterView) (failed' : Bool) (result : Result R SerializeFault)
-    → s.failed ≡ false → failed' ≡ is_fatal result → stack_behind s call ≡ Ok s.stack → Puts s.told (bytes_of s call) result told'
+    → s.failed ≡ false → failed' ≡ is_fatal result → stack_after s call ≡ Ok s.stack → Puts s.told (bytes_of s call) result told'
     → Answers step refuses s call result (record s { told = told'; failed = failed' })
 answered-puts s call told' failed' result well fatal kept puts =
     answered s call s.stack told' failed' result well fatal (λ is. absurd (not_memory (rw is at puts)))
-    (Does-puts (stack_behind s call) (bytes_of s call) s.stack s.stack s.told told' result kept puts)
+    (Does-puts (stack_after s call) (bytes_of s call) s.stack s.stack s.told told' result kept puts)
   where
     not_memory : (Memory ≡ Write) × Broke s.told (bytes_of s call) told' → ⊥
     not_memory puts = let h = puts.0 in cc

@@ -63,5 +63,5 @@ abbrev pub written_through : List ℕ → ℕ → ℕ → List ℕ
 written_through bytes start at = take (at - start) (drop start bytes) ++ cond (nat_lt at (length bytes)) (reference_of (slice_index bytes at)) []
 
 -- the place after an escaped character, if it is not the end
-abbrev pub place_behind : List ℕ → ℕ → ℕ
-place_behind bytes at = cond (nat_lt at (length bytes)) (cond (nat_eq (slice_index bytes at) 0xC2) (at + 2) (at + 1)) at
+abbrev pub place_after : List ℕ → ℕ → ℕ
+place_after bytes at = cond (nat_lt at (length bytes)) (cond (nat_eq (slice_index bytes at) 0xC2) (at + 2) (at + 1)) at

@@ -64,11 +64,11 @@ without_last true [] = Ok []
 without_last false [] = Err NoElemInfo
 
 -- the stack after a call
-abbrev pub stack_behind : Serializing → Call → Result (List Entry) SerializeFault
-stack_behind s (StartElem name attributes) = map_ok (λ stack. entry_under s.scripting (top_of stack) name ∷ stack) (with_parent s.creates s.stack)
-stack_behind s (EndElem name) = without_last s.creates s.stack
-stack_behind s (WriteText text) = with_parent s.creates s.stack
-stack_behind s _ = Ok s.stack
+abbrev pub stack_after : Serializing → Call → Result (List Entry) SerializeFault
+stack_after s (StartElem name attributes) = map_ok (λ stack. entry_under s.scripting (top_of stack) name ∷ stack) (with_parent s.creates s.stack)
+stack_after s (EndElem name) = without_last s.creates s.stack
+stack_after s (WriteText text) = with_parent s.creates s.stack
+stack_after s _ = Ok s.stack
 
 -- the text that a call writes
 abbrev pub text_of : Serializing → Call → List ℕ
@@ -82,12 +82,12 @@ text_of s (WriteProcessingInstruction target text) = written_instruction target 
 abbrev pub bytes_of : Serializing → Call → List ℕ
 bytes_of s call = encode_utf8_all (text_of s call)
 
-abbrev pub behind_stack : Serializing → Call → List Entry → Serializing
-behind_stack s call stack = record s { stack = stack; told = with_bytes s.told (bytes_of s call) }
+abbrev pub with_stack_after : Serializing → Call → List Entry → Serializing
+with_stack_after s call stack = record s { stack = stack; told = with_bytes s.told (bytes_of s call) }
 
 -- what a call makes of a serializer, where memory is there and no write fails
 unfoldable pub step : Serializing → Call → Result Serializing SerializeFault
-step s call = cond s.failed (Err Failed) (map_ok (behind_stack s call) (stack_behind s call))
+step s call = cond s.failed (Err Failed) (map_ok (with_stack_after s call) (stack_after s call))
 
 -- the stack after a part of a call, and the entry that stood on top; or why there is none
 abbrev pub Takes : Result (List Entry) SerializeFault → List Entry → Result Entry SerializeFault → List Entry → Type 0

@@ -3,7 +3,7 @@ ghost use Rattle.std.specs.Prelude.{◌≡◌, ◌≤◌, ◌<◌, ◌+◌, ℕ,
 ghost use Rattle.std.specs.Str.{chars};
 ghost use Rattle.std.specs.Simd.Lanes.{mask_l};
 ghost use Rattle.markup.specs.Escape.{escape_in};
-ghost use Rattle.html_serialize.specs.Bytes.{IsClear, IsNext, escape_bytes, is_marked, is_replaced, mode_of, place_behind, quote_of, reference_of, written_through};
+ghost use Rattle.html_serialize.specs.Bytes.{IsClear, IsNext, escape_bytes, is_marked, is_replaced, mode_of, place_after, quote_of, reference_of, written_through};
 ghost use Rattle.html_serialize.specs.Puts.{Puts, told_by};
 
 use crate::put::put;
@@ -130,7 +130,7 @@ fn put_through<Wr: Target>(
 ) -> Result<usize, SerializeFault>
     requires start { start ≤ at }
     requires at { at ≤ length bytes.now }
-    ensures place { IfOk result (λ place. place ≡ place_behind bytes.now at) }
+    ensures place { IfOk result (λ place. place ≡ place_after bytes.now at) }
     ensures puts { Puts (told_by Wr.written Wr.failures writer.old) (written_through bytes.now start at) result (told_by Wr.written Wr.failures writer.new) }
     ensures same_references { Wr.references writer.new ≡ Wr.references writer.old }
 {

@@ -24,8 +24,8 @@ written xs cs from at m y inside less count there is =
     ∙ ap (λ zs. take from xs ++ zs) (sym (append_assoc (reverse (drop (suc m) cs)) (y ∷ []) (drop (suc at) xs)) ∙ ap (λ zs. zs ++ drop (suc at) xs) (sym more))
 
 -- what is between goes
-pub cut_behind : {X : Type 0} (p : List X) (l : X) (r : List X) (n k : ℕ) → length p ≡ n → take (suc n) (p ++ l ∷ r) ++ drop (suc n + k) (p ++ l ∷ r) ≡ p ++ l ∷ drop k r
-cut_behind p l r n k e =
+pub cut_after : {X : Type 0} (p : List X) (l : X) (r : List X) (n k : ℕ) → length p ≡ n → take (suc n) (p ++ l ∷ r) ++ drop (suc n + k) (p ++ l ∷ r) ≡ p ++ l ∷ drop k r
+cut_after p l r n k e =
     let q : List _ = p ++ l ∷ [] in
     let size : length q ≡ suc n = length-append p (l ∷ []) ∙ (omega arith) in
     let whole : p ++ l ∷ r ≡ q ++ r = sym (append_assoc p (l ∷ []) r) in
@@ -73,7 +73,7 @@ restacked xs cs ys zs from to at last d inside there count less eys ezs =
     ∙ ap (λ n. take n ys ++ drop to ys) (add-one at)
     ∙ ap (λ n. take (suc at) ys ++ drop n ys) (sym k_is)
     ∙ ap (λ ws. take (suc at) ws ++ drop (suc at + k) ws) whole
-    ∙ cut_behind p last r at k size
+    ∙ cut_after p last r at k size
     ∙ ap (λ ws. p ++ last ∷ ws) rest in
     let long : length zs ≡ length p + suc (suc (length (drop (suc to) xs))) = ap length zs_is ∙ length-append p (last ∷ get_or xs to d ∷ drop (suc to) xs) in (
       omega arith,

@@ -46,7 +46,7 @@ impl<Sink: TreeSink> Stack<Sink> {
     ghost use Rattle.html_rules.specs.State.{State};
     ghost use Rattle.html_stack.specs.Modes.{IsContext};
     ghost use Rattle.html_rules.specs.ForeignContent.{ends_foreign};
-    ghost use Rattle.html_rules.specs.Formatting.{behind_marker};
+    ghost use Rattle.html_rules.specs.Formatting.{after_marker};
     ghost use Rattle.html_rules.specs.Stack.{finds_generic, in_scope, left_below, left_by_implied, left_from, nothing, without_current};
     ghost use Rattle.html_rules_laws.specs.Soundness.{AreOpened};
     ghost use Rattle.html_stack.specs.Wanted.{IsWanted, closes, passes};
@@ -237,7 +237,7 @@ impl<Sink: TreeSink> Stack<Sink> {
     /// Entries leave the list from its end, up to and with the last marker ("clear the list of active formatting elements up to the last
     /// marker", HTML Standard, section 13.2.4.3).
     pub fn clear_active_formatting_to_marker(&mut self)
-        ensures { self.new ≡ record self.old { active_formatting = behind_marker self.old.active_formatting } }
+        ensures { self.new ≡ record self.old { active_formatting = after_marker self.old.active_formatting } }
     {
         let left = walks::count_to_marker(self.active_formatting.as_slice());
         self.active_formatting.truncate(left);

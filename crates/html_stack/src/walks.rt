@@ -2,7 +2,7 @@
 ghost use Rattle.std.specs.Prelude.{◌≡◌, ◌<◌, ◌≤◌, [], ℕ, MatchOption, None, Some, length, slice_index_or, take};
 ghost use Rattle.std.specs.List.{list_all};
 ghost use Rattle.markup.specs.KnownNames.{names};
-ghost use Rattle.html_rules.specs.Formatting.{behind_marker};
+ghost use Rattle.html_rules.specs.Formatting.{after_marker};
 ghost use Rattle.html_rules.specs.Stack.{finds_generic, in_scope, item_name, left_below, left_from};
 ghost use Rattle.html_rules.specs.State.{current_is, current_number, is_in};
 ghost use Rattle.html_stack.specs.Stacks.{entries_of, entry_of, is_mark, opens_of};
@@ -101,7 +101,7 @@ fn is_marker<Handle>(entry: &FormatEntry<Handle>) -> bool
 /// How many entries there are before the last marker; none where there is no marker.
 pub(crate) fn count_to_marker<Handle>(entries: &[FormatEntry<Handle>]) -> usize
     ensures within { result ≤ length entries.now }
-    ensures left { (node : Handle → ℕ) → entries_of node (take result entries.now) ≡ behind_marker (entries_of node entries.now) }
+    ensures left { (node : Handle → ℕ) → entries_of node (take result entries.now) ≡ after_marker (entries_of node entries.now) }
 {
     let mut i = entries.len();
     while i > 0 {

@@ -143,7 +143,7 @@ module _ {K H : Type 0} (Sink : Ghosts K H) where
 
   -- Some characters were taken from the queue, each once, these pauses were added, and the tokenizer stands where this is so of the
   -- characters taken.
-  pub record HasMoved (pauses_behind : List Reply → List Reply) (leaves : List ℕ → Type 0) (old new : Tokenizer K) (from to : Queue) : Type 0 where
+  pub record HasMoved (pauses_after : List Reply → List Reply) (leaves : List ℕ → Type 0) (old new : Tokenizer K) (from to : Queue) : Type 0 where
     pub taken : List ℕ
     pub takes : Takes taken from to
     -- the characters that came of them, and what the items that ended with these owed, besides what they owed on their own
@@ -152,7 +152,7 @@ module _ {K H : Type 0} (Sink : Ghosts K H) where
     pub owed : Owed
     pub rises : Rises Sink.errors (together owed (owed_for_text old.stream.exact_errors came)) old.sink new.sink
     -- for each further text, what was to come over the characters taken and that text is what is now to come over that text
-    pub same : (notes : Notes ℕ) (t : List ℕ) → to_come old notes (taken ++ t) ≡ to_come new (record (more owed notes) { pauses = pauses_behind notes.pauses }) t
+    pub same : (notes : Notes ℕ) (t : List ℕ) → to_come old notes (taken ++ t) ≡ to_come new (record (more owed notes) { pauses = pauses_after notes.pauses }) t
     pub ready : IsReady new
     pub stays : Stays Sink old.sink new.sink
     pub ended : new.stream.has_ended ≡ old.stream.has_ended

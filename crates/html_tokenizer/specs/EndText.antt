@@ -6,16 +6,16 @@ use Rattle.html_tokens.specs.declared.states.State.TheVariants as state
 use Rattle.html_tokens.specs.Item.{is_escaped_kind}
 
 -- in text of which nothing is held
-abbrev pub is_told_text : State → Bool
-is_told_text state.Data = true
-is_told_text state.Plaintext = true
-is_told_text (state.RawData kind) = true
-is_told_text (state.ScriptDataEscapeStart kind) = true
-is_told_text state.ScriptDataEscapeStartDash = true
-is_told_text (state.ScriptDataEscapedDash kind) = true
-is_told_text (state.ScriptDataEscapedDashDash kind) = true
-is_told_text state.ScriptDataDoubleEscapeEnd = true
-is_told_text _ = false
+abbrev pub is_emitted_text : State → Bool
+is_emitted_text state.Data = true
+is_emitted_text state.Plaintext = true
+is_emitted_text (state.RawData kind) = true
+is_emitted_text (state.ScriptDataEscapeStart kind) = true
+is_emitted_text state.ScriptDataEscapeStartDash = true
+is_emitted_text (state.ScriptDataEscapedDash kind) = true
+is_emitted_text (state.ScriptDataEscapedDashDash kind) = true
+is_emitted_text state.ScriptDataDoubleEscapeEnd = true
+is_emitted_text _ = false
 
 -- in a tag, which is not told
 abbrev pub is_tag_part : State → Bool

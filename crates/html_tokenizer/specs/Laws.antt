@@ -35,9 +35,9 @@ module _ {K H : Type 0} (Sink : Ghosts K H) where
   taken_by (c ∷ cs) = c.fed.taken ++ taken_by cs
 
   -- what was noted, and then the faulty items of the calls and the pauses with which they handed back control
-  abbrev pub noted_behind : Notes ℕ → List Call → Notes ℕ
-  noted_behind notes [] = notes
-  noted_behind notes (c ∷ cs) = noted_behind (noted_with Sink.number c.fed.owed notes c.result) cs
+  abbrev pub noted_after : Notes ℕ → List Call → Notes ℕ
+  noted_after notes [] = notes
+  noted_after notes (c ∷ cs) = noted_after (noted_with Sink.number c.fed.owed notes c.result) cs
 
   -- Whatever follows, two tokenizers make the same of it.
   abbrev pub HaveSameRests : Tokenizer K → Tokenizer K → Type 0
@@ -65,12 +65,12 @@ module _ {K H : Type 0} (Sink : Ghosts K H) where
   -- Whatever follows, what was to come over all that the calls took is what is to come after them.
   abbrev pub AreCallsChained : Type 0
   AreCallsChained = (k new : Tokenizer K) (cs : List Call) (notes : Notes ℕ) (t : List ℕ) → IsChain k cs new
-      → to_come Sink k notes (taken_by cs ++ t) ≡ to_come Sink new (noted_behind notes cs) t
+      → to_come Sink k notes (taken_by cs ++ t) ≡ to_come Sink new (noted_after notes cs) t
 
   -- What was to come over all that the calls took, and no more, is what the end leaves.
   abbrev pub IsChainEnded : Type 0
   IsChainEnded = (k new ended : Tokenizer K) (cs : List Call) → IsChain k cs new → (e : HasEnded Sink new ended)
-      → noted_to_come k (taken_by cs) ≡ Ok (Sink.view ended.sink, more e.owed (noted_behind no_notes cs))
+      → noted_to_come k (taken_by cs) ≡ Ok (Sink.view ended.sink, more e.owed (noted_after no_notes cs))
 
   -- Two tokenizers that make the same of whatever follows, and that take the same text, in whatever pieces, put in at pauses too,
   -- leave the same state of the sink after their ends, and the same pauses.
@@ -78,7 +78,7 @@ module _ {K H : Type 0} (Sink : Ghosts K H) where
   IsAnyPieces = (k new ended other new' ended' : Tokenizer K) (cs cs' : List Call)
       → HaveSameRests k other → IsChain k cs new → IsChain other cs' new' → taken_by cs ≡ taken_by cs'
       → HasEnded Sink new ended → HasEnded Sink new' ended'
-      → (Sink.view ended.sink ≡ Sink.view ended'.sink) × ((noted_behind no_notes cs).pauses ≡ (noted_behind no_notes cs').pauses)
+      → (Sink.view ended.sink ≡ Sink.view ended'.sink) × ((noted_after no_notes cs).pauses ≡ (noted_after no_notes cs').pauses)
 
   -- From a new tokenizer to the end of all that it took, the number of errors rises by as many as the text has faulty items, and
   -- control characters and noncharacters where these are told, at least, or is at u64::MAX.

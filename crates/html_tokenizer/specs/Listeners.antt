@@ -24,8 +24,8 @@ listening Sink = noting_listener Sink.step Sink.is_quiet Sink.asks_cdata Sink.en
 
 module _ {T : Type 0} (to : Listener T) (rows : List Row) where
   -- what a text makes of it, and what an item and the text after it do
-  abbrev pub told_text : Stand → ℕ → T → List ℕ → Result T (Refusal × ℕ)
-  told_text st b s t = reading to.step to.erred to.cdata to.ends rows st b s t
+  abbrev pub emitted_text : Stand → ℕ → T → List ℕ → Result T (Refusal × ℕ)
+  emitted_text st b s t = reading to.step to.erred to.cdata to.ends rows st b s t
 
-  abbrev pub told_item : Item → ℕ → T → List ℕ → Result T (Refusal × ℕ)
-  told_item i b s t = play to.step to.erred to.cdata to.ends rows i b s t
+  abbrev pub emitted_item : Item → ℕ → T → List ℕ → Result T (Refusal × ℕ)
+  emitted_item i b s t = play to.step to.erred to.cdata to.ends rows i b s t

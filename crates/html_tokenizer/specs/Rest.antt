@@ -9,9 +9,9 @@ use Rattle.html_tokens.specs.declared.states.State.{State}
 use Rattle.html_tokens.specs.declared.states.State.TheVariants as state
 use Rattle.html_tokens.specs.declared.token.Doctype.{Doctype}
 use Rattle.html_tokens.specs.Comments.{comment_at, comment_after, bogus_comment_after}
-use Rattle.html_tokens.specs.Doctypes.{doctype_at, doctype_behind, doctype_name_after, after_name, after_public_keyword, after_system_keyword, public_after, system_after, after_public, after_system, junk_after}
+use Rattle.html_tokens.specs.Doctypes.{doctype_at, doctype_after, doctype_name_after, after_name, after_public_keyword, after_system_keyword, public_after, system_after, after_public, after_system, junk_after}
 use Rattle.html_tokens.specs.Item.{Fault, Slight, slight_if, TextPlace, InData, InRaw, InPlaintext, InCdata, InTag, Stand, Item}
-use Rattle.html_tokens.specs.NormalText.{newlines_behind, without_mark}
+use Rattle.html_tokens.specs.NormalText.{newlines_after, without_mark}
 use Rattle.html_tokens.specs.Reading.{erred_by}
 use Rattle.html_tokens.specs.Sink.{Refusal}
 use Rattle.html_tokens.specs.Table.{Row}
@@ -20,7 +20,7 @@ use Rattle.html_tokenizer_parts.specs.declared.held_reference.Ampersand.{Ampersa
 use Rattle.html_tokenizer_parts.specs.declared.held_reference.Ampersand.TheVariants.{Held, Unknown}
 use Rattle.html_tokenizer.specs.declared.tokenizer.Tokenizer.{Tokenizer}
 use Rattle.html_tokenizer_parts.specs.Words.{kind_after}
-use Rattle.html_tokenizer.specs.Listeners.{Listener, told_text, told_item}
+use Rattle.html_tokenizer.specs.Listeners.{Listener, emitted_text, emitted_item}
 
 -- the rows of the table of references
 abbrev pub rows_of : {K : Type 0} → Tokenizer K → List Row
@@ -33,10 +33,10 @@ pending (Some (Held cs)) = 38 ∷ cs
 pending (Some Unknown) = []
 
 -- what was wrong with what was told: an unknown name stands after "&"
-abbrev pub fault_behind : Option Ampersand → Option Fault
-fault_behind None = None
-fault_behind (Some (Held cs)) = None
-fault_behind (Some Unknown) = Some Slight
+abbrev pub fault_after : Option Ampersand → Option Fault
+fault_after None = None
+fault_after (Some (Held cs)) = None
+fault_after (Some Unknown) = Some Slight
 
 -- where a reading stands at this place
 abbrev pub standing : {K : Type 0} → Tokenizer K → TextPlace → Stand
@@ -60,16 +60,16 @@ quoted_state quote kind = quoted_by (nat_eq quote 39) kind
 
 -- the text that comes, of these characters of the input
 abbrev pub coming : {K : Type 0} → Tokenizer K → List ℕ → List ℕ
-coming k t = newlines_behind k.stream.ignore_lf (without_mark k.stream.discard_bom t)
+coming k t = newlines_after k.stream.ignore_lf (without_mark k.stream.discard_bom t)
 
 module _ {K T : Type 0} (to : Listener T) where
   -- what a text makes of the sink, where a reading stands at this place
   abbrev pub read_at : TextPlace → Tokenizer K → ℕ → T → List ℕ → Result T (Refusal × ℕ)
-  read_at place k b s t = told_text to (rows_of k) (standing k place) b s t
+  read_at place k b s t = emitted_text to (rows_of k) (standing k place) b s t
 
   -- an item, and then what follows it
   abbrev pub played : Item → Tokenizer K → ℕ → T → List ℕ → Result T (Refusal × ℕ)
-  played i k b s t = told_item to (rows_of k) i b s t
+  played i k b s t = emitted_item to (rows_of k) i b s t
 
   -- What the characters t make of the sink s after b line breaks, where the machine is in this state.
   unfoldable pub held_at : State → Tokenizer K → ℕ → T → List ℕ → Result T (Refusal × ℕ)
@@ -115,7 +115,7 @@ module _ {K T : Type 0} (to : Listener T) where
   held_at state.CommentEndBang k b s t = played (comment_after (standing k InData) k.comment (45 ∷ 45 ∷ 33 ∷ t)) k b s (45 ∷ 45 ∷ 33 ∷ t)
   -- doctypes
   held_at state.Doctype k b s t = played (doctype_at (standing k InData) t) k b s t
-  held_at state.BeforeDoctypeName k b s t = played (doctype_behind (standing k InData) t) k b s t
+  held_at state.BeforeDoctypeName k b s t = played (doctype_after (standing k InData) t) k b s t
   held_at state.DoctypeName k b s t = played (doctype_name_after (standing k InData) k.temporary t) k b s t
   held_at state.AfterDoctypeName k b s t = played (after_name (standing k InData) k.doctype (k.keyword ++ t)) k b s (k.keyword ++ t)
   held_at (state.AfterDoctypeKeyword id.Public) k b s t = played (after_public_keyword (standing k InData) k.doctype t) k b s t
@@ -137,7 +137,7 @@ module _ {K T : Type 0} (to : Listener T) where
 
   -- the same where the machine is, with the reference that is held, or after an unknown name
   abbrev pub held : Tokenizer K → ℕ → T → List ℕ → Result T (Refusal × ℕ)
-  held k b s t = held_at k.state k b (erred_by to.erred (fault_behind k.char_ref) s) (pending k.char_ref ++ t)
+  held k b s t = held_at k.state k b (erred_by to.erred (fault_after k.char_ref) s) (pending k.char_ref ++ t)
 
   -- what a further text of the input makes of the sink
   abbrev pub rest : Tokenizer K → T → List ℕ → Result T (Refusal × ℕ)

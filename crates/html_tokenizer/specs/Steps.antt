@@ -18,13 +18,13 @@ pub use Rattle.html_tokens.specs.Owed.{Owed, how_many, nothing_owed, owed_for_ea
 use Rattle.html_tokens.specs.Reading.{◌>>=◌, line_break, line_number, next_stand}
 use Rattle.html_tokens.specs.Sink.{Reply, Refusal, InText, AfterEnd, Unfit}
 use Rattle.html_tokens.specs.Table.{Row}
-use Rattle.html_tokens.specs.Tags.{behind_tag, is_faulty_tag}
+use Rattle.html_tokens.specs.Tags.{after_tag, is_faulty_tag}
 use Rattle.html_tokenizer_parts.specs.CharRefs.{fits_in}
 use Rattle.html_tokenizer.specs.declared.tokenizer.Tokenizer.{Tokenizer}
 use Rattle.html_tokenizer_parts.specs.declared.stream.Stream.{Stream}
 use Rattle.html_tokenizer_parts.specs.Input.{last_of}
 use Rattle.html_tokenizer.specs.Rest.{rows_of, standing, held}
-use Rattle.html_tokenizer.specs.Listeners.{listening, told_text, told_item}
+use Rattle.html_tokenizer.specs.Listeners.{listening, emitted_text, emitted_item}
 
 -- the machine is in this state, and holds no reference
 pub record IsAt {K : Type 0} (k : Tokenizer K) (st : State) : Type 0 where
@@ -86,12 +86,12 @@ pub record Rises {K : Type 0} (errors : K → ℕ) (owed : Owed) (before after :
   pub stays : owed.is_quiet ≡ true → errors after ≡ errors before
 
 -- where the machine goes by the reply to a tag
-abbrev pub state_behind : {H : Type 0} → TokenSinkResult H → State
-state_behind reply.Continue = state.Data
-state_behind (reply.Script handle) = state.Data
-state_behind reply.Plaintext = state.Plaintext
-state_behind (reply.RawData kind) = state.RawData kind
-state_behind (reply.EncodingIndicator label) = state.Data
+abbrev pub state_after : {H : Type 0} → TokenSinkResult H → State
+state_after reply.Continue = state.Data
+state_after (reply.Script handle) = state.Data
+state_after reply.Plaintext = state.Plaintext
+state_after (reply.RawData kind) = state.RawData kind
+state_after (reply.EncodingIndicator label) = state.Data
 
 -- with what it hands back control
 abbrev pub answer_to : {H : Type 0} → TokenSinkResult H → ProcessResult H
@@ -104,11 +104,11 @@ answer_to (reply.EncodingIndicator label) = flow.EncodingIndicator label
 module _ {K H : Type 0} (Sink : Ghosts K H) where
   -- what a text makes of the sink and of what was noted, from a stand on
   abbrev pub reads : List Row → Stand → ℕ → Sink.State × Notes ℕ → List ℕ → Result (Sink.State × Notes ℕ) (Refusal × ℕ)
-  reads rows st b s t = told_text (listening Sink) rows st b s t
+  reads rows st b s t = emitted_text (listening Sink) rows st b s t
 
   -- the same, where an item stands at its front
   abbrev pub plays : List Row → Item → ℕ → Sink.State × Notes ℕ → List ℕ → Result (Sink.State × Notes ℕ) (Refusal × ℕ)
-  plays rows i b s t = told_item (listening Sink) rows i b s t
+  plays rows i b s t = emitted_item (listening Sink) rows i b s t
 
   -- what the characters t make of the sink and of what was noted
   abbrev pub now : Tokenizer K → ℕ → Sink.State × Notes ℕ → List ℕ → Result (Sink.State × Notes ℕ) (Refusal × ℕ)
@@ -231,7 +231,7 @@ module _ {K H : Type 0} (Sink : Ghosts K H) where
   -- The tag has gone to the sink after its error, if it has one, and the machine is where the reply has it.
   pub record EndedTag (old new : Tokenizer K) (result : ProcessResult H) : Type 0 where
     pub same : (notes : Notes ℕ) (t : List ℕ)
-        → (noting Sink.step Sink.is_quiet (Sink.view old.sink, more (owed_for (grave_if (is_faulty_tag old.tag))) notes) (TagToken old.tag) (line_number old.stream.breaks) >>= λ p. reads (rows_of old) (next_stand (behind_tag (standing old InData) old.tag) p.1) old.stream.breaks p.0 t)
+        → (noting Sink.step Sink.is_quiet (Sink.view old.sink, more (owed_for (grave_if (is_faulty_tag old.tag))) notes) (TagToken old.tag) (line_number old.stream.breaks) >>= λ p. reads (rows_of old) (next_stand (after_tag (standing old InData) old.tag) p.1) old.stream.breaks p.0 t)
         ≡ now new old.stream.breaks (Sink.view new.sink, noted_by Sink.number (owed_by old) notes result) t
     pub rises : Rises Sink.errors (owed_by old) old.sink new.sink
     pub stream : new.stream ≡ old.stream

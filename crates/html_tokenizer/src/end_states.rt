@@ -7,7 +7,7 @@ ghost use Rattle.html_tokenizer.specs.Calls.{Closes};
 ghost use Rattle.html_tokenizer.specs.Rest.{rows_of};
 ghost use Rattle.html_tokenizer_parts.specs.CharRefs.{fits_in, is_held, may_hold};
 ghost use Rattle.html_tokenizer_parts.specs.declared.held_reference.Ampersand.TheVariants.{Held, Unknown};
-ghost use Rattle.html_tokenizer.specs.EndText.{is_told_text, is_tag_part, is_escaped};
+ghost use Rattle.html_tokenizer.specs.EndText.{is_emitted_text, is_tag_part, is_escaped};
 ghost use Rattle.html_tokenizer.specs.Steps.{IsAt, Errs, owed_for};
 ghost use Rattle.html_tokens.specs.Item.{grave_if};
 
@@ -50,7 +50,7 @@ impl<Sink: TokenSink> Tokenizer<Sink> {
 
     /// The input ends in text of which nothing is held.
     fn end_told_text(&mut self) -> Result<(), ParseFault>
-        requires at { is_told_text self.old.state ≡ true }
+        requires at { is_emitted_text self.old.state ≡ true }
         requires fresh { self.old.char_ref ≡ None }
         requires sound { Sink.is_sound (Sink.view self.old.sink) }
         ensures { Closes Sink.TokenSink self.old self.new result }

@@ -5,7 +5,7 @@ ghost use Rattle.html_tokenizer.specs.Fronts.{IsInTag, ReadsAhead, ReadsTags};
 ghost use Rattle.html_tokens.specs.declared.states.State.TheVariants as state;
 ghost use Rattle.html_tokenizer.specs.Stops.{IsRunAt, IsStoppedBy};
 
-use crate::front_lines::behind_lines;
+use crate::front_lines::after_lines;
 use crate::front_references::reference_of;
 use crate::front_tags::opening_of;
 use crate::text_runs::data_stops;
@@ -98,7 +98,7 @@ impl<Sink: TokenSink> Tokenizer<Sink> {
             return self.move_by_run(data_stops(), input);
         }
         let text = input.as_str();
-        let (rest, breaks) = behind_lines(text, self.stream.breaks);
+        let (rest, breaks) = after_lines(text, self.stream.breaks);
         let width = text.len() - rest.len();
         if width == 0 {
             return self.move_by_one(input);

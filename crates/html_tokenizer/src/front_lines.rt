@@ -12,18 +12,18 @@ use html_tokens::sink::TokenSink;
 use markup::{ParseFault, Text};
 
 /// What follows the lines at the front of a text, and how many line breaks were read after them, where so many were read before.
-pub(crate) fn behind_lines(text: &str, breaks: u64) -> (&str, u64)
+pub(crate) fn after_lines(text: &str, breaks: u64) -> (&str, u64)
     ensures { HasLines text.now result.0.now breaks result.1 }
 {
     let stops = data_stops();
     let (_line, mut rest) = stops.split(text);
-    let mut breaks_behind = breaks;
+    let mut breaks_after = breaks;
     while let Some(after) = behind(rest, b'\n') {
         let (_line, more) = stops.split(after);
-        breaks_behind = breaks_behind.saturating_add(1);
+        breaks_after = breaks_after.saturating_add(1);
         rest = more;
     }
-    (rest, breaks_behind)
+    (rest, breaks_after)
 }
 
 impl<Sink: TokenSink> Tokenizer<Sink> {

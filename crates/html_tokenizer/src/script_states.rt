@@ -56,7 +56,7 @@ impl<Sink: TokenSink> Tokenizer<Sink> {
             self.word.push(c)?;
             return self.consume_char(c);
         }
-        let kind = self.kind_behind_word(
+        let kind = self.kind_after_word(
             c,
             ScriptEscapeKind::DoubleEscaped,
             ScriptEscapeKind::Escaped,
@@ -134,7 +134,7 @@ impl<Sink: TokenSink> Tokenizer<Sink> {
             self.word.push(c)?;
             return self.consume_char(c);
         }
-        let kind = self.kind_behind_word(
+        let kind = self.kind_after_word(
             c,
             ScriptEscapeKind::Escaped,
             ScriptEscapeKind::DoubleEscaped,
@@ -152,12 +152,7 @@ impl<Sink: TokenSink> Tokenizer<Sink> {
     }
 
     /// The kind of a script after a word: `behind`, if the word is `script`.
-    fn kind_behind_word(
-        &self,
-        c: char,
-        behind: ScriptEscapeKind,
-        other: ScriptEscapeKind,
-    ) -> RawKind
+    fn kind_after_word(&self, c: char, behind: ScriptEscapeKind, other: ScriptEscapeKind) -> RawKind
         ensures is { result ≡ ScriptDataEscaped (if ends_script self.now.word c then behind else other) }
         ensures letters { list_all is_ascii_alphabetic self.now.word ≡ true }
     {

@@ -5,7 +5,7 @@ ghost use Rattle.html_tokens.specs.declared.states.State.TheVariants as state;
 ghost use Rattle.html_tokens.specs.declared.tags.TagKind.TheVariants.{EndTag, StartTag};
 ghost use Rattle.html_tokens.specs.Tags.{named};
 ghost use Rattle.markup.specs.declared.fault.ParseFault.TheVariants.{Memory};
-ghost use Rattle.html_tokenizer.specs.Steps.{IsAt, Keeps, Errs, EndsTag, state_behind, answer_to, owed_for};
+ghost use Rattle.html_tokenizer.specs.Steps.{IsAt, Keeps, Errs, EndsTag, state_after, answer_to, owed_for};
 ghost use Rattle.html_tokens.specs.Item.{grave_if};
 
 use crate::tokenizer::Tokenizer;
@@ -111,7 +111,7 @@ impl<Sink: TokenSink> Tokenizer<Sink> {
     /// Goes where the reply to a tag has it.
     #[inline(always)]
     fn follow(&mut self, reply: TokenSinkResult<Sink::Handle>) -> ProcessResult<Sink::Handle>
-        ensures moved { self.new ≡ record self.old { state = state_behind reply } }
+        ensures moved { self.new ≡ record self.old { state = state_after reply } }
         ensures answer { result ≡ answer_to reply }
     {
         self.state = State::Data;

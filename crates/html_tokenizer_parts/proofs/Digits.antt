@@ -5,19 +5,19 @@ use Rattle.std.proofs.Math.Nat.{min-eq_left, min-eq_right}
 use Rattle.std.proofs.lemmas.Bool.{cases_lt}
 use Rattle.std.proofs.lemmas.Bool.Decides.{nat_tests}
 use Rattle.std.proofs.lemmas.List.{take_more}
-use Rattle.html_tokens.specs.Reference.{digit, number, number_behind, numbered, is_no_character, replaced, replacements}
+use Rattle.html_tokens.specs.Reference.{digit, number, number_after, numbered, is_no_character, replaced, replacements}
 use Rattle.html_tokenizer_parts.specs.CharRefs.{base_of}
 
-number_behind-push : (base n : ℕ) (ds : List ℕ) (d : ℕ) → number_behind base n (ds ++ d ∷ []) ≡ number_behind base n ds * base + digit d
-number_behind-push base n [] d = refl
-number_behind-push base n (c ∷ ds) d = number_behind-push base (n * base + digit c) ds d
+number_after-push : (base n : ℕ) (ds : List ℕ) (d : ℕ) → number_after base n (ds ++ d ∷ []) ≡ number_after base n ds * base + digit d
+number_after-push base n [] d = refl
+number_after-push base n (c ∷ ds) d = number_after-push base (n * base + digit c) ds d
 
 capped : (hex : Bool) (n d : ℕ) → min (min n 0x110000 * base_of hex + d) 0x110000 ≡ min (n * base_of hex + d) 0x110000
 capped true n d = omega arith
 capped false n d = omega arith
 
 number-pushed : (hex : Bool) (digits : List ℕ) (k : ℕ) → k < length digits → number (base_of hex) (take (k + 1) digits) ≡ number (base_of hex) (take k digits) * base_of hex + digit (get_or digits k 0)
-number-pushed hex digits k l = ap (number (base_of hex)) (take_more digits k 0 l) ∙ number_behind-push (base_of hex) 0 (take k digits) (get_or digits k 0)
+number-pushed hex digits k l = ap (number (base_of hex)) (take_more digits k 0 l) ∙ number_after-push (base_of hex) 0 (take k digits) (get_or digits k 0)
 
 -- the number of one digit more
 pub number-more : (hex : Bool) (digits : List ℕ) (k value base d next : ℕ) → k < length digits → base ≡ base_of hex → value ≡ min (number (base_of hex) (take k digits)) 0x110000

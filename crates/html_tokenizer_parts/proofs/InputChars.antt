@@ -2,7 +2,7 @@
 use Rattle.std.proofs.Common.{◌≡◌, ◌∙◌, ℕ, Bool, false, List, [], ◌∷◌, ◌++◌, Option, Some, None, refl, sym, ap, arith, append_assoc, length-append}
 use Rattle.std.specs.Prelude.{IfNone}
 use Rattle.html_queue.specs.Queue.{Queue, Takes}
-use Rattle.html_tokens.specs.NormalText.{newlines_behind, without_mark}
+use Rattle.html_tokens.specs.NormalText.{newlines_after, without_mark}
 use Rattle.html_tokenizer_parts.specs.declared.stream.Stream.{Stream}
 use Rattle.html_tokenizer_parts.specs.Input.{coming_in, newline_for, last_of, before, Vanishes, Nexts, MarkPassed, NewlineMade}
 use Rattle.html_tokenizer_parts.proofs.InputRuns.{without_none}
@@ -29,7 +29,7 @@ module _ (old mid new : Stream) (start from via to : Queue) (c : ℕ) (first : T
   next-vanishes h empty = record {
     taken = c ∷ h.more;
     takes = takes-more (c ∷ []) h.more start from via first h.takes;
-    all = λ t. rw h.changed (ap (newlines_behind old.ignore_lf) (h.front t ∙ sym (without_none t)));
+    all = λ t. rw h.changed (ap (newlines_after old.ignore_lf) (h.front t ∙ sym (without_none t)));
     changed = marked old mid h.changed;
     empty = empty;
   }
@@ -40,13 +40,13 @@ module _ (old mid new : Stream) (start from via to : Queue) (c : ℕ) (first : T
 
     front : (r : Option ℕ) (k : NewlineMade mid new via to mark r) (t : List ℕ) → coming_in old ((c ∷ h.more ++ k.more) ++ t) ≡ before r (coming_in new t)
     front r k t =
-        ap (λ u. newlines_behind old.ignore_lf (without_mark old.discard_bom (c ∷ u))) (append_assoc h.more k.more t)
-        ∙ ap (newlines_behind old.ignore_lf) (h.front (k.more ++ t))
-        ∙ ap (λ s. newlines_behind s.ignore_lf (mark ∷ k.more ++ t)) (sym h.changed)
+        ap (λ u. newlines_after old.ignore_lf (without_mark old.discard_bom (c ∷ u))) (append_assoc h.more k.more t)
+        ∙ ap (newlines_after old.ignore_lf) (h.front (k.more ++ t))
+        ∙ ap (λ s. newlines_after s.ignore_lf (mark ∷ k.more ++ t)) (sym h.changed)
         ∙ k.front t
-        ∙ ap (λ u. before r (newlines_behind new.ignore_lf u)) (sym (without_none t))
-        ∙ ap (λ s. before r (newlines_behind new.ignore_lf (without_mark s.discard_bom t))) (sym h.changed)
-        ∙ ap (λ s. before r (newlines_behind new.ignore_lf (without_mark s.discard_bom t))) (sym k.changed)
+        ∙ ap (λ u. before r (newlines_after new.ignore_lf u)) (sym (without_none t))
+        ∙ ap (λ s. before r (newlines_after new.ignore_lf (without_mark s.discard_bom t))) (sym h.changed)
+        ∙ ap (λ s. before r (newlines_after new.ignore_lf (without_mark s.discard_bom t))) (sym k.changed)
 
     changes : (r : Option ℕ) (k : NewlineMade mid new via to mark r) → new ≡ record old { ignore_lf = new.ignore_lf; discard_bom = new.discard_bom }
     changes r k = k.changed ∙ ap {A = Stream} (λ s. record s { ignore_lf = new.ignore_lf }) h.changed ∙ ap {A = Bool} (λ b. record old { ignore_lf = new.ignore_lf; discard_bom = b }) (sym (ap (λ s. s.discard_bom) k.changed ∙ ap (λ s. s.discard_bom) h.changed))

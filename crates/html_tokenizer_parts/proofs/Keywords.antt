@@ -10,7 +10,7 @@ use Rattle.html_tokens.specs.Characters.{shown, begins, begins_any_case, begins_
 use Rattle.html_tokens.specs.Comments.{bogus_comment_after}
 use Rattle.html_tokens.specs.declared.token.Doctype.{Doctype}
 use Rattle.html_tokens.specs.Doctypes.{junk_after}
-use Rattle.html_tokens.specs.Item.{Stand, behind, behind_all}
+use Rattle.html_tokens.specs.Item.{Stand, longer, longer_by}
 use Rattle.html_tokenizer_parts.specs.declared.keyword.Word.{Word}
 use Rattle.html_tokenizer_parts.specs.declared.keyword.Word.TheVariants as word
 use Rattle.html_tokenizer_parts.specs.Keywords.{letter, spelling, is_any_case, has_front, is_spelt, is_begun, becomes, may_become, IsPart, front_of}
@@ -311,23 +311,23 @@ plain-white c h = grind (arith, nat_tests)
 
 -- ITEMS
 
-bogus-step : (st : Stand) (front : List ℕ) (c : ℕ) (t : List ℕ) → nat_eq c 62 ≡ false → shown c ≡ c → bogus_comment_after st front (c ∷ t) ≡ behind (bogus_comment_after st (front ++ c ∷ []) t)
-bogus-step st front c t e f = rw e (ap (λ x. behind (bogus_comment_after st (front ++ x ∷ []) t)) f)
+bogus-step : (st : Stand) (front : List ℕ) (c : ℕ) (t : List ℕ) → nat_eq c 62 ≡ false → shown c ≡ c → bogus_comment_after st front (c ∷ t) ≡ longer (bogus_comment_after st (front ++ c ∷ []) t)
+bogus-step st front c t e f = rw e (ap (λ x. longer (bogus_comment_after st (front ++ x ∷ []) t)) f)
 
 -- what was read of a word is the front of a bogus comment
-pub bogus-behind : (st : Stand) (front cs t : List ℕ) → list_all is_plain cs ≡ true → bogus_comment_after st front (cs ++ t) ≡ behind_all (length cs) (bogus_comment_after st (front ++ cs) t)
+pub bogus-behind : (st : Stand) (front cs t : List ℕ) → list_all is_plain cs ≡ true → bogus_comment_after st front (cs ++ t) ≡ longer_by (length cs) (bogus_comment_after st (front ++ cs) t)
 bogus-behind st front [] t h = rw append-nil refl
 bogus-behind st front (c ∷ cs) t h =
     let p = and_parts (is_plain c) (list_all is_plain cs) h in
     bogus-step st front c (cs ++ t) (plain-mark c p.0) (plain-shown c p.0)
-    ∙ ap behind (bogus-behind st (front ++ c ∷ []) cs t p.1 ∙ ap (λ x. behind_all (length cs) (bogus_comment_after st x t)) (append_assoc front (c ∷ []) cs))
+    ∙ ap longer (bogus-behind st (front ++ c ∷ []) cs t p.1 ∙ ap (λ x. longer_by (length cs) (bogus_comment_after st x t)) (append_assoc front (c ∷ []) cs))
 
 -- and is dropped in a doctype
-pub junk-behind : (st : Stand) (d : Doctype) (cs t : List ℕ) → list_all is_plain cs ≡ true → junk_after st d (cs ++ t) ≡ behind_all (length cs) (junk_after st d t)
+pub junk-behind : (st : Stand) (d : Doctype) (cs t : List ℕ) → list_all is_plain cs ≡ true → junk_after st d (cs ++ t) ≡ longer_by (length cs) (junk_after st d t)
 junk-behind st d [] t h = refl
 junk-behind st d (c ∷ cs) t h =
     let p = and_parts (is_plain c) (list_all is_plain cs) h in
-    rw (plain-mark c p.0) (ap behind (junk-behind st d cs t p.1))
+    rw (plain-mark c p.0) (ap longer (junk-behind st d cs t p.1))
 
 pub word-other : (c : ℕ) → is_white_space c ≡ false → nat_eq c 62 ≡ false → ends_word c ≡ false
 word-other c e f = rw (e, f) refl

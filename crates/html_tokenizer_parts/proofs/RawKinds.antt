@@ -11,7 +11,7 @@ use Rattle.html_tokens.specs.declared.states.RawKind.TheVariants.{Rcdata, Rawtex
 use Rattle.html_tokens.specs.declared.states.ScriptEscapeKind.{ScriptEscapeKind}
 use Rattle.html_tokens.specs.declared.states.ScriptEscapeKind.TheVariants.{Escaped, DoubleEscaped}
 use Rattle.html_tokens.specs.Characters.{ends_tag_name, begins_by, begins_name}
-use Rattle.html_tokens.specs.RawText.{is_letters, is_fitting_end, ends_at_tag, kind_behind}
+use Rattle.html_tokens.specs.RawText.{is_letters, is_fitting_end, ends_at_tag, next_kind}
 use Rattle.html_tokenizer_parts.proofs.Words.{and_parts, letters-bytes}
 use Rattle.html_tokenizer_parts.specs.Words.{has_next, same_any_case, ends_raw_text, ends_script, may_escape, kind_after}
 
@@ -58,7 +58,7 @@ pub other-way : (c d : ℕ) → nat_eq c d ≡ false → nat_eq d c ≡ false
 other-way c d e = grind (arith, nat_tests)
 
 -- a character but "<" and "-" leaves the kind
-pub kind-same : (kind : RawKind) (c : ℕ) (t : List ℕ) → nat_eq c 60 ≡ false → nat_eq c 45 ≡ false → kind_behind kind c t ≡ kind
+pub kind-same : (kind : RawKind) (c : ℕ) (t : List ℕ) → nat_eq c 60 ≡ false → nat_eq c 45 ≡ false → next_kind kind c t ≡ kind
 kind-same Rcdata c t e f = refl
 kind-same Rawtext c t e f = refl
 kind-same ScriptData c t e f = rw e refl
@@ -66,18 +66,18 @@ kind-same (ScriptDataEscaped Escaped) c t e f = rw (e, f) refl
 kind-same (ScriptDataEscaped DoubleEscaped) c t e f = rw (e, f) refl
 
 -- "-" leaves it where the text is not escaped
-pub kind-dash : (kind : RawKind) (t : List ℕ) → ((escape : ScriptEscapeKind) → kind ≡ ScriptDataEscaped escape → ⊥) → kind_behind kind 45 t ≡ kind
+pub kind-dash : (kind : RawKind) (t : List ℕ) → ((escape : ScriptEscapeKind) → kind ≡ ScriptDataEscaped escape → ⊥) → next_kind kind 45 t ≡ kind
 kind-dash Rcdata t h = refl
 kind-dash Rawtext t h = refl
 kind-dash ScriptData t h = refl
 kind-dash (ScriptDataEscaped escape) t h = absurd (h escape refl)
 
 -- one character more of a front
-pub kind_after-more : (kind : RawKind) (front : List ℕ) (c : ℕ) (t : List ℕ) → kind_after kind (front ++ c ∷ []) t ≡ kind_behind (kind_after kind front (c ∷ t)) c t
+pub kind_after-more : (kind : RawKind) (front : List ℕ) (c : ℕ) (t : List ℕ) → kind_after kind (front ++ c ∷ []) t ≡ next_kind (kind_after kind front (c ∷ t)) c t
 kind_after-more kind [] c t = refl
 kind_after-more kind (d ∷ front) c t =
-    ap (λ u. kind_after (kind_behind kind d u) (front ++ c ∷ []) t) (append_assoc front (c ∷ []) t)
-    ∙ kind_after-more (kind_behind kind d (front ++ c ∷ t)) front c t
+    ap (λ u. kind_after (next_kind kind d u) (front ++ c ∷ []) t) (append_assoc front (c ∷ []) t)
+    ∙ kind_after-more (next_kind kind d (front ++ c ∷ t)) front c t
 
 -- letters leave it
 pub kind_after-letters : (kind : RawKind) (word t : List ℕ) → list_all is_ascii_alphabetic word ≡ true → kind_after kind word t ≡ kind
@@ -87,7 +87,7 @@ kind_after-letters kind (c ∷ word) t h =
     ap (λ k. kind_after k word t) (kind-same kind c (word ++ t) (letter-no_open c p.0) (letter-no_dash c p.0)) ∙ kind_after-letters kind word t p.1
 
 -- "<" leaves it where no escape may begin
-pub kind-open : (kind : RawKind) (c : ℕ) (t : List ℕ) → may_escape kind c ≡ false → kind_behind kind 60 (c ∷ t) ≡ kind
+pub kind-open : (kind : RawKind) (c : ℕ) (t : List ℕ) → may_escape kind c ≡ false → next_kind kind 60 (c ∷ t) ≡ kind
 kind-open Rcdata c t e = refl
 kind-open Rawtext c t e = refl
 kind-open ScriptData c t e = rw (other-way c 33 e) refl
@@ -95,7 +95,7 @@ kind-open (ScriptDataEscaped Escaped) c t e = rw (apart 115 c refl e) refl
 kind-open (ScriptDataEscaped DoubleEscaped) c t e = rw (lower-slash c e) refl
 
 -- "</" leaves it where it begins the fitting end tag
-pub kind-open_slash : (kind : RawKind) (t : List ℕ) → ends_at_tag kind ≡ true → kind_behind kind 60 (47 ∷ t) ≡ kind
+pub kind-open_slash : (kind : RawKind) (t : List ℕ) → ends_at_tag kind ≡ true → next_kind kind 60 (47 ∷ t) ≡ kind
 kind-open_slash Rcdata t e = refl
 kind-open_slash Rawtext t e = refl
 kind-open_slash ScriptData t e = refl
@@ -103,7 +103,7 @@ kind-open_slash (ScriptDataEscaped Escaped) t e = refl
 kind-open_slash (ScriptDataEscaped DoubleEscaped) t e = absurd cc
 
 -- and where no letter follows
-pub kind-no_name : (kind : RawKind) (c : ℕ) (t : List ℕ) → is_ascii_alphabetic c ≡ false → kind_behind kind 60 (47 ∷ c ∷ t) ≡ kind
+pub kind-no_name : (kind : RawKind) (c : ℕ) (t : List ℕ) → is_ascii_alphabetic c ≡ false → next_kind kind 60 (47 ∷ c ∷ t) ≡ kind
 kind-no_name Rcdata c t e = refl
 kind-no_name Rawtext c t e = refl
 kind-no_name ScriptData c t e = refl
@@ -111,7 +111,7 @@ kind-no_name (ScriptDataEscaped Escaped) c t e = refl
 kind-no_name (ScriptDataEscaped DoubleEscaped) c t e = rw (apart 115 c refl e) refl
 
 -- the same where one of both is so
-pub kind-slash : (kind : RawKind) (c : ℕ) (t : List ℕ) → (is_ascii_alphabetic c ≡ false) ⊎ (ends_at_tag kind ≡ true) → kind_behind kind 60 (47 ∷ c ∷ t) ≡ kind
+pub kind-slash : (kind : RawKind) (c : ℕ) (t : List ℕ) → (is_ascii_alphabetic c ≡ false) ⊎ (ends_at_tag kind ≡ true) → next_kind kind 60 (47 ∷ c ∷ t) ≡ kind
 kind-slash kind c t (inl e) = kind-no_name kind c t e
 kind-slash kind c t (inr e) = kind-open_slash kind (c ∷ t) e
 
@@ -171,14 +171,14 @@ begins-script word c t h e = begins-word (codes "script") word c t h e
 pub kind-script : (word : List ℕ) (c : ℕ) (t : List ℕ) → list_all is_ascii_alphabetic word ≡ true → is_ascii_alphabetic c ≡ false
     → kind_after (ScriptDataEscaped Escaped) (60 ∷ word) (c ∷ t) ≡ ScriptDataEscaped (if ends_script word c then DoubleEscaped else Escaped)
 kind-script word c t h e =
-    kind_after-letters (kind_behind (ScriptDataEscaped Escaped) 60 (word ++ c ∷ t)) word (c ∷ t) h
+    kind_after-letters (next_kind (ScriptDataEscaped Escaped) 60 (word ++ c ∷ t)) word (c ∷ t) h
     ∙ rw (begins-script word c t h e) (chosen (ends_script word c) DoubleEscaped Escaped)
 
 pub kind-end_script : (word : List ℕ) (c : ℕ) (t : List ℕ) → list_all is_ascii_alphabetic word ≡ true → is_ascii_alphabetic c ≡ false
     → kind_after (ScriptDataEscaped DoubleEscaped) (60 ∷ 47 ∷ word) (c ∷ t) ≡ ScriptDataEscaped (if ends_script word c then Escaped else DoubleEscaped)
 kind-end_script word c t h e =
-    let first = kind_behind (ScriptDataEscaped DoubleEscaped) 60 (47 ∷ (word ++ c ∷ t)) in
-    kind_after-letters (kind_behind first 47 (word ++ c ∷ t)) word (c ∷ t) h
+    let first = next_kind (ScriptDataEscaped DoubleEscaped) 60 (47 ∷ (word ++ c ∷ t)) in
+    kind_after-letters (next_kind first 47 (word ++ c ∷ t)) word (c ∷ t) h
     ∙ kind-same first 47 (word ++ c ∷ t) refl refl
     ∙ rw (begins-script word c t h e) (chosen (ends_script word c) Escaped DoubleEscaped)
 

@@ -60,7 +60,7 @@ goes_on_before [] follows = follows
 goes_on_before (c ∷ t) follows = goes_on_at (c ∷ t)
 
 abbrev pub is_text_before : List ℕ → List ℕ → Bool → Bool
-is_text_before name behind_it follows = not (ends_with nat_eq name (59 ∷ [])) && goes_on_before behind_it follows
+is_text_before name after_it follows = not (ends_with nat_eq name (59 ∷ [])) && goes_on_before after_it follows
 
 abbrev pub named_before : Bool → Option Row → List ℕ → Bool → Option Reference
 named_before in_value None cs follows = None

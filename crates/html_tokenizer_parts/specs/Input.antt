@@ -2,12 +2,12 @@
 use Rattle.std.specs.Prelude.{if◌then◌else◌, nat_eq, ◌≡◌, ◌<◌, ℕ, false, List, [], ◌∷◌, ◌++◌, length, All, Option, Some, None, IfSome, min, ◌+◌}
 use Rattle.html_queue.specs.Queue.{Queue, Takes}
 use Rattle.html_queue.specs.Set.{has}
-use Rattle.html_tokens.specs.NormalText.{newlines_behind, without_mark}
+use Rattle.html_tokens.specs.NormalText.{newlines_after, without_mark}
 use Rattle.html_tokenizer_parts.specs.declared.stream.Stream.{Stream}
 
 -- the text that comes, of these characters: without the byte order mark, each line end one line feed
 abbrev pub coming_in : Stream → List ℕ → List ℕ
-coming_in stream t = newlines_behind stream.ignore_lf (without_mark stream.discard_bom t)
+coming_in stream t = newlines_after stream.ignore_lf (without_mark stream.discard_bom t)
 
 -- a carriage return as a line feed
 abbrev pub newline_for : ℕ → ℕ
@@ -58,7 +58,7 @@ pub record MarkPassed (old new : Stream) (from to : Queue) (c : ℕ) (d : Option
 pub record NewlineMade (old new : Stream) (from to : Queue) (c : ℕ) (d : Option ℕ) : Type 0 where
   pub more : List ℕ
   pub takes : Takes more from to
-  pub front : (t : List ℕ) → newlines_behind old.ignore_lf (c ∷ more ++ t) ≡ before d (newlines_behind new.ignore_lf t)
+  pub front : (t : List ℕ) → newlines_after old.ignore_lf (c ∷ more ++ t) ≡ before d (newlines_after new.ignore_lf t)
   pub changed : new ≡ record old { ignore_lf = new.ignore_lf }
   pub last : IfSome d (λ d. newline_for (last_of (c ∷ more)) ≡ d)
 

@@ -5,7 +5,7 @@ use Rattle.html_tokens.specs.declared.states.RawKind.{RawKind}
 use Rattle.html_tokens.specs.declared.states.RawKind.TheVariants.{Rcdata, Rawtext, ScriptData, ScriptDataEscaped}
 use Rattle.html_tokens.specs.declared.states.ScriptEscapeKind.TheVariants.{Escaped, DoubleEscaped}
 use Rattle.html_tokens.specs.Characters.{ends_tag_name}
-use Rattle.html_tokens.specs.RawText.{kind_behind}
+use Rattle.html_tokens.specs.RawText.{next_kind}
 
 -- whether two words are the same up to the case of ASCII letters
 abbrev pub same_any_case : List ℕ → List ℕ → Bool
@@ -71,4 +71,4 @@ may_escape (ScriptDataEscaped DoubleEscaped) c = nat_eq c 47
 -- how a script's text goes on after a front that was told, before t
 abbrev pub kind_after : RawKind → List ℕ → List ℕ → RawKind
 kind_after kind [] t = kind
-kind_after kind (c ∷ cs) t = kind_after (kind_behind kind c (cs ++ t)) cs t
+kind_after kind (c ∷ cs) t = kind_after (next_kind kind c (cs ++ t)) cs t

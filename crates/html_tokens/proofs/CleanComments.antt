@@ -5,7 +5,7 @@ use Rattle.std.proofs.lemmas.Bool.Decides.{nat_tests}
 use Rattle.html_tokens.specs.Characters.{begins, run_by, shown}
 use Rattle.html_tokens.specs.Clean.{is_clean_in_comment, clean_comment, is_clean_comment}
 use Rattle.html_tokens.specs.Comments.{comment_end, is_odd_in_comment, comment_after, comment_at, empty_by}
-use Rattle.html_tokens.specs.Item.{Stand, behind}
+use Rattle.html_tokens.specs.Item.{Stand, longer}
 use Rattle.html_tokens.proofs.CleanTags.{IsFaultless}
 use Rattle.html_tokens.proofs.ReferenceNames.{begins-front}
 
@@ -46,7 +46,7 @@ pub begun-by : (st : Stand) (c : ℕ) (t : List ℕ) → nat_eq 62 c ≡ false �
 begun-by st c t e f = filled _ _ st (c ∷ t) (rw e refl) (rw f refl)
 
 -- a clean character is of the comment
-pub goes-on : (st : Stand) (front : List ℕ) (c : ℕ) (t : List ℕ) → is_clean_in_comment c ≡ true → comment_after st front (c ∷ t) ≡ behind (comment_after st (front ++ c ∷ []) t)
+pub goes-on : (st : Stand) (front : List ℕ) (c : ℕ) (t : List ℕ) → is_clean_in_comment c ≡ true → comment_after st front (c ∷ t) ≡ longer (comment_after st (front ++ c ∷ []) t)
 goes-on st front c t h = rw (end-none c t (no-dash c h), not-odd c h, shown-same c h) refl
 
 -- a clean character begins it

@@ -7,7 +7,7 @@ use Rattle.std.proofs.lemmas.Bool.Decides.{nat_tests}
 use Rattle.html_tokens.specs.declared.tags.Tag.{Tag}
 use Rattle.html_tokens.specs.Characters
 use Rattle.html_tokens.specs.Clean.{is_clean_in_name, clean_name, is_word_end, is_clean_name, is_named, is_clean_text, clean_value_by, is_clean_value, is_clean_attribute, is_clean_opening, clean_equals_by, is_clean_equals, ends_clean_name}
-use Rattle.html_tokens.specs.Item.{Stand, Item, Fault, and_slight_if, behind_all}
+use Rattle.html_tokens.specs.Item.{Stand, Item, Fault, and_slight_if, longer_by}
 use Rattle.html_tokens.specs.Reference.{reference_at}
 use Rattle.html_tokens.specs.Table.{Row}
 use Rattle.html_tokens.specs.Tags
@@ -18,7 +18,7 @@ abbrev pub IsFaultless : Item → Type 0
 IsFaultless i = i.fault ≡ None
 
 -- characters before an item are no fault
-pub all : (n : ℕ) (i : Item) → IsFaultless i → IsFaultless (behind_all n i)
+pub all : (n : ℕ) (i : Item) → IsFaultless i → IsFaultless (longer_by n i)
 all zero i h = h
 all (suc n) i h = all n i h
 

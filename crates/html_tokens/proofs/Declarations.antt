@@ -7,14 +7,14 @@ use Rattle.html_tokens.specs.declared.token.Token.TheVariants.{CommentToken, Doc
 use Rattle.html_tokens.specs.Characters
 use Rattle.html_tokens.specs.Comments
 use Rattle.html_tokens.specs.Doctypes
-use Rattle.html_tokens.specs.Item.{Stand, Item, behind_all}
+use Rattle.html_tokens.specs.Item.{Stand, Item, longer_by}
 
 -- what holds of an item's token and of where the reading stands after it
 abbrev pub Holds : (Option Token → Stand → Type 0) → Item → Type 0
 Holds P i = P i.token i.next
 
 -- it holds of the item after n characters more
-pub all : (P : Option Token → Stand → Type 0) (n : ℕ) (i : Item) → Holds P i → Holds P (behind_all n i)
+pub all : (P : Option Token → Stand → Type 0) (n : ℕ) (i : Item) → Holds P i → Holds P (longer_by n i)
 all P zero i h = h
 all P (suc n) i h = all P n i h
 
@@ -52,12 +52,12 @@ module _ (P : Option Token → Stand → Type 0) (Q : Stand → Type 0) (comment
   junk st p d [] = doctype st _ p
   junk st p d (c ∷ t) = junk_by (nat_eq c 62) st d (λ _. Doctypes.junk_after st d t) p (junk st p d t)
 
-  behind_system : (st : Stand) (p : Q st) (d : Doctype) (t : List ℕ) → Holds P (Doctypes.behind_system st d t)
-  behind_system st p d [] = doctype st _ p
-  behind_system st p d (c ∷ t) = junk st p d (c ∷ t)
+  doctype_end_at : (st : Stand) (p : Q st) (d : Doctype) (t : List ℕ) → Holds P (Doctypes.doctype_end_at st d t)
+  doctype_end_at st p d [] = doctype st _ p
+  doctype_end_at st p d (c ∷ t) = junk st p d (c ∷ t)
 
   after_system : (st : Stand) (p : Q st) (d : Doctype) (t : List ℕ) → Holds P (Doctypes.after_system st d t)
-  after_system st p d t = all P (Characters.white t) (Doctypes.behind_system st d (drop (Characters.white t) t)) (behind_system st p d (drop (Characters.white t) t))
+  after_system st p d t = all P (Characters.white t) (Doctypes.doctype_end_at st d (drop (Characters.white t) t)) (doctype_end_at st p d (drop (Characters.white t) t))
 
   closed_by : (b : Bool) (st : Stand) (d : Doctype) (t : List ℕ) (go : Doctype → List ℕ → Item) → Q st → Holds P (go d t) → Holds P (Doctypes.closed_by b st d t go)
   closed_by true st d t go p h = h
@@ -87,12 +87,12 @@ module _ (P : Option Token → Stand → Type 0) (Q : Stand → Type 0) (comment
   second_by Doctypes.Close st p d c t = doctype st _ p
   second_by Doctypes.Junk st p d c t = junk st p (Doctypes.forced d) (c ∷ t)
 
-  behind_public : (st : Stand) (p : Q st) (d : Doctype) (t : List ℕ) → Holds P (Doctypes.behind_public st d t)
-  behind_public st p d [] = doctype st _ p
-  behind_public st p d (c ∷ t) = second_by (Doctypes.opening c) st p d c t
+  second_identifier_at : (st : Stand) (p : Q st) (d : Doctype) (t : List ℕ) → Holds P (Doctypes.second_identifier_at st d t)
+  second_identifier_at st p d [] = doctype st _ p
+  second_identifier_at st p d (c ∷ t) = second_by (Doctypes.opening c) st p d c t
 
   after_public : (st : Stand) (p : Q st) (d : Doctype) (t : List ℕ) → Holds P (Doctypes.after_public st d t)
-  after_public st p d t = all P (Characters.white t) (Doctypes.behind_public st d (drop (Characters.white t) t)) (behind_public st p d (drop (Characters.white t) t))
+  after_public st p d t = all P (Characters.white t) (Doctypes.second_identifier_at st d (drop (Characters.white t) t)) (second_identifier_at st p d (drop (Characters.white t) t))
 
   public_after : (q : ℕ) (st : Stand) (p : Q st) (d : Doctype) (t : List ℕ) → Holds P (Doctypes.public_after q st d [] t)
   public_after q st p d t =

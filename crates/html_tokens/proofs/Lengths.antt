@@ -10,7 +10,7 @@ use Rattle.html_tokens.specs.declared.token.Doctype.{Doctype}
 use Rattle.html_tokens.specs.Characters
 use Rattle.html_tokens.specs.Comments
 use Rattle.html_tokens.specs.Doctypes
-use Rattle.html_tokens.specs.Item.{TextPlace, InData, InRaw, InPlaintext, InCdata, InTag, Stand, moved, Item, Fault, behind_all, reference_item, null_by}
+use Rattle.html_tokens.specs.Item.{TextPlace, InData, InRaw, InPlaintext, InCdata, InTag, Stand, moved, Item, Fault, longer_by, reference_item, null_by}
 use Rattle.html_tokens.specs.Items
 use Rattle.html_tokens.specs.RawText
 use Rattle.html_tokens.specs.Reference
@@ -47,13 +47,13 @@ begins_any_case-≤ [] t h = omega arith
 begins_any_case-≤ (w ∷ ws) [] h = absurd (true≢false (sym h))
 begins_any_case-≤ (w ∷ ws) (c ∷ t) h = let rest = begins_any_case-≤ ws t (begun _ (λ _. Characters.begins_any_case ws t) h) in omega arith
 
-len-behind_all : (n : ℕ) (i : Item) → (behind_all n i).len ≡ n + i.len
-len-behind_all zero i = omega arith
-len-behind_all (suc n) i = omega (arith, len-behind_all n i)
+len-longer_by : (n : ℕ) (i : Item) → (longer_by n i).len ≡ n + i.len
+len-longer_by zero i = omega arith
+len-longer_by (suc n) i = omega (arith, len-longer_by n i)
 
 -- an item after n characters more
-within-all : (n : ℕ) (i : Item) (t : List ℕ) → n ≤ length t → Within i (drop n t) → Within (behind_all n i) t
-within-all n i t h w = omega (arith, len-behind_all n i, length-drop n t)
+within-all : (n : ℕ) (i : Item) (t : List ℕ) → n ≤ length t → Within i (drop n t) → Within (longer_by n i) t
+within-all n i t h w = omega (arith, len-longer_by n i, length-drop n t)
 
 -- COMMENTS
 
@@ -111,12 +111,12 @@ junk-≤ : (st : Stand) (d : Doctype) (t : List ℕ) → Within (Doctypes.junk_a
 junk-≤ st d [] = omega arith
 junk-≤ st d (c ∷ t) = junk_by-≤ (nat_eq c 62) st d _ (length t) (junk-≤ st d t)
 
-behind_system-≤ : (st : Stand) (d : Doctype) (t : List ℕ) → Within (Doctypes.behind_system st d t) t
-behind_system-≤ st d [] = omega arith
-behind_system-≤ st d (c ∷ t) = junk-≤ st d (c ∷ t)
+doctype_end_at-≤ : (st : Stand) (d : Doctype) (t : List ℕ) → Within (Doctypes.doctype_end_at st d t) t
+doctype_end_at-≤ st d [] = omega arith
+doctype_end_at-≤ st d (c ∷ t) = junk-≤ st d (c ∷ t)
 
 after_system-≤ : (st : Stand) (d : Doctype) (t : List ℕ) → Within (Doctypes.after_system st d t) t
-after_system-≤ st d t = within-all _ _ t (white-≤ t) (behind_system-≤ st d _)
+after_system-≤ st d t = within-all _ _ t (white-≤ t) (doctype_end_at-≤ st d _)
 
 closed_by-≤ : (b : Bool) (st : Stand) (d : Doctype) (t : List ℕ) (go : Doctype → List ℕ → Item) → Within (go d t) t → (Doctypes.closed_by b st d t go).len ≤ suc (length t)
 closed_by-≤ true st d t go h = omega arith
@@ -143,12 +143,12 @@ second_by-≤ Doctypes.Quote st d c t = let h = system_after-≤ c st d [] t in 
 second_by-≤ Doctypes.Close st d c t = omega arith
 second_by-≤ Doctypes.Junk st d c t = junk-≤ st _ (c ∷ t)
 
-behind_public-≤ : (st : Stand) (d : Doctype) (t : List ℕ) → Within (Doctypes.behind_public st d t) t
-behind_public-≤ st d [] = omega arith
-behind_public-≤ st d (c ∷ t) = second_by-≤ (Doctypes.opening c) st d c t
+second_identifier_at-≤ : (st : Stand) (d : Doctype) (t : List ℕ) → Within (Doctypes.second_identifier_at st d t) t
+second_identifier_at-≤ st d [] = omega arith
+second_identifier_at-≤ st d (c ∷ t) = second_by-≤ (Doctypes.opening c) st d c t
 
 after_public-≤ : (st : Stand) (d : Doctype) (t : List ℕ) → Within (Doctypes.after_public st d t) t
-after_public-≤ st d t = within-all _ _ t (white-≤ t) (behind_public-≤ st d _)
+after_public-≤ st d t = within-all _ _ t (white-≤ t) (second_identifier_at-≤ st d _)
 
 public_after-≤ : (q : ℕ) (st : Stand) (d : Doctype) (front t : List ℕ) → Within (Doctypes.public_after q st d front t) t
 public_after-≤ q st d front t = within-all _ _ t (run-≤ _ t) (identifier_end-≤ q st _ _ _ (after_public-≤ st _))
@@ -330,8 +330,8 @@ pub record Takes (i : Item) (t : List ℕ) : Type 0 where
 one : (i : Item) (c : ℕ) (t : List ℕ) → i.len ≡ 1 → Takes i (c ∷ t)
 one i c t e = record { some = omega arith; within = omega arith }
 
-more : (n : ℕ) (i : Item) (t : List ℕ) → suc n ≤ length t → Within i (drop (suc n) t) → Takes (behind_all (suc n) i) t
-more n i t h w = record { some = omega (arith, len-behind_all (suc n) i); within = within-all (suc n) i t h w }
+more : (n : ℕ) (i : Item) (t : List ℕ) → suc n ≤ length t → Within i (drop (suc n) t) → Takes (longer_by (suc n) i) t
+more n i t h w = record { some = omega (arith, len-longer_by (suc n) i); within = within-all (suc n) i t h w }
 
 slash_by-≤ : (b : Bool) (st : Stand) (tag : Tag) (c : ℕ) (t : List ℕ) → (b ≡ true → 1 ≤ length t) → Takes (Tags.slash_by b st tag) (c ∷ t)
 slash_by-≤ true st tag c t h = let k = h refl in record { some = omega arith; within = omega arith }

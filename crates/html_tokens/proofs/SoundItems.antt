@@ -20,7 +20,7 @@ use Rattle.html_tokens.specs.declared.token.Token.TheVariants.{TagToken, Comment
 use Rattle.html_tokens.specs.Characters
 use Rattle.html_tokens.specs.Comments
 use Rattle.html_tokens.specs.Doctypes
-use Rattle.html_tokens.specs.Item.{TextPlace, InData, InRaw, InPlaintext, InCdata, InTag, Stand, moved, Item, Fault, behind_all, reference_item, null_by}
+use Rattle.html_tokens.specs.Item.{TextPlace, InData, InRaw, InPlaintext, InCdata, InTag, Stand, moved, Item, Fault, longer_by, reference_item, null_by}
 use Rattle.html_tokens.specs.Items
 use Rattle.html_tokens.specs.Laws.{is_not_null, has_no_null, are_distinct, IsSoundToken, IsSoundPlace, IsSoundItem, has_values}
 use Rattle.html_tokens.specs.RawText
@@ -44,7 +44,7 @@ doctype-sound : (st : Stand) (d : Doctype) → StandsWell st → IsSound (Some (
 doctype-sound st d p = (tt, p)
 
 -- an item after n characters more
-all : (n : ℕ) (i : Item) → IsSoundItem i → IsSoundItem (behind_all n i)
+all : (n : ℕ) (i : Item) → IsSoundItem i → IsSoundItem (longer_by n i)
 all n i h = every IsSound n i h
 
 -- REFERENCES

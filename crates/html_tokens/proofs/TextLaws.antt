@@ -8,7 +8,7 @@ use Rattle.html_tokens.specs.declared.replies.TokenSinkResult.{TokenSinkResult}
 use Rattle.html_tokens.specs.declared.replies.TokenSinkResult.TheVariants.{Continue}
 use Rattle.html_tokens.specs.declared.token.Token.{Token}
 use Rattle.html_tokens.specs.declared.token.Token.TheVariants.{CharacterTokens}
-use Rattle.html_tokens.specs.Item.{Fault, Stand, character, told}
+use Rattle.html_tokens.specs.Item.{Fault, Stand, character, clean_item}
 use Rattle.html_tokens.specs.Items.{item}
 use Rattle.html_tokens.specs.Laws.{JoinsText, is_itself, in_data}
 use Rattle.html_tokens.specs.Reading.{◌>>=◌, next_stand, line_number, line_breaks, reading, play}
@@ -55,9 +55,9 @@ module _ {S H F : Type 0} (step : S → Token → ℕ → Result (S × TokenSink
   any_line st a t breaks s sound k m = ap (λ r. r >>= λ p. reading step erred cdata ends rows st breaks p.0 t) (line_free s sound a k m)
 
   -- an item that is text
-  told_text : (st : Stand) (breaks : ℕ) (s : S) → is_sound s → (c : ℕ) (u a : List ℕ) (n l : ℕ) → item rows (cdata s) st c u ≡ told (CharacterTokens a) n st
+  emitted_text : (st : Stand) (breaks : ℕ) (s : S) → is_sound s → (c : ℕ) (u a : List ℕ) (n l : ℕ) → item rows (cdata s) st c u ≡ clean_item (CharacterTokens a) n st
       → reading step erred cdata ends rows st breaks s (c ∷ u) ≡ (step s (CharacterTokens a) l >>= λ p. reading step erred cdata ends rows st (breaks + line_breaks (take n (c ∷ u))) p.0 (drop n (c ∷ u)))
-  told_text st breaks s sound c u a n l e =
+  emitted_text st breaks s sound c u a n l e =
       let read = breaks + line_breaks (take n (c ∷ u)) in
       reading-item step erred cdata ends rows st breaks s c u
       ∙ (ap (λ i. play step erred cdata ends rows i breaks s (c ∷ u)) e
@@ -81,7 +81,7 @@ module _ {S H F : Type 0} (step : S → Token → ℕ → Result (S × TokenSink
   itself-one last breaks s sound c u l h =
       let parts = and_parts _ _ h in
       let firsts = and_parts _ _ parts.0 in
-      told_text (in_data last) breaks s sound c u (c ∷ []) 1 l (plain_item last (cdata s) c u (not-false _ firsts.0) (not-false _ firsts.1) (not-false _ parts.1))
+      emitted_text (in_data last) breaks s sound c u (c ∷ []) 1 l (plain_item last (cdata s) c u (not-false _ firsts.0) (not-false _ firsts.1) (not-false _ parts.1))
 
   pub run-one_text : (last : Option (List ℕ)) (breaks : ℕ) (s : S) → is_sound s → (c : ℕ) (front t : List ℕ) (line : ℕ) → list_all is_itself (c ∷ front) ≡ true
       → reading step erred cdata ends rows (in_data last) breaks s ((c ∷ front) ++ t) ≡ (step s (CharacterTokens (c ∷ front)) line >>= λ p. reading step erred cdata ends rows (in_data last) (breaks + line_breaks (c ∷ front)) p.0 t)

@@ -33,13 +33,13 @@ pub record Item : Type 0 where
   pub next : Stand
 
 -- the item after one character more
-abbrev pub behind : Item → Item
-behind i = record i { len = suc i.len }
+abbrev pub longer : Item → Item
+longer i = record i { len = suc i.len }
 
 -- the item after n characters more
-abbrev pub behind_all : ℕ → Item → Item
-behind_all zero i = i
-behind_all (suc n) i = behind (behind_all n i)
+abbrev pub longer_by : ℕ → Item → Item
+longer_by zero i = i
+longer_by (suc n) i = longer (longer_by n i)
 
 -- the item, with something slight in it where this is so
 abbrev pub marked : Bool → Item → Item
@@ -50,24 +50,24 @@ abbrev pub silent : ℕ → Stand → Item
 silent n st = record { token = None; fault = None; len = n; next = st }
 
 -- n characters that give a token, with this fault
-abbrev pub told_as : Option Fault → Token → ℕ → Stand → Item
-told_as fault token n st = record { token = Some token; fault = fault; len = n; next = st }
+abbrev pub token_item : Option Fault → Token → ℕ → Stand → Item
+token_item fault token n st = record { token = Some token; fault = fault; len = n; next = st }
 
 -- n characters without fault that give a token
-abbrev pub told : Token → ℕ → Stand → Item
-told token n st = told_as None token n st
+abbrev pub clean_item : Token → ℕ → Stand → Item
+clean_item token n st = token_item None token n st
 
 -- one character of text
 abbrev pub character : ℕ → Stand → Item
-character c st = told (CharacterTokens (c ∷ [])) 1 st
+character c st = clean_item (CharacterTokens (c ∷ [])) 1 st
 
 abbrev pub null_by : Bool → ℕ → Stand → Item
-null_by true c st = told_as (Some Grave) NullCharacterToken 1 st
+null_by true c st = token_item (Some Grave) NullCharacterToken 1 st
 null_by false c st = character c st
 
 -- one character of text in which U+FFFD stands for U+0000, which is a fault
 abbrev pub shown_character : ℕ → Stand → Item
-shown_character c st = told_as (grave_if (nat_eq c 0)) (CharacterTokens (shown c ∷ [])) 1 st
+shown_character c st = token_item (grave_if (nat_eq c 0)) (CharacterTokens (shown c ∷ [])) 1 st
 
 -- one character of text whose reader decides what becomes of U+0000, which is a fault
 abbrev pub character_or_null : ℕ → Stand → Item
@@ -79,8 +79,8 @@ unopened st = marked true (character 60 st)
 
 -- a reference, or "&" as text
 abbrev pub reference_item : Option Fault → Option Reference → Stand → Item
-reference_item fault None st = told_as fault (CharacterTokens (38 ∷ [])) 1 st
-reference_item fault (Some r) st = told_as fault (CharacterTokens r.chars) (suc r.len) st
+reference_item fault None st = token_item fault (CharacterTokens (38 ∷ [])) 1 st
+reference_item fault (Some r) st = token_item fault (CharacterTokens r.chars) (suc r.len) st
 
 -- whether text of this kind is a script's, after "<!--"
 abbrev pub is_escaped_kind : RawKind → Bool

@@ -5,17 +5,17 @@ use Rattle.html_tokens.specs.declared.tags.TagKind.TheVariants.{StartTag, EndTag
 use Rattle.html_tokens.specs.Characters.{begins, begins_any_case}
 use Rattle.html_tokens.specs.Table.{Row}
 use Rattle.html_tokens.specs.Reference.{reference_at, fault_of_reference}
-use Rattle.html_tokens.specs.Item.{TextPlace, InData, InRaw, InPlaintext, InCdata, InTag, Stand, moved, Item, Grave, behind, behind_all, silent, unopened, shown_character, character_or_null, reference_item}
+use Rattle.html_tokens.specs.Item.{TextPlace, InData, InRaw, InPlaintext, InCdata, InTag, Stand, moved, Item, Grave, longer, longer_by, silent, unopened, shown_character, character_or_null, reference_item}
 use Rattle.html_tokens.specs.Comments.{comment_at, bogus_comment_after}
 use Rattle.html_tokens.specs.Doctypes.{doctype_at}
 use Rattle.html_tokens.specs.Tags.{named, name_after, tag_at}
 use Rattle.html_tokens.specs.RawText.{raw_at}
 
 abbrev pub declaration_by : Bool → Bool → Bool → Stand → List ℕ → Item
-declaration_by true d s st t = behind_all 4 (comment_at st (drop 2 t))
-declaration_by false true s st t = behind_all 9 (doctype_at st (drop 7 t))
+declaration_by true d s st t = longer_by 4 (comment_at st (drop 2 t))
+declaration_by false true s st t = longer_by 9 (doctype_at st (drop 7 t))
 declaration_by false false true st t = silent 9 (moved st InCdata)
-declaration_by false false false st t = behind_all 2 (bogus_comment_after st [] t)
+declaration_by false false false st t = longer_by 2 (bogus_comment_after st [] t)
 
 -- after "<!": a comment, a doctype, a CDATA section where the sink says so, or a bogus comment (section 13.2.5.42)
 abbrev pub declaration_at : Bool → Stand → List ℕ → Item
@@ -40,12 +40,12 @@ opening c =
     else Other
 
 abbrev pub end_by : Opening → Stand → ℕ → List ℕ → Item
-end_by Letter st c t = behind_all 2 (name_after st (named EndTag []) (c ∷ t))
+end_by Letter st c t = longer_by 2 (name_after st (named EndTag []) (c ∷ t))
 end_by Close st c t = record (silent 3 st) { fault = Some Grave }
-end_by Slash st c t = behind_all 2 (bogus_comment_after st [] (c ∷ t))
-end_by Mark st c t = behind_all 2 (bogus_comment_after st [] (c ∷ t))
-end_by Question st c t = behind_all 2 (bogus_comment_after st [] (c ∷ t))
-end_by Other st c t = behind_all 2 (bogus_comment_after st [] (c ∷ t))
+end_by Slash st c t = longer_by 2 (bogus_comment_after st [] (c ∷ t))
+end_by Mark st c t = longer_by 2 (bogus_comment_after st [] (c ∷ t))
+end_by Question st c t = longer_by 2 (bogus_comment_after st [] (c ∷ t))
+end_by Other st c t = longer_by 2 (bogus_comment_after st [] (c ∷ t))
 
 -- after "</"; "</>" gives nothing and is a fault (section 13.2.5.7)
 abbrev pub end_at : Stand → List ℕ → Item
@@ -53,10 +53,10 @@ end_at st [] = unopened st
 end_at st (c ∷ t) = end_by (opening c) st c t
 
 abbrev pub open_by : Opening → Bool → Stand → ℕ → List ℕ → Item
-open_by Letter cdata st c t = behind (name_after st (named StartTag []) (c ∷ t))
+open_by Letter cdata st c t = longer (name_after st (named StartTag []) (c ∷ t))
 open_by Slash cdata st c t = end_at st t
 open_by Mark cdata st c t = declaration_at cdata st t
-open_by Question cdata st c t = behind (bogus_comment_after st [] (c ∷ t))
+open_by Question cdata st c t = longer (bogus_comment_after st [] (c ∷ t))
 open_by Close cdata st c t = unopened st
 open_by Other cdata st c t = unopened st
 

@@ -13,7 +13,7 @@ use Rattle.html_tokens.specs.Item.{Fault, TextPlace, InData, InRaw, InPlaintext,
 use Rattle.html_tokens.specs.Items.{item}
 use Rattle.html_tokens.specs.Clean.{is_clean_reading}
 use Rattle.html_tokens.specs.Notes.{Notes, noted_reading, owed, is_quiet_reading, without_notes}
-use Rattle.html_tokens.specs.NormalText.{newlines_behind}
+use Rattle.html_tokens.specs.NormalText.{newlines_after}
 use Rattle.html_tokens.specs.Reading.{◌>>=◌, reading, reading_from, play, line_breaks}
 use Rattle.html_tokens.specs.Reference.{reference_at}
 use Rattle.html_tokens.specs.Table.{Row, values}
@@ -43,12 +43,12 @@ ends_in_return cr (c ∷ t) = ends_in_return (nat_eq c 13) t
 
 -- a text in two pieces has the line breaks of the whole, also where it is cut between CR and LF
 abbrev pub AreNewlinesJoined : Type 0
-AreNewlinesJoined = (cr : Bool) (a b : List ℕ) → newlines_behind cr (a ++ b) ≡ newlines_behind cr a ++ newlines_behind (ends_in_return cr a) b
+AreNewlinesJoined = (cr : Bool) (a b : List ℕ) → newlines_after cr (a ++ b) ≡ newlines_after cr a ++ newlines_after (ends_in_return cr a) b
 
 -- the normalised text of pieces, each after the carriage return that the pieces before it end in
 abbrev pub newlines_of_pieces : Bool → List (List ℕ) → List ℕ
 newlines_of_pieces cr [] = []
-newlines_of_pieces cr (piece ∷ pieces) = newlines_behind cr piece ++ newlines_of_pieces (ends_in_return cr piece) pieces
+newlines_of_pieces cr (piece ∷ pieces) = newlines_after cr piece ++ newlines_of_pieces (ends_in_return cr piece) pieces
 
 abbrev pub flatten : List (List ℕ) → List ℕ
 flatten [] = []
@@ -104,7 +104,7 @@ is_not_null c = not (nat_eq c 0)
 
 -- text without a carriage return is its own normalised text
 abbrev pub IsOwnNormalText : Type 0
-IsOwnNormalText = (t : List ℕ) → list_all (λ c. not (nat_eq c 13)) t ≡ true → newlines_behind false t ≡ t
+IsOwnNormalText = (t : List ℕ) → list_all (λ c. not (nat_eq c 13)) t ≡ true → newlines_after false t ≡ t
 
 abbrev pub has_no_null : List ℕ → Bool
 has_no_null cs = list_all is_not_null cs

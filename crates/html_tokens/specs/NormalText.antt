@@ -7,12 +7,12 @@ newline_by false true c go = go false
 newline_by false false c go = c ∷ go false
 
 -- a text after a carriage return, or after none: CR LF and CR are one LF each
-abbrev pub newlines_behind : Bool → List ℕ → List ℕ
-newlines_behind cr [] = []
-newlines_behind cr (c ∷ t) = newline_by (nat_eq c 13) (cr && nat_eq c 10) c (λ b. newlines_behind b t)
+abbrev pub newlines_after : Bool → List ℕ → List ℕ
+newlines_after cr [] = []
+newlines_after cr (c ∷ t) = newline_by (nat_eq c 13) (cr && nat_eq c 10) c (λ b. newlines_after b t)
 
 abbrev pub newlines : List ℕ → List ℕ
-newlines t = newlines_behind false t
+newlines t = newlines_after false t
 
 abbrev pub without_mark_by : Bool → ℕ → List ℕ → List ℕ
 without_mark_by true c t = t

@@ -9,7 +9,7 @@ use Rattle.html_tokens.specs.declared.tags.TagKind.TheVariants.{EndTag}
 use Rattle.html_tokens.specs.Characters.{begins, begins_name}
 use Rattle.html_tokens.specs.Table.{Row}
 use Rattle.html_tokens.specs.Reference.{reference_at, fault_of_reference}
-use Rattle.html_tokens.specs.Item.{InRaw, Stand, moved, Item, behind, shown_character, reference_item}
+use Rattle.html_tokens.specs.Item.{InRaw, Stand, moved, Item, longer, shown_character, reference_item}
 use Rattle.html_tokens.specs.Tags.{named, name_after}
 
 -- one or more ASCII letters
@@ -42,23 +42,23 @@ has_references (ScriptDataEscaped kind) = false
 
 -- how a script's text goes on after a character:
 -- "<!--" escapes it, "<script" in escaped text escapes it twice, "</script" there takes the second back, and "-->" takes back both
-abbrev pub kind_behind : RawKind → ℕ → List ℕ → RawKind
-kind_behind Rcdata c t = Rcdata
-kind_behind Rawtext c t = Rawtext
-kind_behind ScriptData c t = if nat_eq c 60 && begins (codes "!--") t then ScriptDataEscaped Escaped else ScriptData
-kind_behind (ScriptDataEscaped Escaped) c t =
+abbrev pub next_kind : RawKind → ℕ → List ℕ → RawKind
+next_kind Rcdata c t = Rcdata
+next_kind Rawtext c t = Rawtext
+next_kind ScriptData c t = if nat_eq c 60 && begins (codes "!--") t then ScriptDataEscaped Escaped else ScriptData
+next_kind (ScriptDataEscaped Escaped) c t =
     if nat_eq c 60 && begins_name (codes "script") t then ScriptDataEscaped DoubleEscaped
     else if nat_eq c 45 && begins (codes "->") t then ScriptData
     else ScriptDataEscaped Escaped
-kind_behind (ScriptDataEscaped DoubleEscaped) c t =
+next_kind (ScriptDataEscaped DoubleEscaped) c t =
     if nat_eq c 60 && begins_name (codes "/script") t then ScriptDataEscaped Escaped
     else if nat_eq c 45 && begins (codes "->") t then ScriptData
     else ScriptDataEscaped DoubleEscaped
 
 abbrev pub raw_by : Bool → Bool → List Row → Stand → RawKind → ℕ → List ℕ → Item
-raw_by true amp rows st kind c t = behind (behind (name_after st (named EndTag []) (drop 1 t)))
+raw_by true amp rows st kind c t = longer (longer (name_after st (named EndTag []) (drop 1 t)))
 raw_by false true rows st kind c t = reference_item (fault_of_reference rows t) (reference_at false rows t) st
-raw_by false false rows st kind c t = shown_character c (moved st (InRaw (kind_behind kind c t)))
+raw_by false false rows st kind c t = shown_character c (moved st (InRaw (next_kind kind c t)))
 
 -- the item at the front of raw text
 abbrev pub raw_at : List Row → Stand → RawKind → ℕ → List ℕ → Item

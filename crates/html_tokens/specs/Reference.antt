@@ -35,13 +35,13 @@ numbered n = if is_no_character n then 0xFFFD else replaced n replacements
 abbrev pub digit : ℕ → ℕ
 digit c = if nat_lt c 65 then c - 48 else if nat_lt c 97 then c - 55 else c - 87
 
-abbrev pub number_behind : ℕ → ℕ → List ℕ → ℕ
-number_behind base n [] = n
-number_behind base n (c ∷ t) = number_behind base (n * base + digit c) t
+abbrev pub number_after : ℕ → ℕ → List ℕ → ℕ
+number_after base n [] = n
+number_after base n (c ∷ t) = number_after base (n * base + digit c) t
 
 -- the number that digits write
 abbrev pub number : ℕ → List ℕ → ℕ
-number base digits = number_behind base 0 digits
+number base digits = number_after base 0 digits
 
 -- how many characters a ";" takes where it stands
 abbrev pub semicolon : List ℕ → ℕ
@@ -96,7 +96,7 @@ goes_on_at (c ∷ t) = nat_eq c 61 || is_ascii_alphanumeric c
 
 -- whether a name in an attribute's value is text there: it has no ";" and goes on
 abbrev pub is_text_in_value : List ℕ → List ℕ → Bool
-is_text_in_value name behind_it = not (ends_with nat_eq name (59 ∷ [])) && goes_on_at behind_it
+is_text_in_value name after_it = not (ends_with nat_eq name (59 ∷ [])) && goes_on_at after_it
 
 abbrev pub named_by : Bool → Row → Option Reference
 named_by true row = None

@@ -32,9 +32,9 @@ longest [] t = None
 longest (row ∷ rows) t = longer_of (fitting (begins row.name t) row) (longest rows t)
 
 -- whether a name goes on after what is held
-abbrev pub goes_on_behind : List ℕ → List ℕ → Bool
-goes_on_behind held name = starts_with nat_eq name held && nat_lt (length held) (length name)
+abbrev pub goes_on_after : List ℕ → List ℕ → Bool
+goes_on_after held name = starts_with nat_eq name held && nat_lt (length held) (length name)
 
 -- whether some name of the table goes on after what is held
 abbrev pub goes_on : List Row → List ℕ → Bool
-goes_on rows held = list_any (λ row. goes_on_behind held row.name) rows
+goes_on rows held = list_any (λ row. goes_on_after held row.name) rows

@@ -10,7 +10,7 @@ use Rattle.html_tokens.specs.declared.token.Token.TheVariants.{TagToken}
 use Rattle.html_tokens.specs.Characters.{is_white_space, ends_tag_name, ends_attribute_name, ends_word, shown, is_null, has_null, lowered, all_lowered, run, white, begins}
 use Rattle.html_tokens.specs.Table.{Row}
 use Rattle.html_tokens.specs.Reference.{Reference, reference_at, fault_of_reference}
-use Rattle.html_tokens.specs.Item.{InData, InTag, Stand, moved, Item, behind, behind_all, marked, silent, told_as, grave_if}
+use Rattle.html_tokens.specs.Item.{InData, InTag, Stand, moved, Item, longer, longer_by, marked, silent, token_item, grave_if}
 
 abbrev pub named : TagKind → List ℕ → Tag
 named kind name = record { kind = kind; name = name; self_closing = false; attrs = []; had_duplicate_attributes = false }
@@ -106,7 +106,7 @@ abbrev pub opening : ℕ → Opening
 opening c = if nat_eq c 34 || nat_eq c 39 then Quote else if nat_eq c 62 then Close else Other
 
 abbrev pub opened_by : Opening → List Row → Stand → Tag → List ℕ → ℕ → List ℕ → Item
-opened_by Quote rows st tag name c t = behind (quoted_after rows c st tag name [] t)
+opened_by Quote rows st tag name c t = longer (quoted_after rows c st tag name [] t)
 opened_by Close rows st tag name c t = marked true (no_value st tag name)
 opened_by Other rows st tag name c t = unquoted_after rows st tag name [] (c ∷ t)
 
@@ -116,10 +116,10 @@ opened_at rows st tag name (c ∷ t) = opened_by (opening c) rows st tag name c 
 
 -- after "=" (section 13.2.5.35)
 abbrev pub value_at : List Row → Stand → Tag → List ℕ → List ℕ → Item
-value_at rows st tag name t = behind_all (white t) (opened_at rows st tag name (drop (white t) t))
+value_at rows st tag name t = longer_by (white t) (opened_at rows st tag name (drop (white t) t))
 
 abbrev pub equals_by : Bool → List Row → Stand → Tag → List ℕ → List ℕ → Item
-equals_by true rows st tag name t = behind_all (suc (white t)) (value_at rows st tag name (drop (suc (white t)) t))
+equals_by true rows st tag name t = longer_by (suc (white t)) (value_at rows st tag name (drop (suc (white t)) t))
 equals_by false rows st tag name t = no_value st tag name
 
 -- after an attribute's name: "=" brings a value, also after white space (section 13.2.5.34)
@@ -138,7 +138,7 @@ is_odd_first c = nat_eq c 61 || is_odd_in_name c
 abbrev pub attribute_after : List Row → Stand → Tag → List ℕ → List ℕ → Item
 attribute_after rows st tag front t =
     let n = run ends_attribute_name t in
-    marked (list_any is_odd_in_name (take n t)) (behind_all n (equals_at rows st tag (front ++ all_lowered (take n t)) (drop n t)))
+    marked (list_any is_odd_in_name (take n t)) (longer_by n (equals_at rows st tag (front ++ all_lowered (take n t)) (drop n t)))
 
 -- the name that a tag leaves as that of the last start tag: a start tag its own
 abbrev pub own_name : TagKind → List ℕ → Option (List ℕ)
@@ -154,8 +154,8 @@ abbrev pub last_name : TagKind → List ℕ → Option (List ℕ) → Option (Li
 last_name kind name last = or_last (own_name kind name) last
 
 -- where a reading stands after a tag, if the sink names no other text
-abbrev pub behind_tag : Stand → Tag → Stand
-behind_tag st tag = record { place = InData; last_start_tag = last_name tag.kind tag.name st.last_start_tag }
+abbrev pub after_tag : Stand → Tag → Stand
+after_tag st tag = record { place = InData; last_start_tag = last_name tag.kind tag.name st.last_start_tag }
 
 abbrev pub is_empty : {A : Type 0} → List A → Bool
 is_empty [] = true
@@ -170,7 +170,7 @@ abbrev pub is_faulty_tag : Tag → Bool
 is_faulty_tag tag = tag.had_duplicate_attributes || is_faulty_end tag.kind tag
 
 abbrev pub tag_end : Stand → Tag → ℕ → Item
-tag_end st tag n = told_as (grave_if (is_faulty_tag tag)) (TagToken tag) n (behind_tag st tag)
+tag_end st tag n = token_item (grave_if (is_faulty_tag tag)) (TagToken tag) n (after_tag st tag)
 
 abbrev pub slash_by : Bool → Stand → Tag → Item
 slash_by true st tag = tag_end st (record tag { self_closing = true }) 2
@@ -190,7 +190,7 @@ abbrev pub tag_by : Part → List Row → Stand → Tag → ℕ → List ℕ →
 tag_by Space rows st tag c t = silent 1 (moved st (InTag tag))
 tag_by Solidus rows st tag c t = slash_by (begins (codes ">") t) st tag
 tag_by End rows st tag c t = tag_end st tag 1
-tag_by Attributes rows st tag c t = marked (is_odd_first c) (behind (attribute_after rows st tag (lowered c ∷ []) t))
+tag_by Attributes rows st tag c t = marked (is_odd_first c) (longer (attribute_after rows st tag (lowered c ∷ []) t))
 
 -- after a tag's name (sections 13.2.5.32, 13.2.5.39 and 13.2.5.40)
 abbrev pub tag_at : List Row → Stand → Tag → ℕ → List ℕ → Item

@@ -18,7 +18,7 @@ pub fn readings_go_by_items<S: TokenSink>()
 {}
 
 /// After an item a reading goes on as for what is left of the text.
-pub fn readings_go_on_behind_items<S: TokenSink>()
+pub fn readings_go_on_after_items<S: TokenSink>()
     ensures { IsSkipped S.step S.asks_cdata S.ended }
 {}
 

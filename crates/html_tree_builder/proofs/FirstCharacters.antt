@@ -5,7 +5,7 @@ use Rattle.std.specs.Str.{IsCharBoundary, IsUtf8, chars}
 use Rattle.std.specs.Char.{len_utf8}
 use Rattle.std.proofs.Math.Seq.{take-append_seam}
 use Rattle.std.proofs.lemmas.Str.{IsUtf8-take, chars-nil, chars_past_char, encodes-chars, length-encode}
-use Rattle.html_rules.specs.Step.{behind_line_feed}
+use Rattle.html_rules.specs.Step.{after_line_feed}
 use Rattle.html_names.proofs.FirstBytes.{BeginsWith-ascii, begins-other, no-text, past-first}
 use Rattle.html_tree_builder.specs.Texts.{IsSplit}
 
@@ -25,16 +25,16 @@ split-first bs one left rest c n u e m o l =
       shorter = past.2.shorter;
     })
 
-pub line_feed-none : (bs : List ℕ) → length bs ≡ 0 → chars bs ≡ behind_line_feed true (chars bs)
+pub line_feed-none : (bs : List ℕ) → length bs ≡ 0 → chars bs ≡ after_line_feed true (chars bs)
 line_feed-none bs h = rw (no-text bs h) refl
 
-pub line_feed-dropped : (bs : List ℕ) → IsUtf8 bs → 0 < length bs → get_or bs 0 0 ≡ 10 → chars (drop 1 bs) ≡ behind_line_feed true (chars bs)
+pub line_feed-dropped : (bs : List ℕ) → IsUtf8 bs → 0 < length bs → get_or bs 0 0 ≡ 10 → chars (drop 1 bs) ≡ after_line_feed true (chars bs)
 line_feed-dropped bs u l e =
     let low : get_or bs 0 0 < 128 = omega arith in
     let is = BeginsWith-ascii bs u l low in
     rw (is.characters, e) refl
 
-pub line_feed-other : (bs : List ℕ) → IsUtf8 bs → 0 < length bs → (get_or bs 0 0 ≡ 10 → ⊥) → chars bs ≡ behind_line_feed true (chars bs)
+pub line_feed-other : (bs : List ℕ) → IsUtf8 bs → 0 < length bs → (get_or bs 0 0 ≡ 10 → ⊥) → chars bs ≡ after_line_feed true (chars bs)
 line_feed-other bs u l h =
     let small : 10 < 128 = omega arith in
     let is = begins-other bs u l 10 small h in

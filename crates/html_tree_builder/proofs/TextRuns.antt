@@ -17,7 +17,7 @@ use Rattle.html_rules.specs.Places.{append_text, insert_element, insert_element_
 use Rattle.html_rules.specs.Rules.{Finished, Settled, four_for_each, most_modes, rows, settle, settled_by, turn, turn_of, using_rules_for, within}
 use Rattle.html_rules.specs.Stack.{is_open}
 use Rattle.html_rules.specs.State.{Open, Entry, Element, Marker, State, adjusted_by, adjusted_current_node, current_node, is_in}
-use Rattle.html_rules.specs.Step.{behind, text_taken}
+use Rattle.html_rules.specs.Step.{followed_by, text_taken}
 use Rattle.html_rules.specs.Table.{Reconstruct}
 use Rattle.html_rules.specs.Tokens.{is_white}
 use Rattle.html_rules.specs.declared.insertion_mode.InsertionMode as modes
@@ -327,7 +327,7 @@ taken-by run c (d ∷ ds) before is h =
     let s : State = before.state in
     let r : State = act (run_action run) one s in
     let same : (settle one s).state ≡ r = run-settled run (c ∷ []) s is in
-    taken-by run d ds (behind before (settle one s)) (subst (IsRun run) (sym same) (stays-Run run (c ∷ []) s is)) (subst Standing (sym same) (actions-Standing.plain (run_action run) (run-plain run) one s h))
+    taken-by run d ds (followed_by before (settle one s)) (subst (IsRun run) (sym same) (stays-Run run (c ∷ []) s is)) (subst Standing (sym same) (actions-Standing.plain (run_action run) (run-plain run) one s h))
     ∙ ap (act (run_action run) (CharacterTokens (d ∷ ds))) same
     ∙ run-twice run (c ∷ []) (d ∷ ds) s (run-foster run s is) h
 

@@ -7,7 +7,7 @@ use Rattle.html_tokens.specs.declared.token.Token.TheVariants.{CharacterTokens}
 use Rattle.html_rules.specs.Actions.{act, set_ignore_lf}
 use Rattle.html_rules.specs.Rules.{Settled, settle}
 use Rattle.html_rules.specs.State.{Answers, State}
-use Rattle.html_rules.specs.Step.{behind, behind_line_feed, taken, text_taken, untouched}
+use Rattle.html_rules.specs.Step.{followed_by, after_line_feed, taken, text_taken, untouched}
 use Rattle.html_tokens.specs.declared.replies.TokenSinkResult.TheVariants.{Continue}
 use Rattle.html_rules_laws.proofs.Replies.{taken-well}
 use Rattle.html_names.proofs.FirstBytes.{no-text}
@@ -30,13 +30,13 @@ usable-stands a b f h going = record { standing = h.steady.upright.standing; hea
 text-state : (text : List ℕ) (x y : Settled) → x.state ≡ y.state → (text_taken text x).state ≡ (text_taken text y).state
 text-state [] x y e = e
 text-state (c ∷ cs) x y e =
-    text-state cs (behind x (settle (CharacterTokens (c ∷ [])) x.state)) (behind y (settle (CharacterTokens (c ∷ [])) y.state)) (ap (λ s. (settle (CharacterTokens (c ∷ [])) s).state) e)
+    text-state cs (followed_by x (settle (CharacterTokens (c ∷ [])) x.state)) (followed_by y (settle (CharacterTokens (c ∷ [])) y.state)) (ap (λ s. (settle (CharacterTokens (c ∷ [])) s).state) e)
 
 -- after its first character the text goes on
 pub next-character : (whole one rest : List ℕ) (s r : State) → IsSplit whole one rest → r ≡ (settle (CharacterTokens (chars one)) s).state → (text_taken (chars rest) (untouched r)).state ≡ (text_taken (chars whole) (untouched s)).state
 next-character whole one rest s r is e =
     let same : r ≡ (settle (CharacterTokens (is.first ∷ [])) s).state = rw is.character at e in
-    rw is.characters (text-state (chars rest) (untouched r) (behind (untouched s) (settle (CharacterTokens (is.first ∷ [])) s)) same)
+    rw is.characters (text-state (chars rest) (untouched r) (followed_by (untouched s) (settle (CharacterTokens (is.first ∷ [])) s)) same)
 
 -- a run is taken at once
 pub run-taken : (whole one rest : List ℕ) (run : Run) (s r : State) → IsSplit whole one rest → Some run ≡ run_of s → Usable s → r ≡ act (run_action run) (CharacterTokens (chars whole)) s → r ≡ (text_taken (chars whole) (untouched s)).state
@@ -65,13 +65,13 @@ unlined-open s r e = ap (λ x. x.open_elems) e
 pub no-characters : (text : List ℕ) (s : State) → length text ≡ 0 → s ≡ (came_of (CharacterTokens (chars text)) s).state
 no-characters text s e = rw (no-text text e) refl
 
-pub characters-taken : (text rest : List ℕ) (lf : Bool) (s u r : State) → IsUtf8 text → 0 < length text → lf ≡ s.ignore_lf → u ≡ set_ignore_lf false s → chars rest ≡ behind_line_feed lf (chars text) → r ≡ (text_taken (chars rest) (untouched u)).state
+pub characters-taken : (text rest : List ℕ) (lf : Bool) (s u r : State) → IsUtf8 text → 0 < length text → lf ≡ s.ignore_lf → u ≡ set_ignore_lf false s → chars rest ≡ after_line_feed lf (chars text) → r ≡ (text_taken (chars rest) (untouched u)).state
     → r ≡ (came_of (CharacterTokens (chars text)) s).state
 unfolding taken
 characters-taken text rest lf s u r utf8 some same unlined behind is =
     let first = some-character text utf8 some in
-    let left : chars rest ≡ behind_line_feed s.ignore_lf (first.0 ∷ first.1) = behind ∙ ap (λ b. behind_line_feed b (chars text)) same ∙ ap (behind_line_feed s.ignore_lf) first.2 in
-    rw first.2 (is ∙ ap (λ cs. (text_taken cs (untouched u)).state) left ∙ ap (λ x. (text_taken (behind_line_feed s.ignore_lf (first.0 ∷ first.1)) (untouched x)).state) unlined)
+    let left : chars rest ≡ after_line_feed s.ignore_lf (first.0 ∷ first.1) = behind ∙ ap (λ b. after_line_feed b (chars text)) same ∙ ap (after_line_feed s.ignore_lf) first.2 in
+    rw first.2 (is ∙ ap (λ cs. (text_taken cs (untouched u)).state) left ∙ ap (λ x. (text_taken (after_line_feed s.ignore_lf (first.0 ∷ first.1)) (untouched x)).state) unlined)
 
 -- a text that is not empty is taken at once where it is a run and no line feed is dropped
 
@@ -87,7 +87,7 @@ own-run-taken (c ∷ cs) run s r some lf found h e =
     e
     ∙ sym (text-run run c cs (untouched s) (sym found) h.steady.upright.standing)
     ∙ ap (λ x. (text_taken (c ∷ cs) (untouched x)).state) (sym (unlined-same s lf))
-    ∙ ap (λ b. (text_taken (behind_line_feed b (c ∷ cs)) (untouched (set_ignore_lf false s))).state) (sym lf)
+    ∙ ap (λ b. (text_taken (after_line_feed b (c ∷ cs)) (untouched (set_ignore_lf false s))).state) (sym lf)
 
 pub no-text-taken : (text : List ℕ) (s : State) → length text ≡ 0 → s ≡ (came_of (CharacterTokens text) s).state
 no-text-taken [] s e = refl
@@ -101,13 +101,13 @@ characters-continue (c ∷ cs) s = sym (taken-well (CharacterTokens (c ∷ cs)) 
 
 text_taken-append : (a b : List ℕ) (x : Settled) → text_taken (a ++ b) x ≡ text_taken b (text_taken a x)
 text_taken-append [] b x = refl
-text_taken-append (c ∷ cs) b x = text_taken-append cs b (behind x (settle (CharacterTokens (c ∷ [])) x.state))
+text_taken-append (c ∷ cs) b x = text_taken-append cs b (followed_by x (settle (CharacterTokens (c ∷ [])) x.state))
 
 texts-usable : (text : List ℕ) (x : Settled) → Usable x.state → x.state.has_ended ≡ false → Usable (text_taken text x).state × ((text_taken text x).state.has_ended ≡ false)
 texts-usable [] x h going = (h, going)
 texts-usable (c ∷ cs) x h going =
     let one : Token = CharacterTokens (c ∷ []) in
-    texts-usable cs (behind x (settle one x.state)) (settled-usable one x.state h going) (settled-going one x.state going)
+    texts-usable cs (followed_by x (settle one x.state)) (settled-usable one x.state h going) (settled-going one x.state going)
 
 -- after white space that is a run
 pub white-left : (whole white rest : List ℕ) (run : Run) (s r : State) → HasWhiteFront whole white rest → false ≡ nat_eq (length white) 0 → Some run ≡ white_run_of s → Usable s → s.has_ended ≡ false → r ≡ act (run_action run) (CharacterTokens white) s

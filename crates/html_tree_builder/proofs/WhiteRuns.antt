@@ -13,7 +13,7 @@ use Rattle.html_rules.specs.Formatting.{reconstruct_active_formatting_elements}
 use Rattle.html_rules.specs.Places.{append_text}
 use Rattle.html_rules.specs.Rules.{Finished, Settled, most_modes, rows, settle, turn, turn_of, using_rules_for}
 use Rattle.html_rules.specs.State.{Open, State, adjusted_current_node}
-use Rattle.html_rules.specs.Step.{behind, text_taken}
+use Rattle.html_rules.specs.Step.{followed_by, text_taken}
 use Rattle.html_rules.specs.Tokens.{is_white}
 use Rattle.html_rules.specs.declared.insertion_mode.InsertionMode as modes
 use Rattle.html_rules.specs.declared.insertion_mode.InsertionMode.TheVariants as mode
@@ -173,7 +173,7 @@ taken-by run c (d ∷ ds) before w is h =
     let parts = and_parts (is_space c) (is_white (d ∷ ds)) w in
     let alone : is_white (c ∷ []) ≡ true = ap (λ b. b && true) parts.0 in
     let same : (settle one s).state ≡ r = run-settled run (c ∷ []) s is alone in
-    taken-by run d ds (behind before (settle one s)) parts.1 (subst (IsWhiteRun run) (sym same) (stays-Run run (c ∷ []) s is)) (subst Standing (sym same) (actions-Standing.plain (run_action run) (run-plain run) one s h))
+    taken-by run d ds (followed_by before (settle one s)) parts.1 (subst (IsWhiteRun run) (sym same) (stays-Run run (c ∷ []) s is)) (subst Standing (sym same) (actions-Standing.plain (run_action run) (run-plain run) one s h))
     ∙ ap (act (run_action run) (CharacterTokens (d ∷ ds))) same
     ∙ run-twice run (c ∷ []) (d ∷ ds) s (run-foster run s is) h
 

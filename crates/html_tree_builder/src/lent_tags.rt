@@ -32,7 +32,7 @@ impl<Sink: TreeSink> TreeBuilder<Sink> {
     /// Takes a tag that nothing stands against. Where memory is wanting the builder has failed.
     #[tactic(auto, unfolding(html_rules::specs::Step::taken))]
     #[inline(always)]
-    fn take_tag_or_fail(
+    fn process_tag_or_fail(
         &mut self,
         tag: &mut Tag,
         line: u64,
@@ -49,7 +49,7 @@ impl<Sink: TreeSink> TreeBuilder<Sink> {
         self.report_line(line);
         match self
             .construction
-            .take_tag(&mut self.sink, tag, &mut self.turns)
+            .process_tag(&mut self.sink, tag, &mut self.turns)
         {
             Ok(reply) => Ok(reply),
             Err(fault) => {
@@ -61,7 +61,7 @@ impl<Sink: TreeSink> TreeBuilder<Sink> {
 
     /// Takes a tag, unless something stands against it.
     #[inline(always)]
-    pub(crate) fn take_lent_tag(
+    pub(crate) fn process_lent_tag(
         &mut self,
         tag: &mut Tag,
         line_number: u64,
@@ -86,6 +86,6 @@ impl<Sink: TreeSink> TreeBuilder<Sink> {
         if self.construction.bars_tag(tag) {
             return Err(ParseFault::TokenInText);
         }
-        self.take_tag_or_fail(tag, line_number)
+        self.process_tag_or_fail(tag, line_number)
     }
 }

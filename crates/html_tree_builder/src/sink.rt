@@ -106,7 +106,7 @@ impl<Sink: TreeSink> TreeBuilder<Sink> {
         self.report_line(line);
         match self
             .construction
-            .take(&mut self.sink, token, &mut self.turns)
+            .process(&mut self.sink, token, &mut self.turns)
         {
             Ok(reply) => Ok(reply),
             Err(fault) => {
@@ -118,7 +118,7 @@ impl<Sink: TreeSink> TreeBuilder<Sink> {
 
     /// Takes a token, unless something stands against it.
     #[inline(always)]
-    fn take_token(
+    fn process_lent_token(
         &mut self,
         token: &mut Token,
         line_number: u64,
@@ -199,7 +199,7 @@ impl<Sink: TreeSink> TokenSink for TreeBuilder<Sink> {
         ensures most { self.new.turns.count ≤ self.old.turns.count + most_turns self.old.construction.stack.open_elems }
     {
         let mut token = token;
-        self.take_token(&mut token, line_number)
+        self.process_lent_token(&mut token, line_number)
     }
 
     #[inline(always)]
@@ -219,7 +219,7 @@ impl<Sink: TreeSink> TokenSink for TreeBuilder<Sink> {
         ensures counted { OnOk result (self.new.turns.count ≡ self.old.turns.count + turns_of (TagToken tag.old) (built Sink.TreeSink self.old.construction (Sink.forest self.old.sink))) }
         ensures most { self.new.turns.count ≤ self.old.turns.count + most_turns self.old.construction.stack.open_elems }
     {
-        self.take_lent_tag(tag, line_number)
+        self.process_lent_tag(tag, line_number)
     }
 
     fn end(&mut self) {

@@ -19,7 +19,7 @@ ghost use Rattle.html_tree_builder.specs.Turns.{most_turns, turns_of};
 
 use crate::construction::Construction;
 use crate::errors;
-use crate::texts::{behind_line_feed, split_first};
+use crate::texts::{after_line_feed, split_first};
 use crate::told::{Content, NamedToken};
 use html_names::{ElementClass, doctype_error_and_quirks};
 use html_rules::InsertionMode;
@@ -58,7 +58,7 @@ impl<'a> NamedToken<'a> {
 
 impl<Sink: TreeSink> Construction<Sink> {
     /// What a token comes to.
-    fn settle_told(
+    fn settle_named(
         &mut self,
         sink: &mut Sink,
         told: &NamedToken<'_>,
@@ -89,7 +89,7 @@ impl<Sink: TreeSink> Construction<Sink> {
     {
         let name = LocalName::empty(self.alloc);
         let told = NamedToken::of(Content::Characters(character), &name);
-        drop(self.settle_told(sink, &told, &mut Count::new())?);
+        drop(self.settle_named(sink, &told, &mut Count::new())?);
         Ok(())
     }
 
@@ -107,14 +107,14 @@ impl<Sink: TreeSink> Construction<Sink> {
                 self.process_run(sink, run, run_text)?;
                 return Ok(());
             }
-            rest = self.take_front(sink, rest, character, behind)?;
+            rest = self.process_front(sink, rest, character, behind)?;
         }
         Ok(())
     }
 
     /// Takes characters that are lent, which may be none. A line feed at their front is dropped where that is asked for.
     #[inline(never)]
-    fn take_lent_characters(&mut self, sink: &mut Sink, text: &str) -> Result<(), ParseFault>
+    fn process_lent_characters(&mut self, sink: &mut Sink, text: &str) -> Result<(), ParseFault>
         requires usable { Usable (built Sink.TreeSink self.old (Sink.forest sink.old)) }
         requires going { self.old.has_ended ≡ false }
         ensures ok { OnOk result (built Sink.TreeSink self.new (Sink.forest sink.new) ≡ (came_of (CharacterTokens (chars text.now)) (built Sink.TreeSink self.old (Sink.forest sink.old))).state) }
@@ -123,7 +123,7 @@ impl<Sink: TreeSink> Construction<Sink> {
         if text.is_empty() {
             return Ok(());
         }
-        let rest = behind_line_feed(self.ignore_lf, text);
+        let rest = after_line_feed(self.ignore_lf, text);
         self.set_ignore_lf(false);
         self.process_text(sink, rest)?;
         Ok(())
@@ -141,11 +141,11 @@ impl<Sink: TreeSink> Construction<Sink> {
             return Ok(());
         }
         if self.ignore_lf {
-            return self.take_lent_characters(sink, text.as_str());
+            return self.process_lent_characters(sink, text.as_str());
         }
         match self.run() {
             Some(run) => self.process_run(sink, run, text.take()),
-            None => self.take_lent_characters(sink, text.as_str()),
+            None => self.process_lent_characters(sink, text.as_str()),
         }
     }
 
@@ -213,7 +213,7 @@ impl<Sink: TreeSink> Construction<Sink> {
     }
 
     /// Takes what is neither text nor a doctype.
-    fn process_told(
+    fn process_named(
         &mut self,
         sink: &mut Sink,
         told: &NamedToken<'_>,
@@ -229,12 +229,12 @@ impl<Sink: TreeSink> Construction<Sink> {
         ensures fault { IfErr result (λ fault. fault ≡ Memory) }
     {
         self.set_ignore_lf(false);
-        self.settle_told(sink, told, turns)
+        self.settle_named(sink, told, turns)
     }
 
     /// Takes a tag.
     #[inline(never)]
-    pub(crate) fn take_tag(
+    pub(crate) fn process_tag(
         &mut self,
         sink: &mut Sink,
         tag: &Tag,
@@ -248,14 +248,14 @@ impl<Sink: TreeSink> Construction<Sink> {
         ensures most { turns.new.count ≤ turns.old.count + most_turns self.old.stack.open_elems }
         ensures fault { IfErr result (λ fault. fault ≡ Memory) }
     {
-        self.process_told(sink, &NamedToken::of_tag(tag), turns)
+        self.process_named(sink, &NamedToken::of_tag(tag), turns)
     }
 
     /// Takes a token, of which an error's message is taken out, and a doctype where it belongs. An error is told on, and an empty text
     /// changes nothing. Its turns are counted, unless it is text.
     #[tactic(auto, unfolding(html_rules::specs::Step::taken))]
     #[inline(always)]
-    pub(crate) fn take(
+    pub(crate) fn process(
         &mut self,
         sink: &mut Sink,
         token: &mut Token,
@@ -283,7 +283,7 @@ impl<Sink: TreeSink> Construction<Sink> {
                 self.process_doctype(sink, doctype)?;
                 Ok(TokenSinkResult::Continue)
             }
-            Token::TagToken(tag) => self.take_tag(sink, tag, turns),
+            Token::TagToken(tag) => self.process_tag(sink, tag, turns),
             Token::CommentToken(text) => {
                 self.process_nameless(sink, Content::Comment(text), turns)
             }
@@ -310,6 +310,6 @@ impl<Sink: TreeSink> Construction<Sink> {
         ensures fault { IfErr result (λ fault. fault ≡ Memory) }
     {
         let name = LocalName::empty(self.alloc);
-        self.process_told(sink, &NamedToken::of(content, &name), turns)
+        self.process_named(sink, &NamedToken::of(content, &name), turns)
     }
 }

@@ -1,7 +1,7 @@
 //! Texts, and what is left of them.
 ghost use Rattle.std.specs.Prelude.{◌≡◌, [], MatchOption};
 ghost use Rattle.std.specs.Str.{chars};
-ghost use Rattle.html_rules.specs.Step.{behind_line_feed};
+ghost use Rattle.html_rules.specs.Step.{after_line_feed};
 ghost use Rattle.html_tree_builder.specs.Texts.{IsSplit};
 
 /// The first character of a text, and what stands after it.
@@ -13,8 +13,8 @@ pub(crate) fn split_first(text: &str) -> Option<(&str, &str)>
 }
 
 /// A text after the line feed at its front, if that is to be dropped.
-pub(crate) fn behind_line_feed(ignore_lf: bool, text: &str) -> &str
-    ensures { chars result.now ≡ behind_line_feed ignore_lf (chars text.now) }
+pub(crate) fn after_line_feed(ignore_lf: bool, text: &str) -> &str
+    ensures { chars result.now ≡ after_line_feed ignore_lf (chars text.now) }
 {
     if !ignore_lf {
         return text;

@@ -81,7 +81,7 @@ impl<Sink: TreeSink> Construction<Sink> {
     }
 
     /// Takes the white space at the front of a text, where it is a run, or else its first character: what stands after that.
-    pub(crate) fn take_front<'a>(
+    pub(crate) fn process_front<'a>(
         &mut self,
         sink: &mut Sink,
         text: &'a str,

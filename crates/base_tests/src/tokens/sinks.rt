@@ -132,7 +132,7 @@ fn refused(sink: &mut Listed) -> Option<ParseFault> {
 }
 
 // Whether a sink refuses a token after its end.
-fn refuses_behind_its_end(sink: &mut Listed) -> bool {
+fn refuses_after_its_end(sink: &mut Listed) -> bool {
     let was_told = tell_null(sink, 1).is_ok();
     sink.end();
     was_told && refused(sink) == Some(ParseFault::Ended) && sink.told.len() == 1
@@ -257,7 +257,7 @@ fn is_right(alloc: Global, sink: &mut Listed, asked: &Asked) -> bool {
         Asked::TextAndNull => are_listed(alloc, sink),
         Asked::TextAndError => are_text_and_error_told(alloc, sink),
         Asked::Loan => takes_when_lent(sink),
-        Asked::End => refuses_behind_its_end(sink),
+        Asked::End => refuses_after_its_end(sink),
         Asked::Memory => is_taken_or_failed_thrice(alloc, sink),
     }
 }

@@ -45,7 +45,7 @@ pub fn search(rows: &[ReferenceRow], order: &[usize], name: &[u8]) -> Result<usi
 }
 
 // The index of the first name that stands after a text.
-fn first_behind(rows: &[ReferenceRow], order: &[usize], text: &[u8]) -> usize
+fn first_after(rows: &[ReferenceRow], order: &[usize], text: &[u8]) -> usize
     requires { IsOrdered rows.now order.now }
     ensures behind { (index : ℕ) → result ≤ index → index < length order.now → IsBefore text.now (ordered_name rows.now order.now index) }
     ensures first { (index : ℕ) → index < length order.now → IsBefore text.now (ordered_name rows.now order.now index) → result ≤ index }
@@ -71,7 +71,7 @@ pub fn goes_on(rows: &[ReferenceRow], order: &[usize], held: &[u8]) -> bool
     requires { IsOrder rows.now order.now }
     ensures { result ≡ goes_on rows.now held.now }
 {
-    let index = first_behind(rows, order, held);
+    let index = first_after(rows, order, held);
     goes_on_at(rows, order, index, held)
 }
 

@@ -9,7 +9,7 @@ use Rattle.markup.specs.Trees.{Trees, Nothing, Text, Comment, ProcessingInstruct
 use Rattle.markup.proofs.Forests.{IsForest-empty}
 use Rattle.markup.proofs.PutTexts.{IsParent-document}
 use Rattle.markup.proofs.TemplateContents.{HasContents-empty}
-use Rattle.html_plain.specs.Elements.{behind_text, spelled}
+use Rattle.html_plain.specs.Elements.{place_after_text, spelled}
 use Rattle.html_plain.specs.Grammar.{IsPlain, IsPlainDocument, is_plain_forest, is_plain_text}
 use Rattle.html_plain.specs.declared.elements.PlainElement.{PlainElement}
 use Rattle.html_plain.specs.declared.place.PlainPlace.{PlainPlace}
@@ -33,7 +33,7 @@ and-false false c h = refl
 
 pub plain-plantable : (place : PlainPlace) (after_text : Bool) (trees : Trees) → IsPlain place after_text trees → ArePlantable after_text trees
 plain-plantable place after_text Nothing h = tt
-plain-plantable place after_text (Text text rest) h = (h.0, (λ e. (let no : is_plain_text [] ≡ true = rw e at h.1 in absurd (cc))), plain-plantable (behind_text place) true rest h.3)
+plain-plantable place after_text (Text text rest) h = (h.0, (λ e. (let no : is_plain_text [] ≡ true = rw e at h.1 in absurd (cc))), plain-plantable (place_after_text place) true rest h.3)
 plain-plantable place after_text (Comment text rest) h = plain-plantable place false rest h.2
 plain-plantable place after_text (ProcessingInstruction target text rest) h = absurd h
 plain-plantable place after_text (Doctype name public_id system_id rest) h = plain-plantable _ false rest h.4

@@ -45,7 +45,7 @@ use Rattle.html_round_trip.proofs.ReadBack.Runs.{reads-both, reads-one}
 use Rattle.html_round_trip.proofs.ReadBack.Stacks.{home-more, home-ready, is_in_flow, same}
 use Rattle.html_round_trip.proofs.ReadBack.Taking.{character-once, comment-once, tag-once}
 use Rattle.html_round_trip.proofs.ReadBack.Texts.{every, flag_after, text-reads}
-use Rattle.html_round_trip.proofs.ReadBack.Turns.Flow.{behind_heading, character-there, comment-there, end-formatting, end-simple, is_format, is_formatting, is_simple_block, is_simply_ended, start-block, start-break, start-format, start-heading, start-item, start-link}
+use Rattle.html_round_trip.proofs.ReadBack.Turns.Flow.{after_heading, character-there, comment-there, end-formatting, end-simple, is_format, is_formatting, is_simple_block, is_simply_ended, start-block, start-break, start-format, start-heading, start-item, start-link}
 use Rattle.html_round_trip.proofs.ReadBack.Words.{adopted, appended, commented, formatted, inserted, no-heading, no-item_closed, no-link, none-closed, popped, put-alone, reconstructed}
 
 -- PLACES
@@ -240,7 +240,7 @@ module _ (rows : List TableRow) (reads : ReadsEscapes rows) (sc : Bool) (o : Aro
       simply k attrs plain kids can refl refl InFlow (InLine false) law b n top os last f es ok ok good fits
       (tag-once rows _ _ (tag_of k attrs) false (home-ready o head b f stack es ok _ fits.home good.silent) refl
       (start-heading o head n top f os es ok attrs level b
-      ∙ (ap (λ s. turn_of (insert_element names.Html (spelled k) attrs false (behind_heading s)) (Finished false)) (none-closed o head (mode_in b) f stack es ok fits.takes.0.no_paragraph)
+      ∙ (ap (λ s. turn_of (insert_element names.Html (spelled k) attrs false (after_heading s)) (Finished false)) (none-closed o head (mode_in b) f stack es ok fits.takes.0.no_paragraph)
       ∙ (ap (λ s. turn_of (insert_element names.Html (spelled k) attrs false s) (Finished false)) (no-heading o head (mode_in b) f stack es ok fits.takes.1)
       ∙ ap (λ s. turn_of s (Finished false)) (inserted o head (mode_in b) k attrs n top f os es ok))))
       good.silent)

@@ -11,7 +11,7 @@ use Rattle.html_plain.specs.Grammar.{IsPlain, are_plain_attributes, is_white}
 use Rattle.html_plain.specs.Laws.{text_of}
 use Rattle.html_plain.specs.declared.elements.PlainElement.{PlainElement}
 use Rattle.html_plain.specs.declared.elements.PlainElement.TheVariants.{Html, Head, Title, Body}
-use Rattle.html_plain.specs.declared.place.PlainPlace.TheVariants.{BehindTitle, InFlow, InHead, InTitle}
+use Rattle.html_plain.specs.declared.place.PlainPlace.TheVariants.{AfterTitle, InFlow, InHead, InTitle}
 use Rattle.html_plain.proofs.WrittenForms.{element-written}
 use Rattle.html_round_trip.specs.Planting.Planted.{planted}
 use Rattle.html_round_trip.proofs.Planting.PlainTrees.{plain-plantable}
@@ -40,7 +40,7 @@ use Rattle.html_round_trip.proofs.ReadBack.Tables.{space-of}
 use Rattle.html_round_trip.proofs.ReadBack.Taking.{IsReady, character-once, tag-once, tag-replied}
 use Rattle.html_round_trip.proofs.ReadBack.Texts.{every, text-reads, white-not_null}
 use Rattle.html_round_trip.proofs.ReadBack.Trees.{law}
-use Rattle.html_round_trip.proofs.ReadBack.Turns.Frame.{character-in_title, end-body, end-head, end-title, in_title, space-behind_head, space-in_head, start-body, start-title}
+use Rattle.html_round_trip.proofs.ReadBack.Turns.Frame.{character-in_title, end-body, end-head, end-title, in_title, space-after_head, space-in_head, start-body, start-title}
 use Rattle.html_round_trip.proofs.ReadBack.Words.{appended}
 
 -- the text in a title
@@ -95,7 +95,7 @@ module _ (rows : List Row) (reads : ReadsEscapes rows) (sc : Bool) (o : Around) 
     pub head-text : (last : Option (List ℕ)) (cs : List ℕ) → list_all is_white cs ≡ true → (f : Forest) → IsGood f m → Reads rows (in_data last) (in_head f) (escape cs) (in_data last) (in_head (put_text f (Last m) cs))
     head-text last cs white f good = text-reads rows reads InData last m (λ f ok. in_head f) (λ c ok. ok) is_white head-space cs (white-not_null cs white) white f true good
 
-    behind-title : (trees : Trees) (after_text : Bool) → IsPlain BehindTitle after_text trees → (last : Option (List ℕ)) (f : Forest) → IsGood f m → Reads rows (in_data last) (in_head f) (text_of sc trees) (in_data last) (in_head (planted trees m f))
+    behind-title : (trees : Trees) (after_text : Bool) → IsPlain AfterTitle after_text trees → (last : Option (List ℕ)) (f : Forest) → IsGood f m → Reads rows (in_data last) (in_head f) (text_of sc trees) (in_data last) (in_head (planted trees m f))
     unfolding written
     behind-title Nothing after_text h last f good = runs.NoText
     behind-title (Text text rest) after_text h last f good =
@@ -150,7 +150,7 @@ module _ (rows : List Row) (reads : ReadsEscapes rows) (sc : Bool) (o : Around) 
     title-only k h = absurd (cc)
 
     -- a title, and white space after it
-    title-first : (attrs : List Attribute) → are_plain_attributes attrs ≡ true → (kids rest : Trees) → IsPlain InTitle false kids → IsPlain BehindTitle false rest → (last : Option (List ℕ)) (f : Forest) → IsGood f m
+    title-first : (attrs : List Attribute) → are_plain_attributes attrs ≡ true → (kids rest : Trees) → IsPlain InTitle false kids → IsPlain AfterTitle false rest → (last : Option (List ℕ)) (f : Forest) → IsGood f m
         → HeadRead last f (text_of sc (Element (html_name (spelled Title)) attrs false kids rest)) (planted (Element (html_name (spelled Title)) attrs false kids rest) m f)
     title-first attrs plain kids rest within behind last f good =
         let t = node_count f in
@@ -190,28 +190,28 @@ module _ (rows : List Row) (reads : ReadsEscapes rows) (sc : Bool) (o : Around) 
 
     -- BEHIND THE HEAD
 
-    abbrev pub behind_head : Forest → State
-    behind_head f = at o (Some hd) mode.AfterHead f (opened n Html ∷ []) [] true
+    abbrev pub after_head : Forest → State
+    after_head f = at o (Some hd) mode.AfterHead f (opened n Html ∷ []) [] true
 
-    ready-behind_head : (f : Forest) (t : _) → f.errors ≡ 0 → IsReady (behind_head f) t
+    ready-after_head : (f : Forest) (t : _) → f.errors ≡ 0 → IsReady (after_head f) t
     unfolding is_fit names_of
-    ready-behind_head f t silent = record { goes_on = refl; fit = refl; free = refl; keeps_lf = refl; silent = silent }
+    ready-after_head f t silent = record { goes_on = refl; fit = refl; free = refl; keeps_lf = refl; silent = silent }
 
-    pub head-ends : (f : Forest) → f.errors ≡ 0 → TakesQuietly rows (in_head f) (end_token (spelled Head)) (behind_head f) Continue
+    pub head-ends : (f : Forest) → f.errors ≡ 0 → TakesQuietly rows (in_head f) (end_token (spelled Head)) (after_head f) Continue
     head-ends f silent = tag-once rows _ _ (named EndTag (spelled Head)) false (ready-in_head f _ silent) refl (end-head o (Some hd) f n m) silent
 
-    space-takes : (f : Forest) (ok : Bool) (c : ℕ) → IsGood f n → is_white c ≡ true → TakesQuietly rows (behind_head f) (CharacterTokens (c ∷ [])) (behind_head (put_text f (Last n) (c ∷ []))) Continue
+    space-takes : (f : Forest) (ok : Bool) (c : ℕ) → IsGood f n → is_white c ≡ true → TakesQuietly rows (after_head f) (CharacterTokens (c ∷ [])) (after_head (put_text f (Last n) (c ∷ []))) Continue
     space-takes f ok c good white =
-        character-once rows _ _ c false (ready-behind_head f _ good.silent)
-        (space-behind_head o (Some hd) f n m c (space-of c white) ∙ ap (λ s. turn_of s (Finished false)) (appended o (Some hd) mode.AfterHead (c ∷ []) n Html f [] [] true)) (good-text f n (c ∷ []) good).silent
+        character-once rows _ _ c false (ready-after_head f _ good.silent)
+        (space-after_head o (Some hd) f n m c (space-of c white) ∙ ap (λ s. turn_of s (Finished false)) (appended o (Some hd) mode.AfterHead (c ∷ []) n Html f [] [] true)) (good-text f n (c ∷ []) good).silent
 
-    pub space-reads : (last : Option (List ℕ)) (cs : List ℕ) → list_all is_white cs ≡ true → (f : Forest) → IsGood f n → Reads rows (in_data last) (behind_head f) (escape cs) (in_data last) (behind_head (put_text f (Last n) cs))
-    space-reads last cs white f good = text-reads rows reads InData last n (λ f ok. behind_head f) (λ c ok. ok) is_white space-takes cs (white-not_null cs white) white f true good
+    pub space-reads : (last : Option (List ℕ)) (cs : List ℕ) → list_all is_white cs ≡ true → (f : Forest) → IsGood f n → Reads rows (in_data last) (after_head f) (escape cs) (in_data last) (after_head (put_text f (Last n) cs))
+    space-reads last cs white f good = text-reads rows reads InData last n (λ f ok. after_head f) (λ c ok. ok) is_white space-takes cs (white-not_null cs white) white f true good
 
     -- THE BODY
 
-    abbrev pub behind_body : ℕ → Forest → Bool → State
-    behind_body b f ok = at o (Some hd) mode.AfterBody f (opened b Body ∷ opened n Html ∷ []) [] ok
+    abbrev pub after_body : ℕ → Forest → Bool → State
+    after_body b f ok = at o (Some hd) mode.AfterBody f (opened b Body ∷ opened n Html ∷ []) [] ok
 
     body-fits : (b : ℕ) (f : Forest) → Fits InFlow OfBody f (opened b Body ∷ opened n Html ∷ []) []
     unfolding names_of
@@ -223,17 +223,17 @@ module _ (rows : List Row) (reads : ReadsEscapes rows) (sc : Bool) (o : Around) 
       lists = tt;
     }
 
-    pub body-begins : (attrs : List Attribute) (f : Forest) → f.errors ≡ 0 → TakesQuietly rows (behind_head f) (start_token (spelled Body) attrs) (at o (Some hd) mode.InBody (put_new f (Last n) (element_node Body attrs)) (opened (node_count f) Body ∷ opened n Html ∷ []) [] false) Continue
-    body-begins attrs f silent = tag-once rows _ _ (tag_of Body attrs) false (ready-behind_head f _ silent) refl (start-body o (Some hd) f n m attrs) silent
+    pub body-begins : (attrs : List Attribute) (f : Forest) → f.errors ≡ 0 → TakesQuietly rows (after_head f) (start_token (spelled Body) attrs) (at o (Some hd) mode.InBody (put_new f (Last n) (element_node Body attrs)) (opened (node_count f) Body ∷ opened n Html ∷ []) [] false) Continue
+    body-begins attrs f silent = tag-once rows _ _ (tag_of Body attrs) false (ready-after_head f _ silent) refl (start-body o (Some hd) f n m attrs) silent
 
-    pub body-ends : (b : ℕ) (f : Forest) (ok : Bool) → f.errors ≡ 0 → TakesQuietly rows (at o (Some hd) mode.InBody f (opened b Body ∷ opened n Html ∷ []) [] ok) (end_token (spelled Body)) (behind_body b f ok) Continue
+    pub body-ends : (b : ℕ) (f : Forest) (ok : Bool) → f.errors ≡ 0 → TakesQuietly rows (at o (Some hd) mode.InBody f (opened b Body ∷ opened n Html ∷ []) [] ok) (end_token (spelled Body)) (after_body b f ok) Continue
     unfolding is_fit names_of
     body-ends b f ok silent = tag-once rows _ _ (named EndTag (spelled Body)) false (record { goes_on = refl; fit = refl; free = refl; keeps_lf = refl; silent = silent }) refl (end-body o (Some hd) f n b [] ok) silent
 
     pub record BodyRead (last : Option (List ℕ)) (f : Forest) (text : List ℕ) (g : Forest) (b : ℕ) : Type 0 where
       pub left : Option (List ℕ)
       pub frameset_ok : Bool
-      pub runs : Reads rows (in_data last) (behind_head f) text (in_data left) (behind_body b g frameset_ok)
+      pub runs : Reads rows (in_data last) (after_head f) text (in_data left) (after_body b g frameset_ok)
 
     -- white space after the head, and the body
     pub body-reads : (space : List ℕ) → list_all is_white space ≡ true → (attrs : List Attribute) → are_plain_attributes attrs ≡ true → (flow : Trees) → IsPlain InFlow false flow → (last : Option (List ℕ)) (f : Forest) → IsGood f n
@@ -254,8 +254,8 @@ module _ (rows : List Row) (reads : ReadsEscapes rows) (sc : Bool) (o : Around) 
           left = within.last_tag;
           frameset_ok = within.frameset_ok;
           runs =
-              reads-both rows (in_data last) (in_data last) (in_data within.last_tag) (behind_head f) (behind_head g) (behind_body b k within.frameset_ok) (escape space) _ (space-reads last space white f good)
-              (reads-both rows (in_data last) (in_data (Some (spelled Body))) (in_data within.last_tag) (behind_head g) (at o (Some hd) mode.InBody h stack [] false) (behind_body b k within.frameset_ok) (start_tag (spelled Body) attrs) _ (start-reads Body attrs plain last _ _ (body-begins attrs g good_g.silent))
-              (reads-both rows (in_data (Some (spelled Body))) (in_data within.last_tag) (in_data within.last_tag) (at o (Some hd) mode.InBody h stack [] false) (at o (Some hd) mode.InBody k stack [] within.frameset_ok) (behind_body b k within.frameset_ok) (text_of sc flow) _ flows
+              reads-both rows (in_data last) (in_data last) (in_data within.last_tag) (after_head f) (after_head g) (after_body b k within.frameset_ok) (escape space) _ (space-reads last space white f good)
+              (reads-both rows (in_data last) (in_data (Some (spelled Body))) (in_data within.last_tag) (after_head g) (at o (Some hd) mode.InBody h stack [] false) (after_body b k within.frameset_ok) (start_tag (spelled Body) attrs) _ (start-reads Body attrs plain last _ _ (body-begins attrs g good_g.silent))
+              (reads-both rows (in_data (Some (spelled Body))) (in_data within.last_tag) (in_data within.last_tag) (at o (Some hd) mode.InBody h stack [] false) (at o (Some hd) mode.InBody k stack [] within.frameset_ok) (after_body b k within.frameset_ok) (text_of sc flow) _ flows
               (reads-both rows (in_data within.last_tag) (in_data within.last_tag) (in_data within.last_tag) _ _ _ (end_tag (spelled Body)) [] (end-reads Body within.last_tag _ _ (body-ends b k within.frameset_ok left.silent)) runs.NoText)));
         }

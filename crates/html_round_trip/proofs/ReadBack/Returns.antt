@@ -5,7 +5,7 @@ use Rattle.std.proofs.lemmas.Bool.{and_parts}
 use Rattle.markup.specs.Escape.{end_tag, escape, start_tag, written_comment}
 use Rattle.markup.specs.Trees.{Trees, Nothing, Text, Comment, ProcessingInstruction, Doctype, Element, written}
 use Rattle.markup.specs.declared.attributes.Attribute.{Attribute}
-use Rattle.html_plain.specs.Elements.{behind_element, behind_text, html_name, inside, spelled}
+use Rattle.html_plain.specs.Elements.{place_after_element, place_after_text, html_name, inside, spelled}
 use Rattle.html_plain.specs.Grammar.{IsPlain, are_plain_attributes}
 use Rattle.html_plain.specs.Laws.{is_void, text_of}
 use Rattle.html_plain.specs.declared.elements.PlainElement.{PlainElement}
@@ -47,7 +47,7 @@ module _ (sc : Bool) where
   pub trees-none : (trees : Trees) (place : PlainPlace) (after_text : Bool) → IsPlain place after_text trees → has_no_return (text_of sc trees) ≡ true
   unfolding written
   trees-none Nothing place after_text h = refl
-  trees-none (Text text rest) place after_text h = joined (escape text) (text_of sc rest) (text-no_return text (texts-read text h.1).1) (trees-none rest (behind_text place) true h.3)
+  trees-none (Text text rest) place after_text h = joined (escape text) (text_of sc rest) (text-no_return text (texts-read text h.1).1) (trees-none rest (place_after_text place) true h.3)
   trees-none (Comment text rest) place after_text h = joined (written_comment text) (text_of sc rest) (comment-no_return text (comments-read text h.1).1) (trees-none rest place false h.2)
   trees-none (ProcessingInstruction target text rest) place after_text h = absurd h
   trees-none (Doctype name public_id system_id rest) place after_text h = rw h.1 (trees-none rest _ false h.4)
@@ -56,7 +56,7 @@ module _ (sc : Bool) where
       let w = h.1 in
       subst (λ x. has_no_return (text_of sc (Element x attributes template kids rest)) ≡ true) (sym w.0)
       (subst (λ x. has_no_return (text_of sc (Element (html_name (spelled k)) attributes x kids rest)) ≡ true) (sym w.1)
-      (element-none place k attributes w.3 kids rest w.4 (trees-none kids (inside place k) false w.4) (trees-none rest (behind_element place) false w.5)))
+      (element-none place k attributes w.3 kids rest w.4 (trees-none kids (inside place k) false w.4) (trees-none rest (place_after_element place) false w.5)))
 
 -- a text that begins with "<" has no byte order mark at its front
 pub own-normal : (b : Bool) (t : List ℕ) → has_no_return (60 ∷ t) ≡ true → normal_text b (60 ∷ t) ≡ 60 ∷ t

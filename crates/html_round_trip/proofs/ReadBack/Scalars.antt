@@ -11,7 +11,7 @@ use Rattle.std.proofs.lemmas.Str.{chars-encodes}
 use Rattle.markup.specs.Escape.{InValue, end_tag, escape, escape_value, escaped, escaped_by, escaped_in, start_tag, written_attribute, written_attributes, written_comment}
 use Rattle.markup.specs.Trees.{Trees, Nothing, Text, Comment, ProcessingInstruction, Doctype, Element, written}
 use Rattle.markup.specs.declared.attributes.Attribute.{Attribute}
-use Rattle.html_plain.specs.Elements.{behind_element, behind_text, html_name, inside, spelled}
+use Rattle.html_plain.specs.Elements.{place_after_element, place_after_text, html_name, inside, spelled}
 use Rattle.html_plain.specs.Grammar.{IsPlain, are_distinct, are_plain_attributes, is_empty, is_name_character, is_plain_attribute, is_plain_character, is_plain_name, is_unprefixed}
 use Rattle.html_plain.specs.Laws.{is_void, text_of}
 use Rattle.html_plain.specs.declared.elements.PlainElement.{PlainElement}
@@ -131,7 +131,7 @@ module _ (sc : Bool) where
   trees-scalars Nothing place after_text h = refl
   trees-scalars (Text text rest) place after_text h =
       let p = and_parts (not (is_empty text)) (list_all is_plain_character text) h.1 in
-      both (escape text) (text_of sc rest) (text-scalars text p.1) (trees-scalars rest (behind_text place) true h.3)
+      both (escape text) (text_of sc rest) (text-scalars text p.1) (trees-scalars rest (place_after_text place) true h.3)
   trees-scalars (Comment text rest) place after_text h =
       both (written_comment text) (text_of sc rest) (both text (codes "-->") (plain-scalars text (comment-characters text h.1).1) refl) (trees-scalars rest place false h.2)
   trees-scalars (ProcessingInstruction target text rest) place after_text h = absurd h
@@ -141,7 +141,7 @@ module _ (sc : Bool) where
       let w = h.1 in
       subst (λ x. scalars (text_of sc (Element x attributes template kids rest)) ≡ true) (sym w.0)
       (subst (λ x. scalars (text_of sc (Element (html_name (spelled k)) attributes x kids rest)) ≡ true) (sym w.1)
-      (element-scalars place k attributes w.3 kids rest w.4 (trees-scalars kids (inside place k) false w.4) (trees-scalars rest (behind_element place) false w.5)))
+      (element-scalars place k attributes w.3 kids rest w.4 (trees-scalars kids (inside place k) false w.4) (trees-scalars rest (place_after_element place) false w.5)))
 
   -- the bytes of what is written of plain trees
   pub trees-utf8 : (trees : Trees) (place : PlainPlace) (after_text : Bool) → IsPlain place after_text trees → IsUtf8 (encode_utf8_all (text_of sc trees)) × (chars (encode_utf8_all (text_of sc trees)) ≡ text_of sc trees)

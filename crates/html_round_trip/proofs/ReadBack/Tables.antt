@@ -51,7 +51,7 @@ use Rattle.html_round_trip.proofs.ReadBack.Runs.{reads-both, reads-one}
 use Rattle.html_round_trip.proofs.ReadBack.Stacks.{home-ready, no-template_open, part-ready, waiting-ready}
 use Rattle.html_round_trip.proofs.ReadBack.Taking.{character-once, character-twice, tag-once, tag-twice}
 use Rattle.html_round_trip.proofs.ReadBack.Turns.Flow.{start-table}
-use Rattle.html_round_trip.proofs.ReadBack.Turns.Tables.{end-cell, end-row, end-table, end-table_body, first-character, next-character, start-cell, start-row, start-table_body, tag-behind_text}
+use Rattle.html_round_trip.proofs.ReadBack.Turns.Tables.{end-cell, end-row, end-table, end-table_body, first-character, next-character, start-cell, start-row, start-table_body, tag-place_after_text}
 use Rattle.html_round_trip.proofs.ReadBack.Words.{inserted, none-closed, reset-to}
 
 -- white space of the grammar is that of the rules
@@ -92,7 +92,7 @@ module _ (rows : List TableRow) (reads : ReadsEscapes rows) (sc : Bool) (o : Aro
       tag-once rows _ new tag b (part-ready o head part f (opened n (part_element part) ∷ os) es ok (TagToken tag) rooted good.silent) plain e silent
   held-takes part n os f es ok (c ∷ waiting) tag new b good rooted white plain e silent =
       tag-twice rows _ _ new tag b (waiting-ready o head part f (opened n (part_element part) ∷ os) es ok (c ∷ waiting) (TagToken tag) rooted good.silent) plain
-      (tag-behind_text o head n f os es ok tag part (c ∷ waiting) ∙ ap (λ s. turn_of s Again) (told o head (mode_of_part part) n (part_element part) f os es ok (c ∷ waiting) (white-of (c ∷ waiting) white)))
+      (tag-place_after_text o head n f os es ok tag part (c ∷ waiting) ∙ ap (λ s. turn_of s Again) (told o head (mode_of_part part) n (part_element part) f os es ok (c ∷ waiting) (white-of (c ∷ waiting) white)))
       e silent
 
   -- TEXT

@@ -6,7 +6,7 @@ use Rattle.markup.specs.Forest.{Forest, node_count, put_new, put_text}
 use Rattle.markup.specs.Forest.Place.{Last}
 use Rattle.markup.specs.Trees.{Trees, Nothing, Text, Comment, ProcessingInstruction, Doctype, Element, written}
 use Rattle.markup.specs.declared.attributes.Attribute.{Attribute}
-use Rattle.html_plain.specs.Elements.{behind_element, behind_text, html_name, inside, spelled, takes_comments, text_kind}
+use Rattle.html_plain.specs.Elements.{place_after_element, place_after_text, html_name, inside, spelled, takes_comments, text_kind}
 use Rattle.html_plain.specs.Grammar.{IsPlain, is_plain_comment, is_plain_text, is_white, takes_text}
 use Rattle.html_plain.specs.Laws.{text_of}
 use Rattle.html_plain.specs.declared.elements.PlainElement.{PlainElement}
@@ -133,7 +133,7 @@ module _ (rows : List TableRow) (reads : ReadsEscapes rows) (sc : Bool) (o : Aro
       part-both p n os last f (put_text (put_text f (Last n) waiting) (Last n) text) es ok waiting (escape text) rest rooted below
       (text-part rows reads sc o head p n os last f es ok waiting text (texts-read text plain).0 good rooted waits white) law
 
-  text-law : (place : PlainPlace) (text : List ℕ) (rest : Trees) → is_plain_text text ≡ true → takes_text (text_kind place) text ≡ true → Law (behind_text place) rest → Law place (Text text rest)
+  text-law : (place : PlainPlace) (text : List ℕ) (rest : Trees) → is_plain_text text ≡ true → takes_text (text_kind place) text ≡ true → Law (place_after_text place) rest → Law place (Text text rest)
   text-law InFlow text rest plain takes law = flow-text InFlow text rest plain law
   text-law (InLine in_link) text rest plain takes law = flow-text (InLine in_link) text rest plain law
   text-law InList text rest plain takes law = flow-text InList text rest plain law
@@ -197,7 +197,7 @@ module _ (rows : List TableRow) (reads : ReadsEscapes rows) (sc : Bool) (o : Aro
       let both = part-both p n os last f (planted kids m g) es ok waiting t rest rooted below first law in
       rw (element-shape place k attrs kids rest is) both
 
-  element-law : (place : PlainPlace) (k : PlainElement) (attrs : List Attribute) (kids rest : Trees) → IsPlain (inside place k) false kids → IsRead rows sc o head place k attrs kids → Law (behind_element place) rest → Law place (Element (html_name (spelled k)) attrs false kids rest)
+  element-law : (place : PlainPlace) (k : PlainElement) (attrs : List Attribute) (kids rest : Trees) → IsPlain (inside place k) false kids → IsRead rows sc o head place k attrs kids → Law (place_after_element place) rest → Law place (Element (html_name (spelled k)) attrs false kids rest)
   element-law InFlow k attrs kids rest is there more = flow-first InFlow k attrs kids rest is there more
   element-law (InLine in_link) k attrs kids rest is there more = flow-first (InLine in_link) k attrs kids rest is there more
   element-law InList k attrs kids rest is there more = flow-first InList k attrs kids rest is there more
@@ -210,7 +210,7 @@ module _ (rows : List TableRow) (reads : ReadsEscapes rows) (sc : Bool) (o : Aro
 
   pub law : (trees : Trees) (place : PlainPlace) (after_text : Bool) → IsPlain place after_text trees → Law place trees
   law Nothing place after_text h = nothing-law place
-  law (Text text rest) place after_text h = text-law place text rest h.1 h.2 (law rest (behind_text place) true h.3)
+  law (Text text rest) place after_text h = text-law place text rest h.1 h.2 (law rest (place_after_text place) true h.3)
   law (Comment text rest) place after_text h = comment-law place text rest h.0 h.1 (law rest place false h.2)
   law (ProcessingInstruction target text rest) place after_text h = absurd h
   law (Doctype name public_id system_id rest) place after_text h = subst (λ p. Law p (Doctype name public_id system_id rest)) (sym h.0) tt
@@ -219,4 +219,4 @@ module _ (rows : List TableRow) (reads : ReadsEscapes rows) (sc : Bool) (o : Aro
       let w = h.1 in
       subst (λ x. Law place (Element x attributes template kids rest)) (sym w.0)
       (subst (λ x. Law place (Element (html_name (spelled k)) attributes x kids rest)) (sym w.1)
-      (element-law place k attributes kids rest w.4 (form rows reads place k w.2 sc o head attributes kids w.3 w.4 (law kids (inside place k) false w.4)) (law rest (behind_element place) false w.5)))
+      (element-law place k attributes kids rest w.4 (form rows reads place k w.2 sc o head attributes kids w.3 w.4 (law kids (inside place k) false w.4)) (law rest (place_after_element place) false w.5)))

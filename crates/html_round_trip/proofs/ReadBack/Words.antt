@@ -20,7 +20,7 @@ use Rattle.html_rules.specs.declared.tag_set.TagSet.TheVariants as set
 use Rattle.html_round_trip.specs.ReadBack.Places.{AreOpen, HasNoLink}
 use Rattle.html_round_trip.specs.ReadBack.States.{Around, at, comment_node, element_node, opened, tag_of}
 use Rattle.html_round_trip.proofs.ReadBack.Stacks.{no-template_open, same}
-use Rattle.html_round_trip.proofs.ReadBack.Turns.Flow.{behind_heading, behind_link, is_formatting}
+use Rattle.html_round_trip.proofs.ReadBack.Turns.Flow.{after_heading, after_link, is_formatting}
 
 module _ (o : Around) (head : Option ℕ) (m : InsertionMode) where
   -- an element is put into the current node, and opened
@@ -56,10 +56,10 @@ module _ (o : Around) (head : Option ℕ) (m : InsertionMode) where
   unfolding close_item
   no-item_closed f stack es ok h = rw h refl
 
-  pub no-heading : (f : Forest) (stack : List Open) (es : List Entry) (ok : Bool) → current_is (is_in set.HeadingTag) stack ≡ false → behind_heading (at o head m f stack es ok) ≡ at o head m f stack es ok
+  pub no-heading : (f : Forest) (stack : List Open) (es : List Entry) (ok : Bool) → current_is (is_in set.HeadingTag) stack ≡ false → after_heading (at o head m f stack es ok) ≡ at o head m f stack es ok
   no-heading f stack es ok h = rw h refl
 
-  pub no-link : (f : Forest) (stack : List Open) (es : List Entry) (ok : Bool) → HasNoLink es → behind_link (at o head m f stack es ok) ≡ at o head m f stack es ok
+  pub no-link : (f : Forest) (stack : List Open) (es : List Entry) (ok : Bool) → HasNoLink es → after_link (at o head m f stack es ok) ≡ at o head m f stack es ok
   no-link f stack es ok h = rw h refl
 
   -- nothing is reconstructed

@@ -8,7 +8,7 @@ use Rattle.markup.specs.Escape.{written_comment}
 use Rattle.html_tokens.specs.Characters
 use Rattle.html_tokens.specs.Clean.{clean_comment, is_clean, is_clean_comment, is_clean_in_comment}
 use Rattle.html_tokens.specs.Comments.{comment_after, comment_at}
-use Rattle.html_tokens.specs.Item.{Stand, behind, behind_all, told}
+use Rattle.html_tokens.specs.Item.{Stand, longer, longer_by, clean_item}
 use Rattle.html_tokens.specs.Items.{item}
 use Rattle.html_tokens.specs.Laws.{in_data}
 use Rattle.html_tokens.specs.Table.{Row}
@@ -18,22 +18,22 @@ use Rattle.html_round_trip.specs.Slices.Forms.{is_read_comment}
 use Rattle.html_round_trip.specs.Slices.Slices.{IsSpelled, Last}
 
 -- the rest of a comment, after what was read of it
-rest-told : (st : Stand) (front text u : List ℕ) → is_read_comment text ≡ true → comment_after st front (text ++ (codes "-->" ++ u)) ≡ told (CommentToken (front ++ text)) (length (text ++ codes "-->")) st
+rest-told : (st : Stand) (front text u : List ℕ) → is_read_comment text ≡ true → comment_after st front (text ++ (codes "-->" ++ u)) ≡ clean_item (CommentToken (front ++ text)) (length (text ++ codes "-->")) st
 rest-told st front [] u h = rw (end-mark u, append-nil front) refl
 rest-told st front (c ∷ text) u h =
     let p = and_parts (is_clean_in_comment c) (list_all is_clean_in_comment text) h in
     goes-on st front c (text ++ (codes "-->" ++ u)) p.0
-    ∙ (ap behind (rest-told st (front ++ c ∷ []) text u p.1)
-    ∙ ap (λ w. told (CommentToken w) (suc (length (text ++ codes "-->"))) st) (append_assoc front (c ∷ []) text))
+    ∙ (ap longer (rest-told st (front ++ c ∷ []) text u p.1)
+    ∙ ap (λ w. clean_item (CommentToken w) (suc (length (text ++ codes "-->"))) st) (append_assoc front (c ∷ []) text))
 
 -- after "<!--"
-comment-told : (st : Stand) (text u : List ℕ) → is_read_comment text ≡ true → comment_at st (text ++ (codes "-->" ++ u)) ≡ told (CommentToken text) (length (text ++ codes "-->")) st
+comment-told : (st : Stand) (text u : List ℕ) → is_read_comment text ≡ true → comment_at st (text ++ (codes "-->" ++ u)) ≡ clean_item (CommentToken text) (length (text ++ codes "-->")) st
 comment-told st [] u h = rest-told st [] [] u refl
 comment-told st (c ∷ text) u h = begun st c (text ++ (codes "-->" ++ u)) (and_parts (is_clean_in_comment c) (list_all is_clean_in_comment text) h).0 ∙ rest-told st [] (c ∷ text) u h
 
 comment-item : (rows : List Row) (cdata : Bool) (last : Option (List ℕ)) (text t : List ℕ) → is_read_comment text ≡ true
-    → item rows cdata (in_data last) 60 ((codes "!--" ++ (text ++ codes "-->")) ++ t) ≡ told (CommentToken text) (length (written_comment text)) (in_data last)
-comment-item rows cdata last text t h = ap (λ u. behind_all 4 (comment_at (in_data last) u)) (append_assoc text (codes "-->") t) ∙ ap (behind_all 4) (comment-told (in_data last) text t h)
+    → item rows cdata (in_data last) 60 ((codes "!--" ++ (text ++ codes "-->")) ++ t) ≡ clean_item (CommentToken text) (length (written_comment text)) (in_data last)
+comment-item rows cdata last text t h = ap (λ u. longer_by 4 (comment_at (in_data last) u)) (append_assoc text (codes "-->") t) ∙ ap (longer_by 4) (comment-told (in_data last) text t h)
 
 -- a comment's text ends before its end
 text-run : (text u : List ℕ) → is_read_comment text ≡ true → clean_comment (text ++ (codes "-->" ++ u)) ≡ length text

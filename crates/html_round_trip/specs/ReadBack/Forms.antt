@@ -147,7 +147,7 @@ pub record IsFrameRead (rows : List Row) (o : Around) (f : Forest) (n m : ℕ) :
   pub head_end : (head : ℕ) (last : Option (List ℕ)) → f.errors ≡ 0
       → Reads rows (in_data last) (at o (Some head) mode.InHead f (opened m element.Head ∷ opened n element.Html ∷ []) [] true) (end_tag (codes "head"))
       (in_data last) (at o (Some head) mode.AfterHead f (opened n element.Html ∷ []) [] true)
-  pub space_behind_head : (head : ℕ) (last : Option (List ℕ)) (text : List ℕ) → list_all is_white text ≡ true → IsGood f n
+  pub space_after_head : (head : ℕ) (last : Option (List ℕ)) (text : List ℕ) → list_all is_white text ≡ true → IsGood f n
       → Reads rows (in_data last) (at o (Some head) mode.AfterHead f (opened n element.Html ∷ []) [] true) (escape text)
       (in_data last) (at o (Some head) mode.AfterHead (put_text f (Last n) text) (opened n element.Html ∷ []) [] true)
   pub body : (head : ℕ) (last : Option (List ℕ)) (attrs : List Attribute) → are_plain_attributes attrs ≡ true → f.errors ≡ 0

@@ -3,7 +3,7 @@ use Rattle.std.specs.Prelude.{◌≡◌, ℕ, ◌+◌, Bool, true, List, ◌∷�
 use Rattle.html_tokens.specs.declared.replies.TokenSinkResult.{TokenSinkResult}
 use Rattle.html_tokens.specs.declared.token.Token.{Token}
 use Rattle.html_tokens.specs.Clean.{is_clean, is_clean_reading, clean_by}
-use Rattle.html_tokens.specs.Item.{Fault, Stand, silent, told}
+use Rattle.html_tokens.specs.Item.{Fault, Stand, silent, clean_item}
 use Rattle.html_tokens.specs.Items.{item}
 use Rattle.html_tokens.specs.Notes.{Notes, paused, noted_reading}
 use Rattle.html_tokens.specs.Reading.{◌>>=◌, reading, next_stand, line_number, line_breaks}
@@ -12,7 +12,7 @@ use Rattle.html_tokens.specs.Table.{Row}
 -- A slice, with a text after it: clean items that tell nothing, and then a clean one that tells the token. The CDATA question is
 -- answered so.
 pub data Spells (rows : List Row) (cdata : Bool) (t : List ℕ) : Stand → List ℕ → Token → Stand → Type 0 where
-  Last : {st next : Stand} {token : Token} (c : ℕ) (cs : List ℕ) → item rows cdata st c (cs ++ t) ≡ told token (length (c ∷ cs)) next → is_clean rows st c (cs ++ t) ≡ true → Spells rows cdata t st (c ∷ cs) token next
+  Last : {st next : Stand} {token : Token} (c : ℕ) (cs : List ℕ) → item rows cdata st c (cs ++ t) ≡ clean_item token (length (c ∷ cs)) next → is_clean rows st c (cs ++ t) ≡ true → Spells rows cdata t st (c ∷ cs) token next
   More : {st next : Stand} {token : Token} (mid : Stand) (c : ℕ) (cs b : List ℕ) → item rows cdata st c (cs ++ (b ++ t)) ≡ silent (length (c ∷ cs)) mid → is_clean rows st c (cs ++ (b ++ t)) ≡ true → Spells rows cdata t mid b token next
       → Spells rows cdata t st ((c ∷ cs) ++ b) token next
 

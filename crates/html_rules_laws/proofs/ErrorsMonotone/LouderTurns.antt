@@ -13,7 +13,7 @@ use Rattle.html_rules.specs.Places.{append_doctype_to_document}
 use Rattle.html_rules.specs.Rules.{Ending, Finished, Again, Replied, Settled, Turn, check_acknowledged, concluded, first_fit, fits, four_for_each, is_self_closing, most_modes, one_more_turn, rows, settle, settled_by, turn, turn_by_row, turn_then, using_rules_for, within}
 use Rattle.html_rules.specs.Stack.{parse_error}
 use Rattle.html_rules.specs.State.{Open, State, current_number}
-use Rattle.html_rules.specs.Step.{behind, behind_line_feed, doctype_taken, first_doctype_taken, if_kept, taken, taken_by, text_taken, untouched}
+use Rattle.html_rules.specs.Step.{followed_by, after_line_feed, doctype_taken, first_doctype_taken, if_kept, taken, taken_by, text_taken, untouched}
 use Rattle.html_rules.specs.Table.{Row, Conclusion, Done, Acknowledged, Reprocess, ReprocessInOriginal, ReprocessInMode, Using, UsingThen, UsingCurrentMode, RawText, PlainText, RunScript, ReportEncoding}
 use Rattle.html_rules.specs.Tokens.{class_fits}
 use Rattle.html_rules.specs.declared.insertion_mode.InsertionMode.{InsertionMode}
@@ -105,8 +105,8 @@ module _ (g : ℕ → ℕ) (commutes : Commutes g) where
   text_taken-louder : (text : List ℕ) (before : Settled) → text_taken text (louder_settled g before) ≡ louder_settled g (text_taken text before)
   text_taken-louder [] before = refl
   text_taken-louder (c ∷ cs) before =
-      ap (λ settled. text_taken cs (behind before settled)) (settle-louder (CharacterTokens (c ∷ [])) before.state)
-      ∙ text_taken-louder cs (behind before (settle (CharacterTokens (c ∷ [])) before.state))
+      ap (λ settled. text_taken cs (followed_by before settled)) (settle-louder (CharacterTokens (c ∷ [])) before.state)
+      ∙ text_taken-louder cs (followed_by before (settle (CharacterTokens (c ∷ [])) before.state))
 
   if_kept-louder : (b : Bool) (d : Doctype) → IsLoud g commutes (if_kept b d)
   if_kept-louder b d s = choose-louder g commutes b (λ s. s) (append_doctype_to_document d) (same-louder g commutes) (append_doctype_to_document-louder g commutes d) s
@@ -129,7 +129,7 @@ module _ (g : ℕ → ℕ) (commutes : Commutes g) where
   doctype-louder _ d s = parse_error-louder g commutes s
 
   taken_by-louder : (b : Bool) (t : Token) (s : State) → taken_by b t (louder g s) ≡ louder_settled g (taken_by b t s)
-  taken_by-louder b (CharacterTokens text) s = text_taken-louder (behind_line_feed b text) (untouched s)
+  taken_by-louder b (CharacterTokens text) s = text_taken-louder (after_line_feed b text) (untouched s)
   taken_by-louder b (DoctypeToken d) s = ap untouched (doctype-louder s.mode d s)
   taken_by-louder b (TagToken tag) s = settle-louder (TagToken tag) s
   taken_by-louder b (CommentToken text) s = settle-louder (CommentToken text) s

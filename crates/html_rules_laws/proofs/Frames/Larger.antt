@@ -18,7 +18,7 @@ use Rattle.html_rules.specs.Modes.Foreign.{in_foreign_content}
 use Rattle.html_rules.specs.Rules.{Settled, rows, settle}
 use Rattle.html_rules.specs.Stack.{parse_error}
 use Rattle.html_rules.specs.State.{Open, State}
-use Rattle.html_rules.specs.Step.{behind, behind_line_feed, doctype_taken, first_doctype_taken, if_kept, taken, taken_by, text_taken, untouched}
+use Rattle.html_rules.specs.Step.{followed_by, after_line_feed, doctype_taken, first_doctype_taken, if_kept, taken, taken_by, text_taken, untouched}
 use Rattle.html_rules.specs.Table.{Action, Row, Conclusion, UsingThen, CreateNewRoot, Then, When, SetHeadElem, SetFormElem, ForgetFormElem, InsertFormVoid}
 use Rattle.html_rules.specs.declared.insertion_mode.InsertionMode.{InsertionMode}
 use Rattle.html_rules.specs.declared.insertion_mode.InsertionMode.TheVariants as mode
@@ -99,7 +99,7 @@ text-larger : (text : List ℕ) (before : Settled) → Larger before.state (text
 text-larger [] before = larger-same before.state
 text-larger (c ∷ cs) before =
     let t : Token = CharacterTokens (c ∷ []) in
-    larger-after before.state (settle t before.state).state (text_taken (c ∷ cs) before).state (settle-larger t before.state) (text-larger cs (behind before (settle t before.state)))
+    larger-after before.state (settle t before.state).state (text_taken (c ∷ cs) before).state (settle-larger t before.state) (text-larger cs (followed_by before (settle t before.state)))
 
 put-larger : (d : Doctype) (s : State) → Larger s (append_doctype_to_document d s)
 unfolding append_doctype_to_document
@@ -128,7 +128,7 @@ doctype-larger mode.Initial d s = first-larger d s
 doctype-larger m d s = error-larger s
 
 taken_by-larger : (t : Token) (b : Bool) (s : State) → Larger s (taken_by b t s).state
-taken_by-larger (CharacterTokens text) b s = text-larger (behind_line_feed b text) (untouched s)
+taken_by-larger (CharacterTokens text) b s = text-larger (after_line_feed b text) (untouched s)
 taken_by-larger (DoctypeToken d) b s = doctype-larger s.mode d s
 taken_by-larger t b s = settle-larger t s
 

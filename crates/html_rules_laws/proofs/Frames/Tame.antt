@@ -11,7 +11,7 @@ use Rattle.html_rules.specs.Actions.{append_in_body, frameset_not_ok_unless_whit
 use Rattle.html_rules.specs.Adoption.{Walk, adopt, adopt_from, adopt_listed, adopt_open, adoption_agency, adoption_turn, adoption_turns, begin_walk, between, close_misnested, copy_if, cut_at, furthest_block, is_number, listed_as, opened_after, opened_before, relist, unlist, walk}
 use Rattle.html_rules.specs.Choice.{choose}
 use Rattle.html_rules.specs.ForeignContent.{ForeignEnd, Dropped, AsInMode, Closed, close_foreign_by, enter_foreign, foreign_start_at}
-use Rattle.html_rules.specs.Formatting.{Listed, behind_marker, count_equal, create_formatting_element_for, is_equiv_modulo_attr_order, is_listed, last_named, list_current, put_after, reconstruct_active_formatting_elements, reopen, stands_for, with_in_place, with_room, without_earliest, without_entry}
+use Rattle.html_rules.specs.Formatting.{Listed, after_marker, count_equal, create_formatting_element_for, is_equiv_modulo_attr_order, is_listed, last_named, list_current, put_after, reconstruct_active_formatting_elements, reopen, stands_for, with_in_place, with_room, without_earliest, without_entry}
 use Rattle.html_rules.specs.Names.{Namespace, Html, MathMl, Svg, Other, is_html}
 use Rattle.html_rules.specs.Places.{append_text, insert_element, insert_element_for, put_element}
 use Rattle.html_rules.specs.Sets.{is_among, mathml_names_of, names_of, svg_names_of}
@@ -181,7 +181,7 @@ formatting-tame tag h s l =
     let made = listed-tame tag h (record s { active_formatting = with_room tag s.active_formatting }) (room-listed tag s.active_formatting l) in
     record { firm = made.firm; listed = made.listed }
 
-pub behind-listed : (entries : List Entry) → are_formatting entries ≡ true → are_formatting (behind_marker entries) ≡ true
+pub behind-listed : (entries : List Entry) → are_formatting entries ≡ true → are_formatting (after_marker entries) ≡ true
 behind-listed [] h = h
 behind-listed (Marker ∷ entries) h = h
 behind-listed (Element n tag ∷ entries) h = behind-listed entries (tail-listed (Element n tag) entries h)

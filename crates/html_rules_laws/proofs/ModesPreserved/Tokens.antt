@@ -14,7 +14,7 @@ use Rattle.html_rules.specs.Rules.{Ending, Finished, Again, Replied, Settled, ch
 use Rattle.html_rules.specs.Shape.{is_fit}
 use Rattle.html_rules.specs.Stack.{parse_error}
 use Rattle.html_rules.specs.State.{Open, State, hushed}
-use Rattle.html_rules.specs.Step.{behind, behind_line_feed, doctype_taken, first_doctype_taken, if_kept, is_barred, is_idle, step, taken, taken_by, text_taken, untouched}
+use Rattle.html_rules.specs.Step.{followed_by, after_line_feed, doctype_taken, first_doctype_taken, if_kept, is_barred, is_idle, step, taken, taken_by, text_taken, untouched}
 use Rattle.html_rules.specs.declared.insertion_mode.InsertionMode.{InsertionMode}
 use Rattle.html_rules.specs.declared.insertion_mode.InsertionMode.TheVariants as mode
 use Rattle.html_rules_laws.specs.Nesting.{AreReachedStatesFit, IsNested, Reached, document, fragment, token}
@@ -68,7 +68,7 @@ text-nested [] before kept h = h
 text-nested (c ∷ cs) before kept h =
     let t : Token = CharacterTokens (c ∷ []) in
     let may = other-come t before.state refl kept in
-    text-nested cs (behind before (settle t before.state)) (settle-kept t before.state may) (settle-nested t before.state may h)
+    text-nested cs (followed_by before (settle t before.state)) (settle-kept t before.state may) (settle-nested t before.state may h)
 
 -- doctypes
 
@@ -116,7 +116,7 @@ doctype-nested m d s at standing h = erred-nested s h
 -- a token that is taken
 
 taken_by-nested : (t : Token) (b : Bool) (s : State) → MayCome t s → IsNested s → IsNested (taken_by b t s).state
-taken_by-nested (CharacterTokens text) b s may h = text-nested (behind_line_feed b text) (untouched s) (come-kept (CharacterTokens text) s may) h
+taken_by-nested (CharacterTokens text) b s may h = text-nested (after_line_feed b text) (untouched s) (come-kept (CharacterTokens text) s may) h
 taken_by-nested (DoctypeToken d) b s may h = doctype-nested s.mode d s refl may.upright.standing h
 taken_by-nested (TagToken tag) b s may h = settle-nested (TagToken tag) s may h
 taken_by-nested (CommentToken text) b s may h = settle-nested (CommentToken text) s may h

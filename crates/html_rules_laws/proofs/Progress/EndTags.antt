@@ -18,7 +18,7 @@ use Rattle.html_tokens.specs.Items.{cdata_by, data_by, declaration_by, end_at, e
 use Rattle.html_tokens.specs.RawText.{ends_at_tag, has_references, is_fitting_end, raw_at, raw_by}
 use Rattle.html_tokens.specs.Reference.{Reference, fault_of_reference, reference_at}
 use Rattle.html_tokens.specs.Table.{Row}
-use Rattle.html_tokens.specs.Tags.{Opening, Quote, Close, Other, Part, Space, Solidus, End, Attributes, attribute_after, attribute_by, behind_tag, equals_by, has_attribute, last_name, opened_at, opened_by, opening, part, quote_at, slash_by, tag_by, value_at, with_attribute}
+use Rattle.html_tokens.specs.Tags.{Opening, Quote, Close, Other, Part, Space, Solidus, End, Attributes, attribute_after, attribute_by, after_tag, equals_by, has_attribute, last_name, opened_at, opened_by, opening, part, quote_at, slash_by, tag_by, value_at, with_attribute}
 use Rattle.html_tokens.proofs.Declarations.{Holds, all as every, bogus, doctype_at, empty_by}
 use Rattle.html_rules.specs.ForeignContent.{is_end_tag, is_start_tag}
 use Rattle.html_rules_laws.specs.Joint.{is_raw_place}
@@ -35,7 +35,7 @@ abbrev pub Fits : Option (List ℕ) → Option Token → Stand → Type 0
 Fits last o next = MayTell o next.place × (next.last_start_tag ≡ last)
 
 -- What holds inside of a tag of a kind, and after it where it ends, holds of each item there.
-module _ (P : Option Token → Stand → Type 0) (st : Stand) (Q : TagKind → Type 0) (inside : (tag : Tag) → Q tag.kind → P None (moved st (InTag tag))) (over : (tag : Tag) → Q tag.kind → P (Some (TagToken tag)) (behind_tag st tag)) where
+module _ (P : Option Token → Stand → Type 0) (st : Stand) (Q : TagKind → Type 0) (inside : (tag : Tag) → Q tag.kind → P None (moved st (InTag tag))) (over : (tag : Tag) → Q tag.kind → P (Some (TagToken tag)) (after_tag st tag)) where
   with-kind : (tag : Tag) (name value : List ℕ) → Q tag.kind → Q (with_attribute tag name value).kind
   with-kind tag name value e = by (has_attribute tag name) where
     by : (b : Bool) → Q (attribute_by b tag name value).kind

@@ -32,13 +32,13 @@ use Rattle.html_rules.specs.Sets.{is_among, names_of}
 use Rattle.html_rules.specs.Shape.{is_fit}
 use Rattle.html_rules.specs.Stack.{parse_error, pop_but_root}
 use Rattle.html_rules.specs.State.{Open, State, hushed, is_in}
-use Rattle.html_rules.specs.Step.{answered, behind, behind_line_feed, doctype_taken, ended, first_doctype_taken, if_kept, is_barred, is_idle, step, taken, taken_by, text_taken, untouched}
+use Rattle.html_rules.specs.Step.{answered, followed_by, after_line_feed, doctype_taken, ended, first_doctype_taken, if_kept, is_barred, is_idle, step, taken, taken_by, text_taken, untouched}
 use Rattle.html_rules.specs.Table.{Row as TableRow, EndTags, AnyEndTag, Then, Pop, RestoreMode, Done, RunScript, row}
 use Rattle.html_rules.specs.declared.insertion_mode.InsertionMode.{InsertionMode}
 use Rattle.html_rules.specs.declared.insertion_mode.InsertionMode.TheVariants as mode
 use Rattle.html_rules.specs.declared.tag_set.TagSet.TheVariants as set
 use Rattle.html_rules_laws.specs.EachText.{IsEachTextTaken}
-use Rattle.html_rules_laws.specs.Joint.{AreJoint, Met, document, fragment, behind as item_behind, is_last_opened, is_raw_place}
+use Rattle.html_rules_laws.specs.Joint.{AreJoint, Met, document, fragment, behind as item_after, is_last_opened, is_raw_place}
 use Rattle.html_rules_laws.specs.Nesting.{Ground, IsNested, fits_nested, fits_under, ground_of, is_loose, part_of}
 use Rattle.html_rules_laws.specs.Settled.{are_template_modes}
 use Rattle.html_rules_laws.specs.Sound.{Sound}
@@ -62,7 +62,7 @@ use Rattle.html_rules_laws.proofs.Bools.{no}
 
 text-going : (text : List ℕ) (before : Settled) (s : State) → IsRest s before.state → IsRest s (text_taken text before).state
 text-going [] before s h = h
-text-going (c ∷ cs) before s h = let t : Token = CharacterTokens (c ∷ []) in text-going cs (behind before (settle t before.state)) s (rest-after s before.state (settle t before.state).state h (settle-rest t before.state))
+text-going (c ∷ cs) before s h = let t : Token = CharacterTokens (c ∷ []) in text-going cs (followed_by before (settle t before.state)) s (rest-after s before.state (settle t before.state).state h (settle-rest t before.state))
 
 either-ended : (b : Bool) (s x y : State) → x.has_ended ≡ s.has_ended → y.has_ended ≡ s.has_ended → (choose b (λ _. x) (λ _. y)).has_ended ≡ s.has_ended
 either-ended true s x y h k = h
@@ -81,7 +81,7 @@ doctype-ended mode.Initial d s = first-ended d s
 doctype-ended m d s = refl
 
 taken_by-ended : (t : Token) (b : Bool) (s : State) → (taken_by b t s).state.has_ended ≡ s.has_ended
-taken_by-ended (CharacterTokens text) b s = (text-going (behind_line_feed b text) (untouched s) s (rest-same s)).ended
+taken_by-ended (CharacterTokens text) b s = (text-going (after_line_feed b text) (untouched s) s (rest-same s)).ended
 taken_by-ended (DoctypeToken d) b s = doctype-ended s.mode d s
 taken_by-ended (TagToken tag) b s = (settle-rest (TagToken tag) s).ended
 taken_by-ended (CommentToken text) b s = (settle-rest (CommentToken text) s).ended
@@ -106,7 +106,7 @@ text-out : (text : List ℕ) (before : Settled) → Outside before.state → Out
 text-out [] before o = o
 text-out (c ∷ cs) before o =
     let t : Token = CharacterTokens (c ∷ []) in
-    text-out cs (behind before (settle t before.state))
+    text-out cs (followed_by before (settle t before.state))
     (elim (settle-out t before.state o) [ inl out ↦ out | inr raw ↦ absurd (no_raw (settle t before.state).reply raw.1 (settle-well t before.state)) ])
 
 either-out : (b : Bool) (x y : State) → Outside x → Outside y → Outside (choose b (λ _. x) (λ _. y))
@@ -133,7 +133,7 @@ doctype-out mode.Initial d s o = first-out d s o
 doctype-out m d s o = error-out s o
 
 taken_by-out : (t : Token) (b : Bool) (s : State) → Outside s → IsOutside (taken_by b t s)
-taken_by-out (CharacterTokens text) b s o = inl (text-out (behind_line_feed b text) (untouched s) o)
+taken_by-out (CharacterTokens text) b s o = inl (text-out (after_line_feed b text) (untouched s) o)
 taken_by-out (DoctypeToken d) b s o = inl (doctype-out s.mode d s o)
 taken_by-out (TagToken tag) b s o = settle-out (TagToken tag) s o
 taken_by-out (CommentToken text) b s o = settle-out (CommentToken text) s o
@@ -184,7 +184,7 @@ characters-settled (c ∷ cs) before kept is at =
     let t : Token = CharacterTokens (c ∷ []) in
     let may = other-come t before.state refl kept in
     let one = character-settled c before.state at may is in
-    let rest = characters-settled cs (behind before (settle t before.state)) (settle-kept t before.state may) (settle-nested t before.state may is) (one.0 ∙ at) in
+    let rest = characters-settled cs (followed_by before (settle t before.state)) (settle-kept t before.state may) (settle-nested t before.state may is) (one.0 ∙ at) in
     (rest.0 ∙ one.0, rest.1 ∙ one.1)
 
 -- the end tag
@@ -284,7 +284,7 @@ in-text next r (Script n) t at raw leaves made = absurd raw
 in-text next r (EncodingIndicator label) t at raw leaves made = absurd raw
 
 taken_by-named : (t : Token) (b : Bool) (s : State) → MayCome t s → IsNested s → IsRaw (taken_by b t s).reply → IsMade t (taken_by b t s).state.open_elems
-taken_by-named (CharacterTokens text) b s may is raw = absurd (no_raw _ raw (text-continues (behind_line_feed b text) (untouched s) refl))
+taken_by-named (CharacterTokens text) b s may is raw = absurd (no_raw _ raw (text-continues (after_line_feed b text) (untouched s) refl))
 taken_by-named (DoctypeToken d) b s may is raw = absurd raw
 taken_by-named (TagToken tag) b s may is raw = settle-named (TagToken tag) s may is raw
 taken_by-named (CommentToken text) b s may is raw = settle-named (CommentToken text) s may is raw
@@ -320,7 +320,7 @@ unfolding taken set_ignore_lf
 text-follow st next s j text (CharacterTokens cs) line tell =
     let t : Token = CharacterTokens cs in
     let may = may-come st s j t in
-    let stays = characters-settled (behind_line_feed s.ignore_lf cs) (untouched (set_ignore_lf false (hushed s))) (come-kept t (set_ignore_lf false (hushed s)) may) (still-nested st s j) text.at in
+    let stays = characters-settled (after_line_feed s.ignore_lf cs) (untouched (set_ignore_lf false (hushed s))) (come-kept t (set_ignore_lf false (hushed s)) may) (still-nested st s j) text.at in
     follow st s j t line (rw text.at refl) (Held next) (λ i. inr (record { at = text.at; place = tell.0; named = rw tell.1 text.named }))
     (inr (rw (taken-well t (hushed s)) (record { at = stays.0 ∙ text.at; place = tell.0; named = rw (tell.1, stays.1) text.named })))
 text-follow st next s j text (TagToken tag) line tell =
@@ -434,7 +434,7 @@ met-joint table st s (document opts setting f tree top) =
 met-joint table st s (fragment opts setting context form scripting f tree top own named) =
     begun (stand_of (record opts { initial_state = Some (tokenizer_state context scripting) })) (before_fragment setting context form f)
     (states-steady.fragment setting context form f tree top own) (nested-states.fragment setting context form f tree named) (fragment-going setting context form f) (fragment-out setting context form f)
-met-joint table st s (item_behind st' s' r c t breaks reply before e) =
+met-joint table st s (item_after st' s' r c t breaks reply before e) =
     let i : Item = item table (asks_cdata s') st' c t in
     item-joint st' i.next i.fault i.token breaks s' r reply (met-joint table st' s' before) (item-fits table (asks_cdata s') st' c t) (item-leaves table (asks_cdata s') st' c t) e
 

@@ -18,7 +18,7 @@ use Rattle.html_rules.specs.Sets.{mathml_names_of, names_of, svg_names_of}
 use Rattle.html_rules.specs.Shape.{fits_mode, has_root, has_template_modes, is_at_root, is_fit}
 use Rattle.html_rules.specs.Stack.{has_open, parse_error}
 use Rattle.html_rules.specs.State.{Open, State, hushed, is_in}
-use Rattle.html_rules.specs.Step.{doctype_taken, ended, first_doctype_taken, if_kept, is_barred, is_idle, step, taken, taken_by, behind_line_feed, untouched}
+use Rattle.html_rules.specs.Step.{doctype_taken, ended, first_doctype_taken, if_kept, is_barred, is_idle, step, taken, taken_by, after_line_feed, untouched}
 use Rattle.html_rules.specs.declared.insertion_mode.InsertionMode.{InsertionMode}
 use Rattle.html_rules.specs.declared.insertion_mode.InsertionMode.TheVariants as mode
 use Rattle.html_rules.specs.declared.tag_set.TagSet.TheVariants as set
@@ -81,7 +81,7 @@ doctype-held mode.Initial d s e h = first-held d s (record { held = h; mode = e 
 doctype-held m d s e h = erred s h
 
 taken_by-held : (t : Token) (b : Bool) (s : State) → Held s → Held (taken_by b t s).state
-taken_by-held (CharacterTokens text) b s h = text-held (behind_line_feed b text) (untouched s) h
+taken_by-held (CharacterTokens text) b s h = text-held (after_line_feed b text) (untouched s) h
 taken_by-held (DoctypeToken d) b s h = doctype-held s.mode d s refl h
 taken_by-held (TagToken tag) b s h = settle-held (TagToken tag) s h
 taken_by-held (CommentToken text) b s h = settle-held (CommentToken text) s h

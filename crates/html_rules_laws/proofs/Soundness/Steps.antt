@@ -18,7 +18,7 @@ use Rattle.html_rules.specs.Sets.{is_among, mathml_names_of, names_in, svg_names
 use Rattle.html_rules.specs.Shape.{is_at_root}
 use Rattle.html_rules.specs.Stack.{has_open, parse_error}
 use Rattle.html_rules.specs.State.{Open, State, adjusted_by, adjusted_current_node, current_number, is_in}
-use Rattle.html_rules.specs.Step.{behind, text_taken}
+use Rattle.html_rules.specs.Step.{followed_by, text_taken}
 use Rattle.html_rules.specs.Table.{Action, InsertForeign, Conclusion, Done, Acknowledged, UsingCurrentMode}
 use Rattle.html_rules.specs.declared.insertion_mode.InsertionMode.{InsertionMode}
 use Rattle.html_rules.specs.declared.insertion_mode.InsertionMode.TheVariants as mode
@@ -263,4 +263,4 @@ settle-held t s h = within-held 16 (four_for_each s.open_elems t) t (four-held s
 
 pub text-held : (text : List ℕ) (before : Settled) → Held before.state → Held (text_taken text before).state
 text-held [] before h = h
-text-held (c ∷ cs) before h = text-held cs (behind before (settle (CharacterTokens (c ∷ [])) before.state)) (settle-held (CharacterTokens (c ∷ [])) before.state h)
+text-held (c ∷ cs) before h = text-held cs (followed_by before (settle (CharacterTokens (c ∷ [])) before.state)) (settle-held (CharacterTokens (c ∷ [])) before.state h)

@@ -9,7 +9,7 @@ use Rattle.html_rules.specs.Rules.{Settled, rows, settle}
 use Rattle.html_rules.specs.Shape.{fits_in, fits_in_original, fits_mode, has_root, has_template_modes, is_at_root, is_fit}
 use Rattle.html_rules.specs.Stack.{parse_error, without_current}
 use Rattle.html_rules.specs.State.{Open, State}
-use Rattle.html_rules.specs.Step.{behind, behind_line_feed, taken, taken_by, text_taken, untouched}
+use Rattle.html_rules.specs.Step.{followed_by, after_line_feed, taken, taken_by, text_taken, untouched}
 use Rattle.html_rules.specs.declared.insertion_mode.InsertionMode.{InsertionMode}
 use Rattle.html_rules.specs.declared.insertion_mode.InsertionMode.TheVariants.{Text, InTableText}
 use Rattle.html_rules_laws.specs.Ready.{Ready, are_formatting}
@@ -75,11 +75,11 @@ text-settled : (text : List ℕ) (before : Settled) → Ready before.state → a
 text-settled [] before is modes h = h
 text-settled (c ∷ cs) before is modes h =
     let t : Token = CharacterTokens (c ∷ []) in
-    text-settled cs (behind before (settle t before.state)) (settle-keeps c before.state is) ((settle-rest t before.state).modes modes)
+    text-settled cs (followed_by before (settle t before.state)) (settle-keeps c before.state is) ((settle-rest t before.state).modes modes)
     (both before.is_settled (settle t before.state).is_settled h (token-settled t before.state is.fit is.listed modes))
 
 taken-settled : (t : Token) (s : State) → Ready s → are_template_modes s.template_modes ≡ true → (b : Bool) → (taken_by b t s).is_settled ≡ true
-taken-settled (CharacterTokens text) s is modes b = text-settled (behind_line_feed b text) (untouched s) is modes refl
+taken-settled (CharacterTokens text) s is modes b = text-settled (after_line_feed b text) (untouched s) is modes refl
 taken-settled (DoctypeToken d) s is modes b = refl
 taken-settled (TagToken tag) s is modes b = token-settled (TagToken tag) s is.fit is.listed modes
 taken-settled (CommentToken text) s is modes b = token-settled (CommentToken text) s is.fit is.listed modes

@@ -10,7 +10,7 @@ use Rattle.markup.proofs.PutTexts.{IsParent-document}
 use Rattle.html_tokens.specs.declared.tags.Tag.{Tag}
 use Rattle.html_tokens.specs.declared.token.Doctype.{Doctype}
 use Rattle.html_rules.specs.Choice.{choose}
-use Rattle.html_rules.specs.Formatting.{behind_marker, clear_active_formatting_to_marker, count_equal, create_formatting_element_for, is_equiv_modulo_attr_order, list_current, push_marker, reconstruct_active_formatting_elements, reopen, with_room, without_earliest}
+use Rattle.html_rules.specs.Formatting.{after_marker, clear_active_formatting_to_marker, count_equal, create_formatting_element_for, is_equiv_modulo_attr_order, list_current, push_marker, reconstruct_active_formatting_elements, reopen, with_room, without_earliest}
 use Rattle.html_rules.specs.Names.{Namespace, Html}
 use Rattle.html_rules.specs.Places.{append_comment, append_comment_to_doc, append_comment_to_html, append_doctype_to_document, append_text, create_root, insert_element, insert_element_for, open_element, or_empty, put_element}
 use Rattle.html_rules.specs.Stack.{check_body_end, close_item, close_item_named, close_p_element, close_p_element_in_button_scope, expect_to_close, finds_generic, generate_implied_end_except, generate_implied_end_tags, in_scope, is_open, item_name, nothing, parse_error, pop, pop_but_root, pop_until, pop_until_current, process_end_tag_in_body, remove_from_stack, root_number}
@@ -195,14 +195,14 @@ pub marker-Standing : Keeps push_marker
 unfolding push_marker
 marker-Standing s is = relisted-Standing (Marker ∷ s.active_formatting) s is is.listed
 
-behind-listed : (f : Forest) (entries : List Entry) → AreListed f entries → AreListed f (behind_marker entries)
+behind-listed : (f : Forest) (entries : List Entry) → AreListed f entries → AreListed f (after_marker entries)
 behind-listed f [] h = tt
 behind-listed f (Marker ∷ entries) h = h
 behind-listed f (Element n tag ∷ entries) h = behind-listed f entries h.1
 
 pub clear-Standing : Keeps clear_active_formatting_to_marker
 unfolding clear_active_formatting_to_marker
-clear-Standing s is = relisted-Standing (behind_marker s.active_formatting) s is (behind-listed s.forest s.active_formatting is.listed)
+clear-Standing s is = relisted-Standing (after_marker s.active_formatting) s is (behind-listed s.forest s.active_formatting is.listed)
 
 pub reopen-Standing : (entries : List Entry) (s : State) → AreListed s.forest entries → Standing s → Standing (reopen entries s)
 reopen-Standing [] s h is = relisted-Standing [] s is tt

@@ -20,7 +20,7 @@ use Rattle.html_rules.specs.Rules.{Ending, Finished, Again, Replied, Settled, ch
 use Rattle.html_rules.specs.Shape.{has_root, is_at_root, is_fit}
 use Rattle.html_rules.specs.Stack.{parse_error}
 use Rattle.html_rules.specs.State.{Open, State, hushed}
-use Rattle.html_rules.specs.Step.{behind, behind_line_feed, doctype_taken, ended, first_doctype_taken, if_kept, is_barred, is_idle, step, taken, taken_by, text_taken, untouched}
+use Rattle.html_rules.specs.Step.{followed_by, after_line_feed, doctype_taken, ended, first_doctype_taken, if_kept, is_barred, is_idle, step, taken, taken_by, text_taken, untouched}
 use Rattle.html_rules.specs.declared.insertion_mode.InsertionMode.{InsertionMode}
 use Rattle.html_rules.specs.declared.insertion_mode.InsertionMode.TheVariants as mode
 use Rattle.html_rules_laws.specs.Held.{Held}
@@ -100,7 +100,7 @@ other-come t s e h = record {
 
 text-kept : (text : List ℕ) (before : Settled) → IsKept before.state → IsKept (text_taken text before).state
 text-kept [] before h = h
-text-kept (c ∷ cs) before h = text-kept cs (behind before (settle (CharacterTokens (c ∷ [])) before.state)) (settle-kept (CharacterTokens (c ∷ [])) before.state (other-come (CharacterTokens (c ∷ [])) before.state refl h))
+text-kept (c ∷ cs) before h = text-kept cs (followed_by before (settle (CharacterTokens (c ∷ [])) before.state)) (settle-kept (CharacterTokens (c ∷ [])) before.state (other-come (CharacterTokens (c ∷ [])) before.state refl h))
 
 -- doctypes
 
@@ -146,7 +146,7 @@ doctype-left m d s e h = erred-left s h
 -- a token that is taken
 
 taken_by-left : (t : Token) (b : Bool) (s : State) → MayCome t s → IsLeft (taken_by b t s).state
-taken_by-left (CharacterTokens text) b s may = (text-kept (behind_line_feed b text) (untouched s) (come-kept (CharacterTokens text) s may)).left
+taken_by-left (CharacterTokens text) b s may = (text-kept (after_line_feed b text) (untouched s) (come-kept (CharacterTokens text) s may)).left
 taken_by-left (DoctypeToken d) b s may = doctype-left s.mode d s refl (come-kept (DoctypeToken d) s may).left
 taken_by-left (TagToken tag) b s may = (settle-kept (TagToken tag) s may).left
 taken_by-left (CommentToken text) b s may = (settle-kept (CommentToken text) s may).left

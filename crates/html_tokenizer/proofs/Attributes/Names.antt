@@ -12,7 +12,7 @@ use Rattle.html_tokens.specs.Characters.{is_white_space, ends_attribute_name, lo
 use Rattle.html_tokens.specs.Item.{slight_if, InData, InTag, silent}
 use Rattle.html_tokens.specs.Notes.{Notes, noting_error}
 use Rattle.html_tokens.specs.Reading.{erred_by, line_break}
-use Rattle.html_tokens.specs.Tags.{behind_tag, with_attribute, attribute_after, is_odd_in_name, is_odd_first}
+use Rattle.html_tokens.specs.Tags.{after_tag, with_attribute, attribute_after, is_odd_in_name, is_odd_first}
 use Rattle.html_tokenizer.specs.declared.tokenizer.Tokenizer.{Tokenizer}
 use Rattle.html_tokenizer.specs.Rest.{rows_of, standing, held_at}
 use Rattle.html_tokenizer.specs.Steps.{IsAt, Took, Keeps, EndsTag, plays}
@@ -58,7 +58,7 @@ module _ {K H : Type 0} (Sink : Ghosts K H) where
   before-close old new c result from ok e h = rw e (
       took_tag Sink old new 62 state.BeforeAttributeName result from refl h
       (λ b s x t. tag-end (listening Sink) (rows_of old) (standing old InData) old.tag b s t
-      ∙ noted-tag Sink old old.tag (behind_tag (standing old InData) old.tag) b s t) ok)
+      ∙ noted-tag Sink old old.tag (after_tag (standing old InData) old.tag) b s t) ok)
 
   pub before-name : (old : Tokenizer K) (c : ℕ) (name : List ℕ) → IsAt old state.BeforeAttributeName → Sink.is_sound (Sink.view old.sink) → is_white_space c ≡ false → c ≢ 47 → c ≢ 62 → name ≡ lowered c ∷ []
       → Took Sink old (record old { attribute_name = name; state = state.AttributeName }) c flow.Continue

@@ -144,10 +144,10 @@ module _ {K H : Type 0} (Sink : Ghosts K H) where
       finish-before Sink old fin new old.attribute_value c (state.AttributeValue value.Unquoted) result from is
       (λ b s t. ap (λ i. plays Sink (rows_of old) i b s (c ∷ t)) (unquoted-ends (rows_of old) (standing old InData) old.tag old.attribute_name old.attribute_value c t e)) h
 
-  pub value_behind : (old new : Tokenizer K) (c : ℕ) (result : Result (ProcessResult H) ParseFault) → IsAt old state.AfterAttributeValueQuoted
+  pub value_after : (old new : Tokenizer K) (c : ℕ) (result : Result (ProcessResult H) ParseFault) → IsAt old state.AfterAttributeValueQuoted
       → Keeps Sink (record old { state = state.BeforeAttributeName }) new c result → Keeps Sink old new c result
   unfolding held_at
-  value_behind old new c result from h =
+  value_after old new c result from h =
       keeps_odd Sink (not (ends_tag_name c)) old (record old { state = state.BeforeAttributeName }) new c state.AfterAttributeValueQuoted state.BeforeAttributeName result from (record { state = refl; fresh = from.fresh }) refl refl (λ b s t. refl) h
 
   -- ">" in place of a value, which is odd

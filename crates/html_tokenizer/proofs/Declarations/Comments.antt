@@ -12,7 +12,7 @@ use Rattle.html_tokens.specs.declared.token.Token.TheVariants.{CommentToken}
 use Rattle.html_tokens.specs.declared.sink.TokenSink.{Ghosts}
 use Rattle.html_tokens.specs.Characters.{shown}
 use Rattle.html_tokens.specs.Comments.{is_odd_in_comment, comment_end, comment_by, comment_at, comment_after, bogus_by, bogus_comment_after}
-use Rattle.html_tokens.specs.Item.{Stand, Item, InData, behind, marked, told_as, Fault, Grave, Slight, slight_if, and_slight}
+use Rattle.html_tokens.specs.Item.{Stand, Item, InData, longer, marked, token_item, Fault, Grave, Slight, slight_if, and_slight}
 use Rattle.html_tokens.specs.Notes.{Notes, noting, noting_error}
 use Rattle.html_tokens.specs.Reading.{erred_by, line_number, line_break, line_breaks}
 use Rattle.html_tokens.specs.Sink.{◌>>=◌, SinkLaws}
@@ -28,7 +28,7 @@ use Rattle.html_tokenizer.specs.Listeners.{listening}
 
 -- ITEMS
 
-comment-goes_on : (st : Stand) (front : List ℕ) (c : ℕ) (t : List ℕ) → comment_end (c ∷ t) ≡ None → comment_after st front (c ∷ t) ≡ marked (is_odd_in_comment c) (behind (comment_after st (front ++ shown c ∷ []) t))
+comment-goes_on : (st : Stand) (front : List ℕ) (c : ℕ) (t : List ℕ) → comment_end (c ∷ t) ≡ None → comment_after st front (c ∷ t) ≡ marked (is_odd_in_comment c) (longer (comment_after st (front ++ shown c ∷ []) t))
 comment-goes_on st front c t e = rw e refl
 
 end-dash : (c : ℕ) (t : List ℕ) → nat_eq c 45 ≡ false → comment_end (45 ∷ c ∷ t) ≡ None
@@ -44,27 +44,27 @@ end-bang : (c : ℕ) (t : List ℕ) → nat_eq c 62 ≡ false → comment_end (4
 end-bang c t e = rw e refl
 
 -- after one dash, or two, or two and "!", that end nothing
-dash-letter : (st : Stand) (front : List ℕ) (c : ℕ) (t : List ℕ) → nat_eq c 45 ≡ false → comment_after st front (45 ∷ c ∷ t) ≡ marked true (behind (comment_after st (front ++ 45 ∷ []) (c ∷ t)))
+dash-letter : (st : Stand) (front : List ℕ) (c : ℕ) (t : List ℕ) → nat_eq c 45 ≡ false → comment_after st front (45 ∷ c ∷ t) ≡ marked true (longer (comment_after st (front ++ 45 ∷ []) (c ∷ t)))
 dash-letter st front c t e = comment-goes_on st front 45 (c ∷ t) (end-dash c t e)
 
-at-dash : (st : Stand) (c : ℕ) (t : List ℕ) → nat_eq 62 c ≡ false → nat_eq c 45 ≡ false → comment_at st (45 ∷ c ∷ t) ≡ marked true (behind (comment_after st (45 ∷ []) (c ∷ t)))
+at-dash : (st : Stand) (c : ℕ) (t : List ℕ) → nat_eq 62 c ≡ false → nat_eq c 45 ≡ false → comment_at st (45 ∷ c ∷ t) ≡ marked true (longer (comment_after st (45 ∷ []) (c ∷ t)))
 at-dash st c t e f = rw e (dash-letter st [] c t f)
 
 -- an item after a hyphen that ends nothing
 abbrev dashed : Item → Item
-dashed i = marked true (behind i)
+dashed i = marked true (longer i)
 
 dashes-letter : (st : Stand) (front : List ℕ) (c : ℕ) (t : List ℕ) → nat_eq c 62 ≡ false → nat_eq c 33 ≡ false → nat_eq c 45 ≡ false → comment_after st front (45 ∷ 45 ∷ c ∷ t) ≡ dashed (dashed (comment_after st (front ++ codes "--") (c ∷ t)))
 dashes-letter st front c t e f g =
     comment-goes_on st front 45 (45 ∷ c ∷ t) (end-dashes c t e f)
     ∙ ap dashed (dash-letter st (front ++ 45 ∷ []) c t g ∙ ap (λ x. dashed (comment_after st x (c ∷ t))) (append_assoc front (45 ∷ []) (45 ∷ [])))
 
-bang-letter : (st : Stand) (front : List ℕ) (c : ℕ) (t : List ℕ) → nat_eq c 62 ≡ false → comment_after st front (45 ∷ 45 ∷ 33 ∷ c ∷ t) ≡ dashed (dashed (behind (comment_after st (front ++ codes "--!") (c ∷ t))))
+bang-letter : (st : Stand) (front : List ℕ) (c : ℕ) (t : List ℕ) → nat_eq c 62 ≡ false → comment_after st front (45 ∷ 45 ∷ 33 ∷ c ∷ t) ≡ dashed (dashed (longer (comment_after st (front ++ codes "--!") (c ∷ t))))
 bang-letter st front c t e =
     comment-goes_on st front 45 (45 ∷ 33 ∷ c ∷ t) (end-bang c t e)
     ∙ ap dashed (comment-goes_on st (front ++ 45 ∷ []) 45 (33 ∷ c ∷ t) (end-dash 33 (c ∷ t) refl)
     ∙ ap dashed (comment-goes_on st ((front ++ 45 ∷ []) ++ 45 ∷ []) 33 (c ∷ t) (end-none 33 (c ∷ t) refl)
-    ∙ ap (λ x. behind (comment_after st x (c ∷ t))) (append_assoc (front ++ 45 ∷ []) (45 ∷ []) (33 ∷ []) ∙ append_assoc front (45 ∷ []) (codes "-!"))))
+    ∙ ap (λ x. longer (comment_after st x (c ∷ t))) (append_assoc (front ++ 45 ∷ []) (45 ∷ []) (33 ∷ []) ∙ append_assoc front (45 ∷ []) (codes "-!"))))
 
 -- FAULTS
 
@@ -78,14 +78,14 @@ marked-some odd i e = rw e (slight-some i.fault)
 
 comment-fault_by : (end : Option ℕ) (faulty odd : Bool) (st : Stand) (front : List ℕ) (go : Unit {0} → Item) → faulty ≡ true → odd ≡ true → is_some (comment_by end faulty odd st front go).fault ≡ true
 comment-fault_by (Some n) faulty odd st front go e f = rw e refl
-comment-fault_by None faulty odd st front go e f = marked-some odd (behind (go tt)) f
+comment-fault_by None faulty odd st front go e f = marked-some odd (longer (go tt)) f
 
 -- a comment with U+0000 has a fault
 null-fault : (st : Stand) (front : List ℕ) (c : ℕ) (t : List ℕ) → nat_eq c 0 ≡ true → is_some (comment_after st front (c ∷ t)).fault ≡ true
 null-fault st front c t e =
     let null : c ≡ 0 = eqb-true c 0 e in
     ap (λ i. is_some i.fault) (comment-goes_on st front c t (end-none c t (ap (λ d. nat_eq d 45) null)))
-    ∙ marked-some (is_odd_in_comment c) (behind (comment_after st (front ++ shown c ∷ []) t)) (ap is_odd_in_comment null)
+    ∙ marked-some (is_odd_in_comment c) (longer (comment_after st (front ++ shown c ∷ []) t)) (ap is_odd_in_comment null)
 
 -- and so has one in which "--" stands, and no ">" after it
 dashes-fault : (st : Stand) (front : List ℕ) (c : ℕ) (t : List ℕ) → nat_eq 62 c ≡ false → is_some (comment_after st front (45 ∷ 45 ∷ c ∷ t)).fault ≡ true
@@ -115,7 +115,7 @@ module _ {K H : Type 0} (Sink : Ghosts K H) (laws : SinkLaws Sink.is_sound Sink.
   abbrev pub CommentSays : State → Tokenizer K → Owed → List ℕ → Type 0
   CommentSays st old owed front = EndSays Sink laws st old (emitted old) owed (CommentToken front)
 
-  comment-says : (fault : Option Fault) (old : Tokenizer K) (b : ℕ) (s : Sink.State × Notes ℕ) → Sink.is_sound s.0 → (front t u : List ℕ) (n : ℕ) (i : Item) → i ≡ told_as fault (CommentToken front) n (standing old InData) → line_breaks (take n u) ≡ 0 → drop n u ≡ t
+  comment-says : (fault : Option Fault) (old : Tokenizer K) (b : ℕ) (s : Sink.State × Notes ℕ) → Sink.is_sound s.0 → (front t u : List ℕ) (n : ℕ) (i : Item) → i ≡ token_item fault (CommentToken front) n (standing old InData) → line_breaks (take n u) ≡ 0 → drop n u ≡ t
       → plays Sink (rows_of old) i b s u ≡ (noting Sink.step Sink.is_quiet (s.0, more (owed_for fault) s.1) (CommentToken front) (line_number b) >>= λ p. reads Sink (rows_of old) (standing old InData) (b + 0) p.0 t)
   comment-says fault old b s h front t u n i is unbroken left = end-says Sink laws fault old b s h (CommentToken front) t u n i tt is unbroken left
 
@@ -248,9 +248,9 @@ module _ {K H : Type 0} (Sink : Ghosts K H) (laws : SinkLaws Sink.is_sound Sink.
     unfolding held_at
     bang-other from is e = goes-on true state.CommentEndBang from (λ b s t.
         let left : Item = comment_after (standing old InData) (old.comment ++ codes "--!") (c ∷ t) in
-        behind-dash old (comment_after (standing old InData) old.comment (45 ∷ 45 ∷ 33 ∷ c ∷ t)) (dashed (behind left)) b s (45 ∷ 33 ∷ c ∷ t) (bang-letter (standing old InData) old.comment c t e)
-        ∙ behind-dash old (dashed (behind left)) (behind left) b (noting_error Slight s) (33 ∷ c ∷ t) refl
-        ∙ behind-one Sink laws old 33 refl (behind left) left b (noting_error Slight s) (c ∷ t) refl
+        behind-dash old (comment_after (standing old InData) old.comment (45 ∷ 45 ∷ 33 ∷ c ∷ t)) (dashed (longer left)) b s (45 ∷ 33 ∷ c ∷ t) (bang-letter (standing old InData) old.comment c t e)
+        ∙ behind-dash old (dashed (longer left)) (longer left) b (noting_error Slight s) (33 ∷ c ∷ t) refl
+        ∙ behind-one Sink laws old 33 refl (longer left) left b (noting_error Slight s) (c ∷ t) refl
         ∙ ap (λ x. plays Sink (rows_of old) (comment_after (standing old InData) x (c ∷ t)) b (noting_error Slight s) (c ∷ t)) (sym is))
 
   -- States within a comment that are never entered are read as those that they stand for.

@@ -11,7 +11,7 @@ use Rattle.html_tokens.specs.declared.token.Doctype.{Doctype}
 use Rattle.html_tokens.specs.declared.sink.TokenSink.{Ghosts}
 use Rattle.html_tokens.specs.Characters.{is_white_space, ends_word, begins_any_case}
 use Rattle.html_tokens.specs.Doctypes.{forced, given, after_name, keyword_at, keyword_by, after_public_keyword, after_system_keyword, junk_after}
-use Rattle.html_tokens.specs.Item.{Stand, Item, InData, behind_all}
+use Rattle.html_tokens.specs.Item.{Stand, Item, InData, longer_by}
 use Rattle.html_tokens.specs.Notes.{Notes}
 use Rattle.html_tokens.specs.Reading.{line_break}
 use Rattle.html_tokens.specs.Sink.{SinkLaws}
@@ -58,25 +58,25 @@ pub name-word : (st : Stand) (d : Doctype) (cs : List ℕ) (c : ℕ) (t : List �
 name-word st d [] c t h = name-front st d c t h
 name-word st d (x ∷ cs) c t h = name-front st d x (cs ++ c ∷ t) h
 
-public-by : (p s : Bool) (st : Stand) (d : Doctype) (t : List ℕ) → p ≡ true → keyword_by false p s st d t ≡ behind_all 6 (after_public_keyword st d (drop 6 t))
+public-by : (p s : Bool) (st : Stand) (d : Doctype) (t : List ℕ) → p ≡ true → keyword_by false p s st d t ≡ longer_by 6 (after_public_keyword st d (drop 6 t))
 public-by p s st d t e = rw e refl
 
-system-by : (p s : Bool) (st : Stand) (d : Doctype) (t : List ℕ) → p ≡ false → s ≡ true → keyword_by false p s st d t ≡ behind_all 6 (after_system_keyword st d (drop 6 t))
+system-by : (p s : Bool) (st : Stand) (d : Doctype) (t : List ℕ) → p ≡ false → s ≡ true → keyword_by false p s st d t ≡ longer_by 6 (after_system_keyword st d (drop 6 t))
 system-by p s st d t e f = rw (e, f) refl
 
 junk-by : (p s : Bool) (st : Stand) (d : Doctype) (t : List ℕ) → p ≡ false → s ≡ false → keyword_by false p s st d t ≡ junk_after st (forced d) t
 junk-by p s st d t e f = rw (e, f) refl
 
-public-read : (st : Stand) (d : Doctype) (w t : List ℕ) (s : Bool) → becomes word.Public w ≡ true → keyword_by false (begins_any_case (codes "public") (w ++ t)) s st d (w ++ t) ≡ behind_all (length w) (after_public_keyword st d t)
+public-read : (st : Stand) (d : Doctype) (w t : List ℕ) (s : Bool) → becomes word.Public w ≡ true → keyword_by false (begins_any_case (codes "public") (w ++ t)) s st d (w ++ t) ≡ longer_by (length w) (after_public_keyword st d t)
 public-read st d w t s h = public-by _ s st d (w ++ t) (spelt-begins true (codes "public") w t h) ∙ behind-word (after_public_keyword st d) w t 6 (spelt-length true (codes "public") w h)
 
-system-read : (st : Stand) (d : Doctype) (w t : List ℕ) → becomes word.System w ≡ true → keyword_by false (begins_any_case (codes "public") (w ++ t)) (begins_any_case (codes "system") (w ++ t)) st d (w ++ t) ≡ behind_all (length w) (after_system_keyword st d t)
+system-read : (st : Stand) (d : Doctype) (w t : List ℕ) → becomes word.System w ≡ true → keyword_by false (begins_any_case (codes "public") (w ++ t)) (begins_any_case (codes "system") (w ++ t)) st d (w ++ t) ≡ longer_by (length w) (after_system_keyword st d t)
 system-read st d w t h =
     system-by _ _ st d (w ++ t) (word-apart word.System word.Public w t refl h) (spelt-begins true (codes "system") w t h)
     ∙ behind-word (after_system_keyword st d) w t 6 (spelt-length true (codes "system") w h)
 
 pub junk-read : (st : Stand) (d : Doctype) (cs : List ℕ) (c : ℕ) (t : List ℕ) → IsPart cs → MakesNoIdentifier cs c → may_identify cs c ≡ false
-    → keyword_by false (begins_any_case (codes "public") (cs ++ c ∷ t)) (begins_any_case (codes "system") (cs ++ c ∷ t)) st d (cs ++ c ∷ t) ≡ behind_all (length cs) (junk_after st (forced d) (c ∷ t))
+    → keyword_by false (begins_any_case (codes "public") (cs ++ c ∷ t)) (begins_any_case (codes "system") (cs ++ c ∷ t)) st d (cs ++ c ∷ t) ≡ longer_by (length cs) (junk_after st (forced d) (c ∷ t))
 junk-read st d cs c t part whole h =
     let p = or_parts (may_become word.Public (cs ++ c ∷ [])) (may_become word.System (cs ++ c ∷ [])) h in
     junk-by _ _ st d (cs ++ c ∷ t) (word-stops word.Public cs c t part whole.public_word p.0) (word-stops word.System cs c t part whole.system_word p.1)
@@ -95,7 +95,7 @@ identifier-more cs c h = by-word (may_become word.Public (cs ++ c ∷ [])) (may_
 module _ {K H : Type 0} (Sink : Ghosts K H) (laws : SinkLaws Sink.is_sound Sink.step Sink.ended Sink.is_quiet) where
   -- a keyword that c makes whole
   read-keyword : (old : Tokenizer K) (d : Doctype) (cs : List ℕ) (c : ℕ) (t : List ℕ) (w : Word) (j : Item) (b : ℕ) (s : Sink.State × Notes ℕ) → becomes w (cs ++ c ∷ []) ≡ true → ends_word (front_of cs c) ≡ false
-      → keyword_by false (begins_any_case (codes "public") ((cs ++ c ∷ []) ++ t)) (begins_any_case (codes "system") ((cs ++ c ∷ []) ++ t)) (standing old InData) d ((cs ++ c ∷ []) ++ t) ≡ behind_all (length (cs ++ c ∷ [])) j
+      → keyword_by false (begins_any_case (codes "public") ((cs ++ c ∷ []) ++ t)) (begins_any_case (codes "system") ((cs ++ c ∷ []) ++ t)) (standing old InData) d ((cs ++ c ∷ []) ++ t) ≡ longer_by (length (cs ++ c ∷ [])) j
       → plays Sink (rows_of old) (after_name (standing old InData) d (cs ++ c ∷ t)) b s (cs ++ c ∷ t) ≡ plays Sink (rows_of old) j (b + line_break (nat_eq c 10)) s t
   read-keyword old d cs c t w j b s h begun is =
       let plain : list_all is_plain (cs ++ c ∷ []) ≡ true = word-plain w (cs ++ c ∷ []) h in

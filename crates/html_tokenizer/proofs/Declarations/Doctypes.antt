@@ -14,8 +14,8 @@ use Rattle.html_tokens.specs.declared.token.Doctype.{Doctype}
 use Rattle.html_tokens.specs.declared.token.Token.TheVariants.{DoctypeToken}
 use Rattle.html_tokens.specs.declared.sink.TokenSink.{Ghosts}
 use Rattle.html_tokens.specs.Characters.{shown, has_null, lowered, all_lowered, is_white_space, ends_word, run, white}
-use Rattle.html_tokens.specs.Doctypes.{no_doctype, forced, given, given_more, junk_by, closed_by, identifier_end, identifier, shown_all, Opening, Quote, doctype_at, doctype_behind, doctype_name_after, after_name, after_public_keyword, after_system_keyword, name_by, doctype_name_at, keyword_at, public_at, system_at, behind_public, behind_system, public_by, system_by, second_by, opening, Close, Junk, public_after, system_after, after_public, after_system, junk_after}
-use Rattle.html_tokens.specs.Item.{Stand, Item, InData, behind, behind_all, marked, Fault, grave_if, and_slight, and_slight_if}
+use Rattle.html_tokens.specs.Doctypes.{no_doctype, forced, given, given_more, junk_by, closed_by, identifier_end, identifier, shown_all, Opening, Quote, doctype_at, doctype_after, doctype_name_after, after_name, after_public_keyword, after_system_keyword, name_by, doctype_name_at, keyword_at, public_at, system_at, second_identifier_at, doctype_end_at, public_by, system_by, second_by, opening, Close, Junk, public_after, system_after, after_public, after_system, junk_after}
+use Rattle.html_tokens.specs.Item.{Stand, Item, InData, longer, longer_by, marked, Fault, grave_if, and_slight, and_slight_if}
 use Rattle.html_tokens.specs.Notes.{Notes, noting}
 use Rattle.html_tokens.specs.Reading.{line_number, line_break}
 use Rattle.html_tokens.specs.Sink.{◌>>=◌, SinkLaws}
@@ -44,25 +44,25 @@ of-quote P double single quote h = by (nat_eq quote 34) refl h where
 -- ITEMS
 
 -- white space is skipped
-pub skip-white : (next : List ℕ → Item) (c : ℕ) (t : List ℕ) → is_white_space c ≡ true → behind_all (white (c ∷ t)) (next (drop (white (c ∷ t)) (c ∷ t))) ≡ behind (behind_all (white t) (next (drop (white t) t)))
+pub skip-white : (next : List ℕ → Item) (c : ℕ) (t : List ℕ) → is_white_space c ≡ true → longer_by (white (c ∷ t)) (next (drop (white (c ∷ t)) (c ∷ t))) ≡ longer (longer_by (white t) (next (drop (white t) t)))
 skip-white next c t e = rw e refl
 
 -- and ends before any other character
-pub stop-white : (next : List ℕ → Item) (c : ℕ) (t : List ℕ) → is_white_space c ≡ false → behind_all (white (c ∷ t)) (next (drop (white (c ∷ t)) (c ∷ t))) ≡ next (c ∷ t)
+pub stop-white : (next : List ℕ → Item) (c : ℕ) (t : List ℕ) → is_white_space c ≡ false → longer_by (white (c ∷ t)) (next (drop (white (c ∷ t)) (c ∷ t))) ≡ next (c ∷ t)
 stop-white next c t e = rw e refl
 
-name-goes_on : (st : Stand) (front : List ℕ) (c : ℕ) (t : List ℕ) → ends_word c ≡ false → doctype_name_after st front (c ∷ t) ≡ marked (nat_eq c 0) (behind (doctype_name_after st (front ++ lowered c ∷ []) t))
+name-goes_on : (st : Stand) (front : List ℕ) (c : ℕ) (t : List ℕ) → ends_word c ≡ false → doctype_name_after st front (c ∷ t) ≡ marked (nat_eq c 0) (longer (doctype_name_after st (front ++ lowered c ∷ []) t))
 name-goes_on st front c t e =
     let n = run ends_word t in
-    rw e (rw append_assoc (marked-both (nat_eq c 0) (has_null (take n t)) (behind (behind_all n (after_name st (record no_doctype { name = Some (front ++ lowered c ∷ all_lowered (take n t)) }) (drop n t))))))
+    rw e (rw append_assoc (marked-both (nat_eq c 0) (has_null (take n t)) (longer (longer_by n (after_name st (record no_doctype { name = Some (front ++ lowered c ∷ all_lowered (take n t)) }) (drop n t))))))
 
 name-ends : (st : Stand) (front : List ℕ) (c : ℕ) (t : List ℕ) → ends_word c ≡ true → doctype_name_after st front (c ∷ t) ≡ after_name st (record no_doctype { name = Some front }) (c ∷ t)
 name-ends st front c t e = rw e (rw append-nil refl)
 
-public-goes_on : (quote : ℕ) (st : Stand) (d : Doctype) (front : List ℕ) (c : ℕ) (t : List ℕ) → (nat_eq c quote || nat_eq c 62) ≡ false → public_after quote st d front (c ∷ t) ≡ behind (public_after quote st d (front ++ shown c ∷ []) t)
+public-goes_on : (quote : ℕ) (st : Stand) (d : Doctype) (front : List ℕ) (c : ℕ) (t : List ℕ) → (nat_eq c quote || nat_eq c 62) ≡ false → public_after quote st d front (c ∷ t) ≡ longer (public_after quote st d (front ++ shown c ∷ []) t)
 public-goes_on quote st d front c t e = rw e (rw append_assoc refl)
 
-system-goes_on : (quote : ℕ) (st : Stand) (d : Doctype) (front : List ℕ) (c : ℕ) (t : List ℕ) → (nat_eq c quote || nat_eq c 62) ≡ false → system_after quote st d front (c ∷ t) ≡ behind (system_after quote st d (front ++ shown c ∷ []) t)
+system-goes_on : (quote : ℕ) (st : Stand) (d : Doctype) (front : List ℕ) (c : ℕ) (t : List ℕ) → (nat_eq c quote || nat_eq c 62) ≡ false → system_after quote st d front (c ∷ t) ≡ longer (system_after quote st d (front ++ shown c ∷ []) t)
 system-goes_on quote st d front c t e = rw e (rw append_assoc refl)
 
 word-white : (c : ℕ) → is_white_space c ≡ true → ends_word c ≡ true
@@ -89,7 +89,7 @@ system-junk : (st : Stand) (d : Doctype) (c : ℕ) (t : List ℕ) (closes : Bool
 system-junk st d c t true e f g = ap (λ o. system_by o st d c t) (opening-mark c f g e) ∙ sym (junk-ends st (forced d) c t e)
 system-junk st d c t false e f g = ap (λ o. system_by o st d c t) (opening-junk c f g e)
 
-second-junk : (st : Stand) (d : Doctype) (c : ℕ) (t : List ℕ) → nat_eq c 62 ≡ false → nat_eq c 34 ≡ false → nat_eq c 39 ≡ false → behind_public st d (c ∷ t) ≡ junk_after st (forced d) (c ∷ t)
+second-junk : (st : Stand) (d : Doctype) (c : ℕ) (t : List ℕ) → nat_eq c 62 ≡ false → nat_eq c 34 ≡ false → nat_eq c 39 ≡ false → second_identifier_at st d (c ∷ t) ≡ junk_after st (forced d) (c ∷ t)
 second-junk st d c t e f g = ap (λ o. second_by o st d c t) (opening-junk c f g e)
 
 -- FAULTS
@@ -98,13 +98,13 @@ slighted : (fault : Option Fault) → is_some (and_slight fault) ≡ true
 slighted None = refl
 slighted (Some fault) = refl
 
-behind-fault : (n : ℕ) (i : Item) → is_some i.fault ≡ true → is_some (behind_all n i).fault ≡ true
+behind-fault : (n : ℕ) (i : Item) → is_some i.fault ≡ true → is_some (longer_by n i).fault ≡ true
 behind-fault zero i h = h
 behind-fault (suc n) i h = behind-fault n i h
 
 -- where no word ends after "<!doctype"
 doctype-odd : (st : Stand) (c : ℕ) (t : List ℕ) → not (ends_word c) ≡ true → is_some (doctype_at st (c ∷ t)).fault ≡ true
-doctype-odd st c t h = rw h (slighted (doctype_behind st (c ∷ t)).fault)
+doctype-odd st c t h = rw h (slighted (doctype_after st (c ∷ t)).fault)
 
 -- where U+0000 stands in a name
 name-odd_zero : (st : Stand) (front t : List ℕ) → is_some (doctype_name_after st front (0 ∷ t)).fault ≡ true
@@ -123,12 +123,12 @@ junk-fault st d [] = slighted (grave_if d.force_quirks)
 junk-fault st d (c ∷ t) = junk-fault_by (nat_eq c 62) st d (λ _. junk_after st d t) (junk-fault st d t)
 
 -- and so has each with an identifier
-behind_system-fault : (st : Stand) (d : Doctype) (t : List ℕ) → is_some (behind_system st d t).fault ≡ true
-behind_system-fault st d [] = refl
-behind_system-fault st d (c ∷ t) = junk-fault st d (c ∷ t)
+doctype_end_at-fault : (st : Stand) (d : Doctype) (t : List ℕ) → is_some (doctype_end_at st d t).fault ≡ true
+doctype_end_at-fault st d [] = refl
+doctype_end_at-fault st d (c ∷ t) = junk-fault st d (c ∷ t)
 
 after_system-fault : (st : Stand) (d : Doctype) (t : List ℕ) → is_some (after_system st d t).fault ≡ true
-after_system-fault st d t = behind-fault (white t) _ (behind_system-fault st d (drop (white t) t))
+after_system-fault st d t = behind-fault (white t) _ (doctype_end_at-fault st d (drop (white t) t))
 
 closed-fault : (closes : Bool) (st : Stand) (d : Doctype) (t : List ℕ) (go : Doctype → List ℕ → Item) → is_some (go d t).fault ≡ true → is_some (closed_by closes st d t go).fault ≡ true
 closed-fault true st d t go h = h
@@ -148,12 +148,12 @@ second-fault_by Quote st d c t = system-fault c st d [] t
 second-fault_by Close st d c t = slighted (grave_if d.force_quirks)
 second-fault_by Junk st d c t = junk-fault st (forced d) (c ∷ t)
 
-behind_public-fault : (st : Stand) (d : Doctype) (t : List ℕ) → is_some (behind_public st d t).fault ≡ true
-behind_public-fault st d [] = refl
-behind_public-fault st d (c ∷ t) = second-fault_by (opening c) st d c t
+second_identifier_at-fault : (st : Stand) (d : Doctype) (t : List ℕ) → is_some (second_identifier_at st d t).fault ≡ true
+second_identifier_at-fault st d [] = refl
+second_identifier_at-fault st d (c ∷ t) = second-fault_by (opening c) st d c t
 
 after_public-fault : (st : Stand) (d : Doctype) (t : List ℕ) → is_some (after_public st d t).fault ≡ true
-after_public-fault st d t = behind-fault (white t) _ (behind_public-fault st d (drop (white t) t))
+after_public-fault st d t = behind-fault (white t) _ (second_identifier_at-fault st d (drop (white t) t))
 
 public-fault : (quote : ℕ) (st : Stand) (d : Doctype) (front t : List ℕ) → is_some (public_after quote st d front t).fault ≡ true
 public-fault quote st d front t =
@@ -293,7 +293,7 @@ module _ {K H : Type 0} (Sink : Ghosts K H) (laws : SinkLaws Sink.is_sound Sink.
         → Took Sink old (record old { temporary = front; doctype = d; state = st' }) c flow.Continue
     moves st st' front d from law = took Sink old (record old { temporary = front; doctype = d; state = st' }) c st st' from (record { state = refl; fresh = from.fresh }) refl refl ok law
 
-    behind-c : (i j : Item) (b : ℕ) (s : Sink.State × Notes ℕ) (t : List ℕ) → i ≡ behind j → plays Sink (rows_of old) i b s (c ∷ t) ≡ plays Sink (rows_of old) j (b + line_break (nat_eq c 10)) s t
+    behind-c : (i j : Item) (b : ℕ) (s : Sink.State × Notes ℕ) (t : List ℕ) → i ≡ longer j → plays Sink (rows_of old) i b s (c ∷ t) ≡ plays Sink (rows_of old) j (b + line_break (nat_eq c 10)) s t
     behind-c i j b s t is = behind-any Sink laws old i j b s c t is
 
     -- white space
@@ -313,11 +313,11 @@ module _ {K H : Type 0} (Sink : Ghosts K H) (laws : SinkLaws Sink.is_sound Sink.
 
     pub between-white : IsAt old state.BetweenDoctypePublicAndSystemIdentifiers → is_white_space c ≡ true → Took Sink old old c flow.Continue
     unfolding held_at
-    between-white from e = stays state.BetweenDoctypePublicAndSystemIdentifiers from (λ b s t. behind-c _ _ b s t (skip-white (behind_public (standing old InData) old.doctype) c t e))
+    between-white from e = stays state.BetweenDoctypePublicAndSystemIdentifiers from (λ b s t. behind-c _ _ b s t (skip-white (second_identifier_at (standing old InData) old.doctype) c t e))
 
     pub after_system-white : IsAt old (state.AfterDoctypeIdentifier id.System) → is_white_space c ≡ true → Took Sink old old c flow.Continue
     unfolding held_at
-    after_system-white from e = stays (state.AfterDoctypeIdentifier id.System) from (λ b s t. behind-c _ _ b s t (skip-white (behind_system (standing old InData) old.doctype) c t e))
+    after_system-white from e = stays (state.AfterDoctypeIdentifier id.System) from (λ b s t. behind-c _ _ b s t (skip-white (doctype_end_at (standing old InData) old.doctype) c t e))
 
     -- characters of a name or an identifier, and junk
     pub name-push : (front : List ℕ) → IsAt old state.DoctypeName → is_white_space c ≡ false → nat_eq c 62 ≡ false → front ≡ old.temporary ++ lowered c ∷ [] → Took Sink old (record old { temporary = front }) c flow.Continue
@@ -392,7 +392,7 @@ module _ {K H : Type 0} (Sink : Ghosts K H) (laws : SinkLaws Sink.is_sound Sink.
     pub before_name-other : (front : List ℕ) (d : Doctype) → IsAt old state.BeforeDoctypeName → is_white_space c ≡ false → nat_eq c 62 ≡ false → front ≡ []
         → Keeps Sink (record old { temporary = front; doctype = d; state = state.DoctypeName }) new c result → Keeps Sink old new c result
     unfolding held_at
-    before_name-other front d from e f is = goes-on old.fault state.BeforeDoctypeName state.DoctypeName front d from (λ b s t. rw is (same-item (doctype_behind (standing old InData) (c ∷ t)) (doctype_name_after (standing old InData) [] (c ∷ t)) b s (c ∷ t) (stop-white (doctype_name_at (standing old InData)) c t e ∙ ap (λ x. name_by x (standing old InData) (c ∷ t)) f)))
+    before_name-other front d from e f is = goes-on old.fault state.BeforeDoctypeName state.DoctypeName front d from (λ b s t. rw is (same-item (doctype_after (standing old InData) (c ∷ t)) (doctype_name_after (standing old InData) [] (c ∷ t)) b s (c ∷ t) (stop-white (doctype_name_at (standing old InData)) c t e ∙ ap (λ x. name_by x (standing old InData) (c ∷ t)) f)))
 
     pub keyword-other : (kind : DoctypeIdKind) → IsAt old (state.AfterDoctypeKeyword kind)
         → Keeps Sink (record old { state = state.BeforeDoctypeIdentifier kind }) new c result → Keeps Sink old new c result
@@ -412,13 +412,13 @@ module _ {K H : Type 0} (Sink : Ghosts K H) (laws : SinkLaws Sink.is_sound Sink.
         → Keeps Sink (record old { doctype = forced old.doctype; fault = fault; state = state.BogusDoctype }) new c result → Keeps Sink old new c result
     unfolding held_at
     between-other fault from e f g h = goes-on fault state.BetweenDoctypePublicAndSystemIdentifiers state.BogusDoctype old.temporary (forced old.doctype) from (λ b s t.
-        same-item (after_public (standing old InData) old.doctype (c ∷ t)) (junk_after (standing old InData) (forced old.doctype) (c ∷ t)) b s (c ∷ t) (stop-white (behind_public (standing old InData) old.doctype) c t e ∙ second-junk (standing old InData) old.doctype c t f g h))
+        same-item (after_public (standing old InData) old.doctype (c ∷ t)) (junk_after (standing old InData) (forced old.doctype) (c ∷ t)) b s (c ∷ t) (stop-white (second_identifier_at (standing old InData) old.doctype) c t e ∙ second-junk (standing old InData) old.doctype c t f g h))
 
     pub after_system-other : IsAt old (state.AfterDoctypeIdentifier id.System) → is_white_space c ≡ false
         → Keeps Sink (record old { state = state.BogusDoctype }) new c result → Keeps Sink old new c result
     unfolding held_at
     after_system-other from e = goes-on old.fault (state.AfterDoctypeIdentifier id.System) state.BogusDoctype old.temporary old.doctype from (λ b s t.
-        same-item (after_system (standing old InData) old.doctype (c ∷ t)) (junk_after (standing old InData) old.doctype (c ∷ t)) b s (c ∷ t) (stop-white (behind_system (standing old InData) old.doctype) c t e))
+        same-item (after_system (standing old InData) old.doctype (c ∷ t)) (junk_after (standing old InData) old.doctype (c ∷ t)) b s (c ∷ t) (stop-white (doctype_end_at (standing old InData) old.doctype) c t e))
 
     pub after_public-other : IsAt old (state.AfterDoctypeIdentifier id.Public)
         → Keeps Sink (record old { state = state.BetweenDoctypePublicAndSystemIdentifiers }) new c result → Keeps Sink old new c result
@@ -429,4 +429,4 @@ module _ {K H : Type 0} (Sink : Ghosts K H) (laws : SinkLaws Sink.is_sound Sink.
         → Keeps Sink (record old { state = state.BeforeDoctypeName }) new c result → Keeps Sink old new c result
     unfolding held_at
     doctype-other from keeps = keeps_odd Sink (not (ends_word c)) old (record old { state = state.BeforeDoctypeName }) new c state.Doctype state.BeforeDoctypeName result from (record { state = refl; fresh = from.fresh }) refl refl
-        (λ b s t. play-marked (listening Sink) (rows_of old) slight-absorbed (not (ends_word c)) (doctype_behind (standing old InData) (c ∷ t)) b s (c ∷ t)) keeps
+        (λ b s t. play-marked (listening Sink) (rows_of old) slight-absorbed (not (ends_word c)) (doctype_after (standing old InData) (c ∷ t)) b s (c ∷ t)) keeps

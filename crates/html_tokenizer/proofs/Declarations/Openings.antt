@@ -9,7 +9,7 @@ use Rattle.html_tokens.specs.declared.states.State.TheVariants as state
 use Rattle.html_tokens.specs.declared.sink.TokenSink.{Ghosts}
 use Rattle.html_tokens.specs.Comments.{comment_at, bogus_comment_after}
 use Rattle.html_tokens.specs.Doctypes.{doctype_at}
-use Rattle.html_tokens.specs.Item.{Stand, Item, InData, InCdata, moved, behind, behind_all, silent}
+use Rattle.html_tokens.specs.Item.{Stand, Item, InData, InCdata, moved, longer, longer_by, silent}
 use Rattle.html_tokens.specs.Items.{declaration_at, declaration_by}
 use Rattle.html_tokens.specs.Notes.{Notes}
 use Rattle.html_tokens.specs.Reading.{line_break}
@@ -37,40 +37,40 @@ drop-front [] t = refl
 drop-front (c ∷ w) t = drop-front w t
 
 -- an item after a word of n characters
-pub behind-word : (next : List ℕ → Item) (w t : List ℕ) (n : ℕ) → length w ≡ n → behind_all n (next (drop n (w ++ t))) ≡ behind_all (length w) (next t)
+pub behind-word : (next : List ℕ → Item) (w t : List ℕ) (n : ℕ) → length w ≡ n → longer_by n (next (drop n (w ++ t))) ≡ longer_by (length w) (next t)
 behind-word next w t n e = rw (← e, drop-front w t) refl
 
-comment-by : (d s : Bool) (b : Bool) (st : Stand) (t : List ℕ) → b ≡ true → declaration_by b d s st t ≡ behind_all 4 (comment_at st (drop 2 t))
+comment-by : (d s : Bool) (b : Bool) (st : Stand) (t : List ℕ) → b ≡ true → declaration_by b d s st t ≡ longer_by 4 (comment_at st (drop 2 t))
 comment-by d s b st t e = rw e refl
 
-doctype-by : (a b s : Bool) (st : Stand) (t : List ℕ) → a ≡ false → b ≡ true → declaration_by a b s st t ≡ behind_all 9 (doctype_at st (drop 7 t))
+doctype-by : (a b s : Bool) (st : Stand) (t : List ℕ) → a ≡ false → b ≡ true → declaration_by a b s st t ≡ longer_by 9 (doctype_at st (drop 7 t))
 doctype-by a b s st t e f = rw (e, f) refl
 
 cdata-by : (a b s : Bool) (st : Stand) (t : List ℕ) → a ≡ false → b ≡ false → s ≡ true → declaration_by a b s st t ≡ silent 9 (moved st InCdata)
 cdata-by a b s st t e f g = rw (e, f, g) refl
 
-bogus-by : (a b s : Bool) (st : Stand) (t : List ℕ) → a ≡ false → b ≡ false → s ≡ false → declaration_by a b s st t ≡ behind_all 2 (bogus_comment_after st [] t)
+bogus-by : (a b s : Bool) (st : Stand) (t : List ℕ) → a ≡ false → b ≡ false → s ≡ false → declaration_by a b s st t ≡ longer_by 2 (bogus_comment_after st [] t)
 bogus-by a b s st t e f g = rw (e, f, g) refl
 
-comment-declared : (asks : Bool) (st : Stand) (w t : List ℕ) → becomes word.Dashes w ≡ true → declaration_at asks st (w ++ t) ≡ behind_all 2 (behind_all (length w) (comment_at st t))
+comment-declared : (asks : Bool) (st : Stand) (w t : List ℕ) → becomes word.Dashes w ≡ true → declaration_at asks st (w ++ t) ≡ longer_by 2 (longer_by (length w) (comment_at st t))
 comment-declared asks st w t h =
     comment-by _ _ _ st (w ++ t) (spelt-begins false (codes "--") w t h)
-    ∙ ap (behind_all 2) (behind-word (comment_at st) w t 2 (spelt-length false (codes "--") w h))
+    ∙ ap (longer_by 2) (behind-word (comment_at st) w t 2 (spelt-length false (codes "--") w h))
 
-doctype-declared : (asks : Bool) (st : Stand) (w t : List ℕ) → becomes word.Doctype w ≡ true → declaration_at asks st (w ++ t) ≡ behind_all 2 (behind_all (length w) (doctype_at st t))
+doctype-declared : (asks : Bool) (st : Stand) (w t : List ℕ) → becomes word.Doctype w ≡ true → declaration_at asks st (w ++ t) ≡ longer_by 2 (longer_by (length w) (doctype_at st t))
 doctype-declared asks st w t h =
     doctype-by _ _ _ st (w ++ t) (word-apart word.Doctype word.Dashes w t refl h) (spelt-begins true (codes "doctype") w t h)
-    ∙ ap (behind_all 2) (behind-word (doctype_at st) w t 7 (spelt-length true (codes "doctype") w h))
+    ∙ ap (longer_by 2) (behind-word (doctype_at st) w t 7 (spelt-length true (codes "doctype") w h))
 
-cdata-declared : (asks : Bool) (st : Stand) (w t : List ℕ) → asks ≡ true → becomes word.Cdata w ≡ true → declaration_at asks st (w ++ t) ≡ behind_all 2 (behind_all (length w) (silent 0 (moved st InCdata)))
+cdata-declared : (asks : Bool) (st : Stand) (w t : List ℕ) → asks ≡ true → becomes word.Cdata w ≡ true → declaration_at asks st (w ++ t) ≡ longer_by 2 (longer_by (length w) (silent 0 (moved st InCdata)))
 cdata-declared asks st w t a h =
     cdata-by _ _ _ st (w ++ t) (word-apart word.Cdata word.Dashes w t refl h) (word-apart word.Cdata word.Doctype w t refl h) (and_both asks _ a (spelt-begins false (codes "[CDATA[") w t h))
-    ∙ ap (λ n. behind_all 2 (behind_all n (silent 0 (moved st InCdata)))) (sym (spelt-length false (codes "[CDATA[") w h))
+    ∙ ap (λ n. longer_by 2 (longer_by n (silent 0 (moved st InCdata)))) (sym (spelt-length false (codes "[CDATA[") w h))
 
-pub bogus-declared : (asks : Bool) (st : Stand) (cs : List ℕ) (c : ℕ) (t : List ℕ) → IsPart cs → OpensNothing asks cs c → declaration_at asks st (cs ++ c ∷ t) ≡ behind_all 2 (behind_all (length cs) (bogus_comment_after st cs (c ∷ t)))
+pub bogus-declared : (asks : Bool) (st : Stand) (cs : List ℕ) (c : ℕ) (t : List ℕ) → IsPart cs → OpensNothing asks cs c → declaration_at asks st (cs ++ c ∷ t) ≡ longer_by 2 (longer_by (length cs) (bogus_comment_after st cs (c ∷ t)))
 bogus-declared asks st cs c t part h =
     bogus-by _ _ _ st (cs ++ c ∷ t) (h.dashes t) (h.doctype t) (h.cdata t)
-    ∙ ap (behind_all 2) (bogus-behind st [] cs (c ∷ t) (part-plain cs part))
+    ∙ ap (longer_by 2) (bogus-behind st [] cs (c ∷ t) (part-plain cs part))
 
 and_none : (a b : Bool) → b ≡ false → (a && b) ≡ false
 and_none true b e = e
@@ -101,23 +101,23 @@ part-more cs c h = by-word (may_become word.Dashes (cs ++ c ∷ [])) (may_become
 module _ {K H : Type 0} (Sink : Ghosts K H) (laws : SinkLaws Sink.is_sound Sink.step Sink.ended Sink.is_quiet) where
   -- an item after characters of words
   pub play-plain : (old : Tokenizer K) (cs t : List ℕ) (j : Item) (b : ℕ) (s : Sink.State × Notes ℕ) → list_all is_plain cs ≡ true
-      → plays Sink (rows_of old) (behind_all (length cs) j) b s (cs ++ t) ≡ plays Sink (rows_of old) j b s t
+      → plays Sink (rows_of old) (longer_by (length cs) j) b s (cs ++ t) ≡ plays Sink (rows_of old) j b s t
   play-plain old [] t j b s h = refl
   play-plain old (c ∷ cs) t j b s h =
       let p = and_parts (is_plain c) (list_all is_plain cs) h in
-      behind-one Sink laws old c (plain-break c p.0) (behind_all (length (c ∷ cs)) j) (behind_all (length cs) j) b s (cs ++ t) refl
+      behind-one Sink laws old c (plain-break c p.0) (longer_by (length (c ∷ cs)) j) (longer_by (length cs) j) b s (cs ++ t) refl
       ∙ play-plain old cs t j b s p.1
 
   -- a declaration, read from after what was read of it
-  read-declared : (old : Tokenizer K) (cs t : List ℕ) (j : Item) (b : ℕ) (s : Sink.State × Notes ℕ) → list_all is_plain cs ≡ true → declaration_at (Sink.asks_cdata s.0) (standing old InData) (cs ++ t) ≡ behind_all 2 (behind_all (length cs) j)
+  read-declared : (old : Tokenizer K) (cs t : List ℕ) (j : Item) (b : ℕ) (s : Sink.State × Notes ℕ) → list_all is_plain cs ≡ true → declaration_at (Sink.asks_cdata s.0) (standing old InData) (cs ++ t) ≡ longer_by 2 (longer_by (length cs) j)
       → reads Sink (rows_of old) (standing old InData) b s (60 ∷ 33 ∷ (cs ++ t)) ≡ plays Sink (rows_of old) j b s t
   read-declared old cs t j b s h is =
-      opened Sink laws old b s (33 ∷ (cs ++ t)) (behind (behind_all (length cs) j)) is
-      ∙ behind-one Sink laws old 33 refl (behind (behind_all (length cs) j)) (behind_all (length cs) j) b s (cs ++ t) refl
+      opened Sink laws old b s (33 ∷ (cs ++ t)) (longer (longer_by (length cs) j)) is
+      ∙ behind-one Sink laws old 33 refl (longer (longer_by (length cs) j)) (longer_by (length cs) j) b s (cs ++ t) refl
       ∙ play-plain old cs t j b s h
 
   -- the same where c makes the word whole
-  read-word : (old : Tokenizer K) (cs : List ℕ) (c : ℕ) (t : List ℕ) (w : Word) (j : Item) (b : ℕ) (s : Sink.State × Notes ℕ) → becomes w (cs ++ c ∷ []) ≡ true → declaration_at (Sink.asks_cdata s.0) (standing old InData) ((cs ++ c ∷ []) ++ t) ≡ behind_all 2 (behind_all (length (cs ++ c ∷ [])) j)
+  read-word : (old : Tokenizer K) (cs : List ℕ) (c : ℕ) (t : List ℕ) (w : Word) (j : Item) (b : ℕ) (s : Sink.State × Notes ℕ) → becomes w (cs ++ c ∷ []) ≡ true → declaration_at (Sink.asks_cdata s.0) (standing old InData) ((cs ++ c ∷ []) ++ t) ≡ longer_by 2 (longer_by (length (cs ++ c ∷ [])) j)
       → reads Sink (rows_of old) (standing old InData) b s (60 ∷ 33 ∷ (cs ++ c ∷ t)) ≡ plays Sink (rows_of old) j (b + line_break (nat_eq c 10)) s t
   read-word old cs c t w j b s h is =
       let plain : list_all is_plain (cs ++ c ∷ []) ≡ true = word-plain w (cs ++ c ∷ []) h in

@@ -13,8 +13,8 @@ use Rattle.html_tokens.specs.declared.token.Token.TheVariants.{CommentToken, Doc
 use Rattle.html_tokens.specs.declared.sink.TokenSink.{Ghosts}
 use Rattle.html_tokens.specs.Characters.{begins_any_case}
 use Rattle.html_tokens.specs.Comments.{comment_at, bogus_comment_after}
-use Rattle.html_tokens.specs.Doctypes.{no_doctype, forced, given, doctype_at, doctype_behind, doctype_name_after, after_name, keyword_at, keyword_by, public_after, system_after, junk_after}
-use Rattle.html_tokens.specs.Item.{Stand, Item, InData, behind, behind_all, marked, told_as, Grave, grave_if, and_slight, and_slight_if}
+use Rattle.html_tokens.specs.Doctypes.{no_doctype, forced, given, doctype_at, doctype_after, doctype_name_after, after_name, keyword_at, keyword_by, public_after, system_after, junk_after}
+use Rattle.html_tokens.specs.Item.{Stand, Item, InData, longer, longer_by, marked, token_item, Grave, grave_if, and_slight, and_slight_if}
 use Rattle.html_tokens.specs.Items.{declaration_at, declaration_by}
 use Rattle.html_tokens.specs.Notes.{Notes, noting}
 use Rattle.html_tokens.specs.Reading.{line_number, line_breaks}
@@ -44,15 +44,15 @@ and_none true b e = e
 and_none false b e = refl
 
 -- what begins no word after "<!" is a bogus comment
-bogus-by : (a b s : Bool) (st : Stand) (t : List ℕ) → a ≡ false → b ≡ false → s ≡ false → declaration_by a b s st t ≡ behind_all 2 (bogus_comment_after st [] t)
+bogus-by : (a b s : Bool) (st : Stand) (t : List ℕ) → a ≡ false → b ≡ false → s ≡ false → declaration_by a b s st t ≡ longer_by 2 (bogus_comment_after st [] t)
 bogus-by a b s st t e f g = rw (e, f, g) refl
 
 -- and so is part of a word, where the input ends
-part-declared : (asks : Bool) (st : Stand) (cs : List ℕ) → IsPart cs → declaration_at asks st cs ≡ behind_all 2 (behind_all (length cs) (told_as (Some Grave) (CommentToken cs) 0 st))
+part-declared : (asks : Bool) (st : Stand) (cs : List ℕ) → IsPart cs → declaration_at asks st cs ≡ longer_by 2 (longer_by (length cs) (token_item (Some Grave) (CommentToken cs) 0 st))
 part-declared asks st cs part =
     bogus-by _ _ _ st cs (part-open cs part word.Dashes) (part-open cs part word.Doctype) (and_none asks _ (part-open cs part word.Cdata))
-    ∙ ap (λ u. behind_all 2 (bogus_comment_after st [] u)) (sym (append-nil cs))
-    ∙ ap (behind_all 2) (bogus-behind st [] cs [] (part-plain cs part))
+    ∙ ap (λ u. longer_by 2 (bogus_comment_after st [] u)) (sym (append-nil cs))
+    ∙ ap (longer_by 2) (bogus-behind st [] cs [] (part-plain cs part))
 
 -- where a word begins after a doctype's name, it may be a keyword
 keyword-word : (st : Stand) (d : Doctype) (x : ℕ) (cs : List ℕ) → is_plain x ≡ true → after_name st d (x ∷ cs) ≡ keyword_by false (begins_any_case (codes "public") (x ∷ cs)) (begins_any_case (codes "system") (x ∷ cs)) st d (x ∷ cs)
@@ -65,7 +65,7 @@ junk-by : (p s : Bool) (st : Stand) (d : Doctype) (t : List ℕ) → p ≡ false
 junk-by p s st d t e f = rw (e, f) refl
 
 -- and so is part of a keyword, where the input ends
-part-identified : (st : Stand) (d : Doctype) (cs : List ℕ) → IsPart cs → after_name st d cs ≡ behind_all (length cs) (given st (forced d) 0)
+part-identified : (st : Stand) (d : Doctype) (cs : List ℕ) → IsPart cs → after_name st d cs ≡ longer_by (length cs) (given st (forced d) 0)
 part-identified st d [] part = refl
 part-identified st d (x ∷ cs) part =
     keyword-word st d x cs (and_parts (is_plain x) (list_all is_plain cs) (part-plain (x ∷ cs) part)).0
@@ -77,16 +77,16 @@ part-identified st d (x ∷ cs) part =
 
 module _ {K H : Type 0} (Sink : Ghosts K H) (laws : SinkLaws Sink.is_sound Sink.step Sink.ended Sink.is_quiet) where
   -- what a comment that takes all that is left makes of the sink
-  comment-item : (old : Tokenizer K) (b : ℕ) (s : Sink.State × Notes ℕ) → Sink.is_sound s.0 → (front u : List ℕ) (n : ℕ) (i : Item) → i ≡ told_as (Some Grave) (CommentToken front) n (standing old InData) → line_breaks (take n u) ≡ 0 → drop n u ≡ []
+  comment-item : (old : Tokenizer K) (b : ℕ) (s : Sink.State × Notes ℕ) → Sink.is_sound s.0 → (front u : List ℕ) (n : ℕ) (i : Item) → i ≡ token_item (Some Grave) (CommentToken front) n (standing old InData) → line_breaks (take n u) ≡ 0 → drop n u ≡ []
       → plays Sink (rows_of old) i b s u ≡ (noting Sink.step Sink.is_quiet (s.0, more a_fault s.1) (CommentToken front) (line_number b) >>= λ p. at_end Sink b p.0)
   comment-item old b s h front u n i is unbroken left = end-item Sink laws (Some Grave) old b s h (CommentToken front) u n i tt is unbroken left
 
   -- a token after part of a word, which ends the input and so is faulty
   part-told : (old : Tokenizer K) (b : ℕ) (s : Sink.State × Notes ℕ) → Sink.is_sound s.0 → (cs : List ℕ) (token : Token) → IsPart cs → IsNoTag token
-      → plays Sink (rows_of old) (behind_all (length cs) (told_as (Some Grave) token 0 (standing old InData))) b s cs ≡ (noting Sink.step Sink.is_quiet (s.0, more a_fault s.1) token (line_number b) >>= λ p. at_end Sink b p.0)
+      → plays Sink (rows_of old) (longer_by (length cs) (token_item (Some Grave) token 0 (standing old InData))) b s cs ≡ (noting Sink.step Sink.is_quiet (s.0, more a_fault s.1) token (line_number b) >>= λ p. at_end Sink b p.0)
   part-told old b s h cs token part none =
-      let item : Item = told_as (Some Grave) token 0 (standing old InData) in
-      ap (λ u. plays Sink (rows_of old) (behind_all (length cs) item) b s u) (sym (append-nil cs))
+      let item : Item = token_item (Some Grave) token 0 (standing old InData) in
+      ap (λ u. plays Sink (rows_of old) (longer_by (length cs) item) b s u) (sym (append-nil cs))
       ∙ play-plain Sink laws old cs [] item b s (part-plain cs part)
       ∙ end-item Sink laws (Some Grave) old b s h token [] 0 item none refl refl refl
 
@@ -121,10 +121,10 @@ module _ {K H : Type 0} (Sink : Ghosts K H) (laws : SinkLaws Sink.is_sound Sink.
   declaration-tells : (old : Tokenizer K) → IsPart old.keyword → EndTells Sink state.MarkupDeclarationOpen old a_fault (CommentToken old.keyword)
   unfolding held_at
   declaration-tells old part b s ok =
-      let item : Item = told_as (Some Grave) (CommentToken old.keyword) 0 (standing old InData) in
+      let item : Item = token_item (Some Grave) (CommentToken old.keyword) 0 (standing old InData) in
       ap (λ u. reads Sink (rows_of old) (standing old InData) b s (60 ∷ 33 ∷ u)) (append-nil old.keyword)
-      ∙ opened Sink laws old b s (33 ∷ old.keyword) (behind (behind_all (length old.keyword) item)) (part-declared (Sink.asks_cdata s.0) (standing old InData) old.keyword part)
-      ∙ behind-one Sink laws old 33 refl (behind (behind_all (length old.keyword) item)) (behind_all (length old.keyword) item) b s old.keyword refl
+      ∙ opened Sink laws old b s (33 ∷ old.keyword) (longer (longer_by (length old.keyword) item)) (part-declared (Sink.asks_cdata s.0) (standing old InData) old.keyword part)
+      ∙ behind-one Sink laws old 33 refl (longer (longer_by (length old.keyword) item)) (longer_by (length old.keyword) item) b s old.keyword refl
       ∙ part-told old b s ok old.keyword (CommentToken old.keyword) part tt
 
   -- what a doctype where nothing is left makes of the sink
@@ -136,7 +136,7 @@ module _ {K H : Type 0} (Sink : Ghosts K H) (laws : SinkLaws Sink.is_sound Sink.
   doctype_start-tells : (old : Tokenizer K) (st : State) → (st ≡ state.Doctype) ⊎ (st ≡ state.BeforeDoctypeName) → EndTells Sink st old a_fault (DoctypeToken (forced no_doctype))
   unfolding held_at
   doctype_start-tells old st (inl e) b s ok = rw e (doctype-item old b s ok false (forced no_doctype) (doctype_at (standing old InData) []) refl)
-  doctype_start-tells old st (inr e) b s ok = rw e (doctype-item old b s ok false (forced no_doctype) (doctype_behind (standing old InData) []) refl)
+  doctype_start-tells old st (inr e) b s ok = rw e (doctype-item old b s ok false (forced no_doctype) (doctype_after (standing old InData) []) refl)
 
   -- in its name, a doctype with that name
   doctype_name-tells : (old : Tokenizer K) → EndTells Sink state.DoctypeName old a_fault (DoctypeToken (forced (record no_doctype { name = Some old.temporary })))

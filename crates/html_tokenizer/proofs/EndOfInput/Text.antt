@@ -14,11 +14,11 @@ use Rattle.html_tokens.specs.Characters.{begins_by, begins_name}
 use Rattle.html_tokens.specs.Item.{InCdata, InData, InRaw, character, Grave, Slight, grave_if, slight_if, is_escaped_kind}
 use Rattle.html_tokens.specs.Items.{item}
 use Rattle.html_tokens.specs.Notes.{Notes, noting, noting_error}
-use Rattle.html_tokens.specs.RawText.{is_letters, is_fitting_end, ends_at_tag, kind_behind}
+use Rattle.html_tokens.specs.RawText.{is_letters, is_fitting_end, ends_at_tag, next_kind}
 use Rattle.html_tokens.specs.Reading.{◌>>=◌, line_number, reading_from, erred_by}
 use Rattle.html_tokens.specs.Sink.{SinkLaws}
 use Rattle.html_tokenizer.specs.Calls.{at_end, Closes}
-use Rattle.html_tokenizer.specs.EndText.{is_told_text, is_escaped}
+use Rattle.html_tokenizer.specs.EndText.{is_emitted_text, is_escaped}
 use Rattle.html_tokenizer.specs.declared.tokenizer.Tokenizer.{Tokenizer}
 use Rattle.html_tokenizer.specs.Rest.{rows_of, standing, held_at}
 use Rattle.html_tokenizer_parts.specs.Words.{kind_after}
@@ -58,14 +58,14 @@ unfit-nothing : (last : Option (List ℕ)) → is_fitting_end last [] ≡ false
 unfit-nothing None = refl
 unfit-nothing (Some name) = and-none (is_letters name)
 
-open-word : (word : List ℕ) → list_all is_ascii_alphabetic word ≡ true → kind_behind (raw.ScriptDataEscaped script.Escaped) 60 (word ++ []) ≡ raw.ScriptDataEscaped script.Escaped
+open-word : (word : List ℕ) → list_all is_ascii_alphabetic word ≡ true → next_kind (raw.ScriptDataEscaped script.Escaped) 60 (word ++ []) ≡ raw.ScriptDataEscaped script.Escaped
 open-word word h = rw (append-nil word, letters-no_name (codes "script") word h) refl
 
-slash-word : (word : List ℕ) → list_all is_ascii_alphabetic word ≡ true → kind_behind (kind_behind (raw.ScriptDataEscaped script.DoubleEscaped) 60 (47 ∷ (word ++ []))) 47 (word ++ []) ≡ raw.ScriptDataEscaped script.DoubleEscaped
+slash-word : (word : List ℕ) → list_all is_ascii_alphabetic word ≡ true → next_kind (next_kind (raw.ScriptDataEscaped script.DoubleEscaped) 60 (47 ∷ (word ++ []))) 47 (word ++ []) ≡ raw.ScriptDataEscaped script.DoubleEscaped
 slash-word word h = rw (append-nil word, letters-no_name (codes "script") word h) refl
 
 -- nothing that ends begins after "</" and a word
-slash-behind : (kind : RawKind) (word : List ℕ) → list_all is_ascii_alphabetic word ≡ true → kind_behind (kind_behind kind 60 (47 ∷ (word ++ []))) 47 (word ++ []) ≡ kind
+slash-behind : (kind : RawKind) (word : List ℕ) → list_all is_ascii_alphabetic word ≡ true → next_kind (next_kind kind 60 (47 ∷ (word ++ []))) 47 (word ++ []) ≡ kind
 slash-behind raw.Rcdata word h = refl
 slash-behind raw.Rawtext word h = refl
 slash-behind raw.ScriptData word h = refl
@@ -74,11 +74,11 @@ slash-behind (raw.ScriptDataEscaped script.DoubleEscaped) word h = slash-word wo
 
 -- a word after "<" does not change how a script's text is escaped, while nothing follows it
 word-kind : (word : List ℕ) → list_all is_ascii_alphabetic word ≡ true → kind_after (raw.ScriptDataEscaped script.Escaped) (60 ∷ word) [] ≡ raw.ScriptDataEscaped script.Escaped
-word-kind word h = kind_after-letters (kind_behind (raw.ScriptDataEscaped script.Escaped) 60 (word ++ [])) word [] h ∙ open-word word h
+word-kind word h = kind_after-letters (next_kind (raw.ScriptDataEscaped script.Escaped) 60 (word ++ [])) word [] h ∙ open-word word h
 
 -- nor does one after "</"
 slash-kind : (word : List ℕ) → list_all is_ascii_alphabetic word ≡ true → kind_after (raw.ScriptDataEscaped script.DoubleEscaped) (60 ∷ 47 ∷ word) [] ≡ raw.ScriptDataEscaped script.DoubleEscaped
-slash-kind word h = kind_after-letters (kind_behind (kind_behind (raw.ScriptDataEscaped script.DoubleEscaped) 60 (47 ∷ (word ++ []))) 47 (word ++ [])) word [] h ∙ slash-word word h
+slash-kind word h = kind_after-letters (next_kind (next_kind (raw.ScriptDataEscaped script.DoubleEscaped) 60 (47 ∷ (word ++ []))) 47 (word ++ [])) word [] h ∙ slash-word word h
 
 module _ {K H : Type 0} (Sink : Ghosts K H) where
   -- where a script's text is so escaped
@@ -98,7 +98,7 @@ module _ {K H : Type 0} (Sink : Ghosts K H) where
   dashes-ends k script.DoubleEscaped b s = refl
 
   -- in a state of told text nothing is to come but the end, after what is slight where a script's text is escaped
-  told-ends : (st : State) → is_told_text st ≡ true → (k : Tokenizer K) → list_all is_ascii_alphabetic k.word ≡ true → OnlyEnds Sink (slight_if (is_escaped st)) st k
+  told-ends : (st : State) → is_emitted_text st ≡ true → (k : Tokenizer K) → list_all is_ascii_alphabetic k.word ≡ true → OnlyEnds Sink (slight_if (is_escaped st)) st k
   unfolding held_at reading_from
   told-ends state.Data h k w b s = refl
   told-ends state.Plaintext h k w b s = refl
@@ -112,7 +112,7 @@ module _ {K H : Type 0} (Sink : Ghosts K H) where
   told-ends _ h k w b s = absurd cc
 
   -- nothing is held of text
-  pub told-closes : (old new : Tokenizer K) (result : Result (Unit {0}) ParseFault) → is_told_text old.state ≡ true → old.char_ref ≡ None → Sink.is_sound (Sink.view old.sink) → list_all is_ascii_alphabetic old.word ≡ true → Errs Sink (owed_for (grave_if (is_escaped old.state))) old new result → Closes Sink old new result
+  pub told-closes : (old new : Tokenizer K) (result : Result (Unit {0}) ParseFault) → is_emitted_text old.state ≡ true → old.char_ref ≡ None → Sink.is_sound (Sink.view old.sink) → list_all is_ascii_alphabetic old.word ≡ true → Errs Sink (owed_for (grave_if (is_escaped old.state))) old new result → Closes Sink old new result
   told-closes old new result h fresh ok w errs = closes_errs Sink (slight_if (is_escaped old.state)) (owed_for (grave_if (is_escaped old.state))) old new old.state result (slight-less (is_escaped old.state)) (record { state = refl; fresh = fresh }) ok (told-ends old.state h old w) errs
 
   -- in text that is escaped twice "<" was told

@@ -5,7 +5,7 @@ use Rattle.html_tokens.specs.declared.replies.TokenSinkResult.TheVariants as rep
 use Rattle.html_tokens.specs.declared.states.State.{State}
 use Rattle.html_tokens.specs.declared.token.Token.{Token}
 use Rattle.html_tokens.specs.declared.sink.TokenSink.{Ghosts}
-use Rattle.html_tokens.specs.Item.{Item, InData, told_as, Fault}
+use Rattle.html_tokens.specs.Item.{Item, InData, token_item, Fault}
 use Rattle.html_tokens.specs.Notes.{Notes, noted, noting, noting_error, heard}
 use Rattle.html_tokens.specs.Reading.{erred_by, line_number, line_breaks, reading_from}
 use Rattle.html_tokens.specs.Sink.{◌>>=◌, SinkLaws}
@@ -50,7 +50,7 @@ module _ {K H : Type 0} (Sink : Ghosts K H) where
 
 module _ {K H : Type 0} (Sink : Ghosts K H) (laws : SinkLaws Sink.is_sound Sink.step Sink.ended Sink.is_quiet) where
   -- what an item makes of the sink that is a token but no tag, breaks no line, and takes all that is left
-  pub end-item : (fault : Option Fault) (old : Tokenizer K) (b : ℕ) (s : Sink.State × Notes ℕ) → Sink.is_sound s.0 → (token : Token) (u : List ℕ) (n : ℕ) (i : Item) → IsNoTag token → i ≡ told_as fault token n (standing old InData) → line_breaks (take n u) ≡ 0 → drop n u ≡ []
+  pub end-item : (fault : Option Fault) (old : Tokenizer K) (b : ℕ) (s : Sink.State × Notes ℕ) → Sink.is_sound s.0 → (token : Token) (u : List ℕ) (n : ℕ) (i : Item) → IsNoTag token → i ≡ token_item fault token n (standing old InData) → line_breaks (take n u) ≡ 0 → drop n u ≡ []
       → plays Sink (rows_of old) i b s u ≡ (noting Sink.step Sink.is_quiet (s.0, more (owed_for fault) s.1) token (line_number b) >>= λ p. at_end Sink b p.0)
   unfolding reading_from
   end-item fault old b s h token u n i none is unbroken left =

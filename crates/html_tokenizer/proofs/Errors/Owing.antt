@@ -7,7 +7,7 @@ use Rattle.html_tokens.specs.declared.states.AttrValueKind.TheVariants as value
 use Rattle.html_tokens.specs.declared.states.State.{State}
 use Rattle.html_tokens.specs.declared.states.State.TheVariants as state
 use Rattle.html_tokens.specs.Comments.{comment_at, comment_after, bogus_comment_after}
-use Rattle.html_tokens.specs.Doctypes.{doctype_at, doctype_name_after, after_name, after_public_keyword, after_system_keyword, public_after, system_after, after_public, after_system, junk_after, doctype_behind}
+use Rattle.html_tokens.specs.Doctypes.{doctype_at, doctype_name_after, after_name, after_public_keyword, after_system_keyword, public_after, system_after, after_public, after_system, junk_after, doctype_after}
 use Rattle.html_tokens.specs.Tags.{name_after, attribute_after, equals_at, value_at, unquoted_after, quoted_after, lacks_space}
 use Rattle.html_tokens.specs.declared.token.Token.{Token}
 use Rattle.html_tokens.specs.declared.token.Token.TheVariants.{EOFToken}
@@ -23,11 +23,11 @@ use Rattle.html_tokenizer_parts.specs.declared.held_reference.Ampersand.TheVaria
 use Rattle.html_tokenizer.specs.declared.tokenizer.Tokenizer.{Tokenizer}
 use Rattle.html_tokenizer.specs.Calls.{noted_with}
 use Rattle.html_tokenizer.specs.Laws.{IsOwing}
-use Rattle.html_tokenizer.specs.Rest.{rows_of, standing, fault_behind, pending, coming, held_at}
+use Rattle.html_tokenizer.specs.Rest.{rows_of, standing, fault_after, pending, coming, held_at}
 use Rattle.html_tokenizer.specs.Steps.{and_more}
 use Rattle.html_tokenizer.proofs.Steps.Readings.{sum-zero}
 use Rattle.html_tokenizer.proofs.Errors.Rises.{more-sum}
-use Rattle.html_tokenizer.specs.Listeners.{noting_listener, told_text, told_item}
+use Rattle.html_tokenizer.specs.Listeners.{noting_listener, emitted_text, emitted_item}
 
 more-suc : (k n : ℕ) → and_more k (suc n) ≡ suc (and_more k n)
 more-suc k n =
@@ -74,15 +74,15 @@ module _ {S : Type 0} (step : Step S) (quiet : S → Token → Bool) (cdata : S 
     reading-errors (suc n) st b s notes other (c ∷ t) h = reading-errors n st b s notes other t h
 
     pub play-errors : (i : Item) (b : ℕ) (s : S) (notes other : Notes ℕ) (t : List ℕ) → HasMore notes other
-        → OwesMore (told_item (noting_listener step quiet cdata ends) rows i b (s, notes) t) (told_item (noting_listener step quiet cdata ends) rows i b (s, other) t)
+        → OwesMore (emitted_item (noting_listener step quiet cdata ends) rows i b (s, notes) t) (emitted_item (noting_listener step quiet cdata ends) rows i b (s, other) t)
     play-errors i b s notes other t h =
         let read = b + line_breaks (take i.len t) in
-        said-errors i.fault i.token read s notes other (λ p. told_text (noting_listener step quiet cdata ends) rows (next_stand i.next p.1) read p.0 (drop i.len t)) h
+        said-errors i.fault i.token read s notes other (λ p. emitted_text (noting_listener step quiet cdata ends) rows (next_stand i.next p.1) read p.0 (drop i.len t)) h
         (λ p notes other h. reading-errors 0 (next_stand i.next p.1) read p.0 notes other (drop i.len t) h)
 
   -- the same of a reading after something slight
   pub slight-errors : (odd : Bool) (rows : List Row) (st : Stand) (b : ℕ) (s : S) (notes other : Notes ℕ) (t : List ℕ) → HasMore notes other
-      → OwesMore (told_text (noting_listener step quiet cdata ends) rows st b (erred_by noting_error (slight_if odd) (s, notes)) t) (told_text (noting_listener step quiet cdata ends) rows st b (erred_by noting_error (slight_if odd) (s, other)) t)
+      → OwesMore (emitted_text (noting_listener step quiet cdata ends) rows st b (erred_by noting_error (slight_if odd) (s, notes)) t) (emitted_text (noting_listener step quiet cdata ends) rows st b (erred_by noting_error (slight_if odd) (s, other)) t)
   slight-errors true rows st b s notes other t h = reading-errors rows 0 st b s _ _ t h
   slight-errors false rows st b s notes other t h = reading-errors rows 0 st b s notes other t h
 
@@ -132,7 +132,7 @@ module _ {K S : Type 0} (step : Step S) (quiet : S → Token → Bool) (cdata : 
   held-errors state.CommentEnd k b s notes other t h = play-errors step quiet cdata ends more_owed (rows_of k) (comment_after (standing k InData) k.comment (45 ∷ 45 ∷ t)) b s notes other (45 ∷ 45 ∷ t) h
   held-errors state.CommentEndBang k b s notes other t h = play-errors step quiet cdata ends more_owed (rows_of k) (comment_after (standing k InData) k.comment (45 ∷ 45 ∷ 33 ∷ t)) b s notes other (45 ∷ 45 ∷ 33 ∷ t) h
   held-errors state.Doctype k b s notes other t h = play-errors step quiet cdata ends more_owed (rows_of k) (doctype_at (standing k InData) t) b s notes other t h
-  held-errors state.BeforeDoctypeName k b s notes other t h = play-errors step quiet cdata ends more_owed (rows_of k) (doctype_behind (standing k InData) t) b s notes other t h
+  held-errors state.BeforeDoctypeName k b s notes other t h = play-errors step quiet cdata ends more_owed (rows_of k) (doctype_after (standing k InData) t) b s notes other t h
   held-errors state.DoctypeName k b s notes other t h = play-errors step quiet cdata ends more_owed (rows_of k) (doctype_name_after (standing k InData) k.temporary t) b s notes other t h
   held-errors state.AfterDoctypeName k b s notes other t h = play-errors step quiet cdata ends more_owed (rows_of k) (after_name (standing k InData) k.doctype (k.keyword ++ t)) b s notes other (k.keyword ++ t) h
   held-errors (state.AfterDoctypeKeyword id.Public) k b s notes other t h = play-errors step quiet cdata ends more_owed (rows_of k) (after_public_keyword (standing k InData) k.doctype t) b s notes other t h
@@ -152,11 +152,11 @@ module _ {K S : Type 0} (step : Step S) (quiet : S → Token → Bool) (cdata : 
   held-errors state.CdataSectionEnd k b s notes other t h = reading-errors step quiet cdata ends more_owed (rows_of k) 0 _ b s notes other _ h
 
   -- the same where an unknown name may stand before
-  held_behind-errors : (behind : Option Ampersand) (st : State) (k : Tokenizer K) (b : ℕ) (s : S) (notes other : Notes ℕ) (t : List ℕ) → HasMore step quiet cdata ends more_owed notes other
-      → OwesMore step quiet cdata ends more_owed (held_at (noting_listener step quiet cdata ends) st k b (erred_by noting_error (fault_behind behind) (s, notes)) t) (held_at (noting_listener step quiet cdata ends) st k b (erred_by noting_error (fault_behind behind) (s, other)) t)
-  held_behind-errors None st k b s notes other t h = held-errors st k b s notes other t h
-  held_behind-errors (Some (Held cs)) st k b s notes other t h = held-errors st k b s notes other t h
-  held_behind-errors (Some Unknown) st k b s notes other t h = held-errors st k b s _ _ t h
+  held_after-errors : (behind : Option Ampersand) (st : State) (k : Tokenizer K) (b : ℕ) (s : S) (notes other : Notes ℕ) (t : List ℕ) → HasMore step quiet cdata ends more_owed notes other
+      → OwesMore step quiet cdata ends more_owed (held_at (noting_listener step quiet cdata ends) st k b (erred_by noting_error (fault_after behind) (s, notes)) t) (held_at (noting_listener step quiet cdata ends) st k b (erred_by noting_error (fault_after behind) (s, other)) t)
+  held_after-errors None st k b s notes other t h = held-errors st k b s notes other t h
+  held_after-errors (Some (Held cs)) st k b s notes other t h = held-errors st k b s notes other t h
+  held_after-errors (Some Unknown) st k b s notes other t h = held-errors st k b s _ _ t h
 
 module _ {K H : Type 0} (Sink : Ghosts K H) where
   -- What is owed before a call for the characters that it takes and those that follow is owed by the items that ended, or after it.
@@ -164,7 +164,7 @@ module _ {K H : Type 0} (Sink : Ghosts K H) where
   is-owing = (
     λ c t.
         ap errors_of (c.fed.same no_notes t)
-        ∙ held_behind-errors Sink.step Sink.is_quiet Sink.asks_cdata Sink.ended c.fed.owed.faults c.after.char_ref c.after.state c.after c.after.stream.breaks (Sink.view c.after.sink) no_notes (noted_with Sink.number c.fed.owed no_notes c.result) (pending c.after.char_ref ++ coming c.after t) refl
+        ∙ held_after-errors Sink.step Sink.is_quiet Sink.asks_cdata Sink.ended c.fed.owed.faults c.after.char_ref c.after.state c.after c.after.stream.breaks (Sink.view c.after.sink) no_notes (noted_with Sink.number c.fed.owed no_notes c.result) (pending c.after.char_ref ++ coming c.after t) refl
         ∙ more-sum c.fed.owed.faults _,
     λ old new e. ap errors_of (e.same no_notes) ∙ more-sum e.owed.faults 0 ∙ sum-zero e.owed.faults,
   )

@@ -5,7 +5,7 @@ use Rattle.std.proofs.lemmas.Bool.{and_parts, and_from}
 use Rattle.html_tokens.specs.Notes.{Notes, no_notes, errors_of, was_quiet, noted_reading}
 use Rattle.html_tokens.specs.declared.options.TokenizerOpts.{TokenizerOpts}
 use Rattle.html_tokens.specs.declared.sink.TokenSink.{Ghosts}
-use Rattle.html_tokens.specs.NormalText.{newlines_behind, without_mark}
+use Rattle.html_tokens.specs.NormalText.{newlines_after, without_mark}
 use Rattle.html_tokens.specs.Reading.{first_stand}
 use Rattle.html_tokens.specs.Table.{Row}
 use Rattle.html_tokens.proofs.CleanItems.{reading-clean}
@@ -14,7 +14,7 @@ use Rattle.html_tokenizer.specs.declared.tokenizer.Tokenizer.{Tokenizer}
 use Rattle.html_tokenizer.specs.Calls.{to_come, noted_with, HasEnded, IsNew, owed_for_text}
 use Rattle.html_tokenizer.specs.Steps.{Owed, more, together, Rises}
 use Rattle.html_tokenizer.proofs.Errors.Rises.{more-sum, none-no-more, rises-same, rises-less, rises-besides}
-use Rattle.html_tokenizer.specs.Laws.{Call, text_of, IsChain, taken_by, noted_behind, AreCallsChained, IsAnyPieces, IsChainEnded, IsSameRoad, IsEachFaultTold, IsCleanTextQuiet}
+use Rattle.html_tokenizer.specs.Laws.{Call, text_of, IsChain, taken_by, noted_after, AreCallsChained, IsAnyPieces, IsChainEnded, IsSameRoad, IsEachFaultTold, IsCleanTextQuiet}
 use Rattle.html_tokenizer.specs.Rest.{coming}
 
 -- two values that are given as one
@@ -44,7 +44,7 @@ owed-more owed notes = ap (λ n. record { faults = n; is_quiet = owed.is_quiet &
 told-enough : (a b c d m n o : ℕ) → min (a + (m + o)) 0xffff_ffff_ffff_ffff ≤ b → min (b + n) 0xffff_ffff_ffff_ffff ≤ c → c ≤ d → min (a + ((n + m) + o)) 0xffff_ffff_ffff_ffff ≤ d
 told-enough a b c d m n o h k l = omega arith
 
-no-text : (cr mark : Bool) → newlines_behind cr (without_mark mark []) ≡ []
+no-text : (cr mark : Bool) → newlines_after cr (without_mark mark []) ≡ []
 no-text cr true = refl
 no-text cr false = refl
 
@@ -65,7 +65,7 @@ module _ {K H : Type 0} (Sink : Ghosts K H) where
   chain-ended k new ended cs h e =
       ap (λ u. to_come Sink k no_notes u) (sym (append-nil (taken_by Sink cs)))
       ∙ chain k new cs no_notes [] h
-      ∙ e.same (noted_behind Sink no_notes cs)
+      ∙ e.same (noted_after Sink no_notes cs)
 
   pub any-pieces : IsAnyPieces Sink
   any-pieces k new ended other new' ended' cs cs' same h h' text e e' =
@@ -92,7 +92,7 @@ module _ {K H : Type 0} (Sink : Ghosts K H) where
 
   -- what each call's errors rose by comes to what was noted, and what the characters owe on their own
   chain-rises : (k new : Tokenizer K) (cs : List (Call Sink)) (notes : Notes ℕ) (before : List ℕ) (first : K) (exact : Bool) → IsChain Sink k cs new → k.stream.exact_errors ≡ exact
-      → Rises Sink.errors (together (owed_in notes) (owed_for_text exact before)) first k.sink → Rises Sink.errors (together (owed_in (noted_behind Sink notes cs)) (owed_for_text exact (before ++ came_by cs))) first new.sink
+      → Rises Sink.errors (together (owed_in notes) (owed_for_text exact before)) first k.sink → Rises Sink.errors (together (owed_in (noted_after Sink notes cs)) (owed_for_text exact (before ++ came_by cs))) first new.sink
   chain-rises k new [] notes before first exact h same r =
       let r' : Rises Sink.errors (together (owed_in notes) (owed_for_text exact before)) first new.sink = rw (← h) r in
       subst (λ t. Rises Sink.errors (together (owed_in notes) (owed_for_text exact t)) first new.sink) (sym (append-nil before)) r'
@@ -103,33 +103,33 @@ module _ {K H : Type 0} (Sink : Ghosts K H) where
       let both : Rises Sink.errors (together (together c.fed.owed (owed_in notes)) (owed_for_text exact (before ++ c.fed.came))) first c.after.sink = rises-besides Sink.errors exact (owed_in notes) c.fed.owed before c.fed.came first c.before.sink c.after.sink r' call in
       let noted : Rises Sink.errors (together (owed_in (noted_with Sink.number c.fed.owed notes c.result)) (owed_for_text exact (before ++ c.fed.came))) first c.after.sink =
       subst (λ o. Rises Sink.errors (together o (owed_for_text exact (before ++ c.fed.came))) first c.after.sink) (sym (owed-more c.fed.owed notes)) both in
-      subst (λ t. Rises Sink.errors (together (owed_in (noted_behind Sink (noted_with Sink.number c.fed.owed notes c.result) cs)) (owed_for_text exact t)) first new.sink) (append_assoc before c.fed.came (came_by cs))
+      subst (λ t. Rises Sink.errors (together (owed_in (noted_after Sink (noted_with Sink.number c.fed.owed notes c.result) cs)) (owed_for_text exact t)) first new.sink) (append_assoc before c.fed.came (came_by cs))
       (chain-rises c.after new cs (noted_with Sink.number c.fed.owed notes c.result) (before ++ c.fed.came) first exact h.1 (c.fed.exact ∙ same') noted)
 
   -- from a new tokenizer on, by the text of all that was taken
   new-rises : (k new : Tokenizer K) (cs : List (Call Sink)) (sink : K) (opts : TokenizerOpts) (table : List Row) → IsNew Sink k sink opts table → IsChain Sink k cs new
-      → Rises Sink.errors (together (owed_in (noted_behind Sink no_notes cs)) (owed_for_text opts.exact_errors (text_of Sink opts cs))) sink new.sink
+      → Rises Sink.errors (together (owed_in (noted_after Sink no_notes cs)) (owed_for_text opts.exact_errors (text_of Sink opts cs))) sink new.sink
   new-rises k new cs sink opts table is h =
       let text : text_of Sink opts cs ≡ came_by cs =
       sym (is.comes (taken_by Sink cs)) ∙ (ap (coming k) (sym (append-nil (taken_by Sink cs))) ∙ (chain-comes k new cs [] h ∙ (ap (λ u. came_by cs ++ u) (nothing-comes new) ∙ append-nil (came_by cs)))) in
-      subst (λ t. Rises Sink.errors (together (owed_in (noted_behind Sink no_notes cs)) (owed_for_text opts.exact_errors t)) sink new.sink) (sym text)
+      subst (λ t. Rises Sink.errors (together (owed_in (noted_after Sink no_notes cs)) (owed_for_text opts.exact_errors t)) sink new.sink) (sym text)
       (chain-rises k new cs no_notes [] sink opts.exact_errors h is.exact (rises-less Sink.errors sink k.sink (none-no-more opts.exact_errors) (rises-same Sink.errors sink k.sink is.over)))
 
   -- what is noted of all the text
   all-noted : (k new ended : Tokenizer K) (cs : List (Call Sink)) (sink : K) (opts : TokenizerOpts) (table : List Row) → IsNew Sink k sink opts table → IsChain Sink k cs new → (e : HasEnded Sink new ended)
-      → noted_reading Sink.step Sink.is_quiet Sink.asks_cdata Sink.ended table (first_stand opts.initial_state opts.last_start_tag_name) 0 (Sink.view sink, no_notes) (text_of Sink opts cs) ≡ Ok (Sink.view ended.sink, more e.owed (noted_behind Sink no_notes cs))
+      → noted_reading Sink.step Sink.is_quiet Sink.asks_cdata Sink.ended table (first_stand opts.initial_state opts.last_start_tag_name) 0 (Sink.view sink, no_notes) (text_of Sink opts cs) ≡ Ok (Sink.view ended.sink, more e.owed (noted_after Sink no_notes cs))
   all-noted k new ended cs sink opts table is h e = sym (is.same no_notes (taken_by Sink cs)) ∙ chain-ended k new ended cs h e
 
   pub each-fault : IsEachFaultTold Sink
   each-fault k new ended cs sink opts table is h e =
-      let noted = noted_behind Sink no_notes cs in
+      let noted = noted_after Sink no_notes cs in
       let rises = new-rises k new cs sink opts table is h in
       let count = ap errors_of (all-noted k new ended cs sink opts table is h e) ∙ more-sum e.owed.faults noted.errors in
       rw count (told-enough (Sink.errors sink) (Sink.errors new.sink) (Sink.errors e.told) (Sink.errors ended.sink) noted.errors e.owed.faults (owed_for_text opts.exact_errors (text_of Sink opts cs)).faults rises.enough e.rises.enough e.kept)
 
   pub clean-quiet : IsCleanTextQuiet Sink
   clean-quiet k new ended cs sink opts table is h e plain clean =
-      let noted = noted_behind Sink no_notes cs in
+      let noted = noted_after Sink no_notes cs in
       let rises = new-rises k new cs sink opts table is h in
       let all = sym (ap was_quiet (all-noted k new ended cs sink opts table is h e)) ∙ (reading-clean Sink.step Sink.is_quiet Sink.asks_cdata Sink.ended table (first_stand opts.initial_state opts.last_start_tag_name) 0 (Sink.view sink) (text_of Sink opts cs) clean).1 in
       let parts = and_parts e.owed.is_quiet noted.is_quiet all in

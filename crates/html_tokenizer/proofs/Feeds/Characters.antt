@@ -14,7 +14,7 @@ use Rattle.html_tokenizer.specs.Calls.{Passed, Passes, owed_for_text}
 use Rattle.html_tokenizer_parts.specs.declared.held_reference.Ampersand.{Ampersand}
 use Rattle.html_tokenizer_parts.specs.declared.stream.Stream.{Stream}
 use Rattle.html_tokenizer.specs.declared.tokenizer.Tokenizer.{Tokenizer}
-use Rattle.html_tokenizer.specs.Rest.{fault_behind, pending}
+use Rattle.html_tokenizer.specs.Rest.{fault_after, pending}
 use Rattle.html_tokenizer.specs.Steps.{Owed, now, noted_by, PausesAt, Erred, Errs, Took, Keeps, nothing_owed}
 use Rattle.html_tokenizer.proofs.Steps.Keeping.{held-other, erred-now, stays-then, fell-behind, fails-along, fails-before}
 use Rattle.html_tokenizer.proofs.Errors.Rises.{rises-then}
@@ -31,7 +31,7 @@ module _ {K H : Type 0} (Sink : Ghosts K H) where
 
   counted-by : (k : Tokenizer K) (b : ℕ) (s : Sink.State × Notes ℕ) (t : List ℕ) (breaks : Bool)
       → now Sink k (b + line_break breaks) s t ≡ now Sink k (if breaks then min (b + 1) 0xffff_ffff_ffff_ffff else b) s t
-  counted-by k b s t true = held-lines (listening Sink) k.state k (b + 1) (min (b + 1) 0xffff_ffff_ffff_ffff) (erred_by noting_error (fault_behind k.char_ref) s) (pending k.char_ref ++ t) (lines-capped (b + 1))
+  counted-by k b s t true = held-lines (listening Sink) k.state k (b + 1) (min (b + 1) 0xffff_ffff_ffff_ffff) (erred_by noting_error (fault_after k.char_ref) s) (pending k.char_ref ++ t) (lines-capped (b + 1))
   counted-by k b s t false = ap (λ n. now Sink k n s t) (sum-zero b)
 
   -- a pause is where it was, whatever is known of the input
@@ -48,7 +48,7 @@ module _ {K H : Type 0} (Sink : Ghosts K H) where
       let new : Tokenizer K = record mid { stream = record mid.stream { breaks = counted mid.stream.breaks c } } in
       h.same notes t
       ∙ counted-by mid old.stream.breaks (Sink.view mid.sink, noted_by Sink.number h.owed notes result) t (nat_eq c 10)
-      ∙ sym (held-other (listening Sink) mid.state mid mid.sink new.stream (counted old.stream.breaks c) (erred_by noting_error (fault_behind mid.char_ref) (Sink.view mid.sink, noted_by Sink.number h.owed notes result)) (pending mid.char_ref ++ t) refl)
+      ∙ sym (held-other (listening Sink) mid.state mid mid.sink new.stream (counted old.stream.breaks c) (erred_by noting_error (fault_after mid.char_ref) (Sink.view mid.sink, noted_by Sink.number h.owed notes result)) (pending mid.char_ref ++ t) refl)
       ∙ ap (λ x. now Sink new (counted x.breaks c) (Sink.view mid.sink, noted_by Sink.number h.owed notes result) t) (sym h.stream)
 
   -- what is to come is so too where an error of the character was told

@@ -18,7 +18,7 @@ use Rattle.html_tokenizer_parts.specs.Keywords.{IsPart}
 use Rattle.html_tokenizer_parts.specs.declared.stream.Stream.{Stream}
 use Rattle.html_tokenizer_parts.specs.declared.held_reference.Ampersand.{Ampersand}
 use Rattle.html_tokenizer.specs.declared.tokenizer.Tokenizer.{Tokenizer}
-use Rattle.html_tokenizer.specs.Rest.{fault_behind, pending, coming, rows_of}
+use Rattle.html_tokenizer.specs.Rest.{fault_after, pending, coming, rows_of}
 use Rattle.html_tokenizer_parts.specs.Words.{BeginsEnd}
 use Rattle.html_tokenizer.proofs.HeldReferences.Parts.{holds-part, holds-end}
 use Rattle.html_tokenizer.proofs.Untold.States.{untold}
@@ -55,7 +55,7 @@ module _ {K H : Type 0} (Sink : Ghosts K H) where
       → to_come Sink old notes u ≡ now Sink mid mid.stream.breaks (Sink.view mid.sink, notes) v
   comes-to old mid u v notes other is comes =
       ap (λ x. now Sink old old.stream.breaks (Sink.view old.sink, notes) x) comes
-      ∙ sym (held-other (listening Sink) old.state old old.sink mid.stream old.stream.breaks (erred_by noting_error (fault_behind old.char_ref) (Sink.view old.sink, notes)) (pending old.char_ref ++ v) (ap (λ s. s.table) other))
+      ∙ sym (held-other (listening Sink) old.state old old.sink mid.stream old.stream.breaks (erred_by noting_error (fault_after old.char_ref) (Sink.view old.sink, notes)) (pending old.char_ref ++ v) (ap (λ s. s.table) other))
       ∙ ap (λ n. now Sink (record old { stream = mid.stream }) n (Sink.view old.sink, notes) v) (sym (ap (λ s. s.breaks) other))
       ∙ sym (ap (λ (k : Tokenizer K). now Sink k mid.stream.breaks (Sink.view k.sink, notes) v) is)
 

@@ -25,7 +25,7 @@ use Rattle.html_tokenizer.specs.Rest.{rows_of}
 use Rattle.html_tokenizer.specs.Steps.{EndsTag, IsAt, Keeps, Took}
 use Rattle.html_tokenizer.specs.Stops.{value_stops}
 use Rattle.html_tokenizer.proofs.Attributes.Names.{after-equals, after-other, after-space, before-close, before-name, before-space, name-end, name-more}
-use Rattle.html_tokenizer.proofs.Attributes.Values.{quoted-close, unquoted-end, unquoted-more, value_before-apostrophe, value_before-other, value_before-quote, value_behind}
+use Rattle.html_tokenizer.proofs.Attributes.Values.{quoted-close, unquoted-end, unquoted-more, value_before-apostrophe, value_before-other, value_before-quote, value_after}
 use Rattle.html_tokenizer.proofs.Fronts.Tags.{fronts-none, fronts-then, lacks-breaks, lowered-more, lowered-one, plain-space, took-one, unbroken-more, unbroken-none}
 use Rattle.html_tokenizer.proofs.Fronts.Texts.{ascii-one, chars-cons, utf8-cons}
 use Rattle.html_tokenizer.proofs.Steps.Keeping.{fits-at}
@@ -122,7 +122,7 @@ module _ {K H : Type 0} (Sink : Ghosts K H) where
       tag_name-close Sink old new 62 result from ok refl ends
   tag-closes old new result (after_value from) ok h =
       let ends : EndsTag Sink old new result = subst (λ st. EndsTag Sink (ended_in st old) new result) from.state h in
-      value_behind Sink old new 62 result from (before-closes old new result from.fresh ok ends)
+      value_after Sink old new 62 result from (before-closes old new result from.fresh ok ends)
   tag-closes old new result (in_name from) ok h =
       let ends : EndsTag Sink (with_value old []) new result = subst (λ st. EndsTag Sink (ended_in st old) new result) from.state h in
       let after : Tokenizer K = record old { state = state.AfterAttributeName } in
@@ -169,7 +169,7 @@ module _ {K H : Type 0} (Sink : Ghosts K H) where
       (name-behind old old c cs from.fresh ok lacking (tag_name-space Sink old 32 from ok refl))
   name-took old c cs (after_value from) ok lacking =
       ended-as old state.AfterAttributeValueQuoted (λ k. TookRun Sink old (naming k (c ∷ cs)) (32 ∷ c ∷ cs)) from.state
-      (name-behind old old c cs from.fresh ok lacking (value_behind Sink old (before old) 32 (Ok flow.Continue) from (before-took old from.fresh ok)))
+      (name-behind old old c cs from.fresh ok lacking (value_after Sink old (before old) 32 (Ok flow.Continue) from (before-took old from.fresh ok)))
   name-took old c cs (in_name from) ok lacking =
       let bits = attribute_stops.bits in
       let lacks : has bits c ≡ false = All-head (λ c. has bits c ≡ false) c cs lacking in

@@ -19,7 +19,7 @@ use Rattle.html_tokens.specs.declared.states.State.TheVariants as state
 use Rattle.html_tokens.specs.declared.token.Token.TheVariants.{CharacterTokens}
 use Rattle.html_tokens.specs.Item.{InData, Stand, character}
 use Rattle.html_tokens.specs.Items.{item}
-use Rattle.html_tokens.specs.NormalText.{newlines_behind, without_mark}
+use Rattle.html_tokens.specs.NormalText.{newlines_after, without_mark}
 use Rattle.html_tokens.specs.Notes.{Notes, noting, noting_error}
 use Rattle.html_tokens.specs.Reading.{◌>>=◌, erred_by, line_break, line_number}
 use Rattle.html_tokens.specs.Sink.{SinkLaws}
@@ -33,8 +33,8 @@ use Rattle.html_tokenizer_parts.proofs.Sets.{not-member}
 use Rattle.html_tokenizer.specs.Calls.{Moves, owed_for_text}
 use Rattle.html_tokenizer.specs.declared.tokenizer.Tokenizer.{Tokenizer}
 use Rattle.html_tokenizer.specs.Fronts.{AreLines, HasLines, IsOfLine, KeepsLines, Lacks, ReadsTags, counted_all}
-use Rattle.html_tokenizer.specs.Listeners.{Listener, listening, told_text}
-use Rattle.html_tokenizer.specs.Rest.{fault_behind, held_at, pending, rows_of, standing}
+use Rattle.html_tokenizer.specs.Listeners.{Listener, listening, emitted_text}
+use Rattle.html_tokenizer.specs.Rest.{fault_after, held_at, pending, rows_of, standing}
 use Rattle.html_tokenizer.specs.Steps.{IsAt, Rises, Tells, and_heard, more, nothing_owed, now, together}
 use Rattle.html_tokenizer.specs.Stops.{data_stops}
 use Rattle.html_tokenizer.proofs.Errors.Rises.{rises-less, text-no-more}
@@ -142,49 +142,49 @@ lines-made text spelled rest slice made width b m from to e is cut spelt some li
 
 -- HOW THEY COME
 
-line-comes : (c : ℕ) (t : List ℕ) → nat_eq c 13 ≡ false → newlines_behind false (c ∷ t) ≡ c ∷ newlines_behind false t
+line-comes : (c : ℕ) (t : List ℕ) → nat_eq c 13 ≡ false → newlines_after false (c ∷ t) ≡ c ∷ newlines_after false t
 line-comes c t e = rw e refl
 
-lines-come : (run t : List ℕ) → AreLines run → newlines_behind false (run ++ t) ≡ run ++ newlines_behind false t
+lines-come : (run t : List ℕ) → AreLines run → newlines_after false (run ++ t) ≡ run ++ newlines_after false t
 lines-come [] t lines = refl
 lines-come (c ∷ run) t lines = line-comes c (run ++ t) (All-head IsOfLine c run lines).1 ∙ ap (λ u. c ∷ u) (lines-come run t (All-tail IsOfLine c run lines))
 
 -- lines come as they are, where no byte order mark and no line feed is left out
 lines-front : (stream : Stream) (run t : List ℕ) → stream.discard_bom ≡ false → stream.ignore_lf ≡ false → AreLines run → coming_in stream (run ++ t) ≡ run ++ coming_in stream t
 lines-front stream run t unmarked heeded lines =
-    ap (λ mark. newlines_behind stream.ignore_lf (without_mark mark (run ++ t))) unmarked
-    ∙ ap (newlines_behind stream.ignore_lf) (without_none (run ++ t))
-    ∙ ap (λ lf. newlines_behind lf (run ++ t)) heeded
+    ap (λ mark. newlines_after stream.ignore_lf (without_mark mark (run ++ t))) unmarked
+    ∙ ap (newlines_after stream.ignore_lf) (without_none (run ++ t))
+    ∙ ap (λ lf. newlines_after lf (run ++ t)) heeded
     ∙ lines-come run t lines
-    ∙ ap (λ lf. run ++ newlines_behind lf t) (sym heeded)
-    ∙ ap (λ u. run ++ newlines_behind stream.ignore_lf u) (sym (without_none t))
-    ∙ ap (λ mark. run ++ newlines_behind stream.ignore_lf (without_mark mark t)) (sym unmarked)
+    ∙ ap (λ lf. run ++ newlines_after lf t) (sym heeded)
+    ∙ ap (λ u. run ++ newlines_after stream.ignore_lf u) (sym (without_none t))
+    ∙ ap (λ mark. run ++ newlines_after stream.ignore_lf (without_mark mark t)) (sym unmarked)
 
 -- HOW THEY ARE READ
 
 module _ {T : Type 0} (sound : T → Type 0) (to : Listener T) (rows : List Row) (laws : Lawful sound to.step) where
-  break-counted : (st : Stand) (b : ℕ) (x : Bool) (s : T) (t : List ℕ) → told_text to rows st (b + line_break x) s t ≡ told_text to rows st (if x then min (b + 1) 0xffff_ffff_ffff_ffff else b) s t
+  break-counted : (st : Stand) (b : ℕ) (x : Bool) (s : T) (t : List ℕ) → emitted_text to rows st (b + line_break x) s t ≡ emitted_text to rows st (if x then min (b + 1) 0xffff_ffff_ffff_ffff else b) s t
   break-counted st b true s t = reading-lines to rows 0 st (b + 1) (min (b + 1) 0xffff_ffff_ffff_ffff) s t (lines-capped (b + 1))
-  break-counted st b false s t = ap (λ n. told_text to rows st n s t) (sum-zero b)
+  break-counted st b false s t = ap (λ n. emitted_text to rows st n s t) (sum-zero b)
 
   module _ (st : Stand) (plain : (c : ℕ) → IsOfLine c → (x : Bool) (t : List ℕ) → item rows x st c t ≡ character c st) where
-    one-told : (b : ℕ) (s : T) → sound s → (c : ℕ) (t : List ℕ) (l : ℕ) → IsOfLine c → told_text to rows st b s (c ∷ t) ≡ (to.step s (CharacterTokens (c ∷ [])) l >>= λ p. told_text to rows st (counted b c) p.0 t)
+    one-told : (b : ℕ) (s : T) → sound s → (c : ℕ) (t : List ℕ) (l : ℕ) → IsOfLine c → emitted_text to rows st b s (c ∷ t) ≡ (to.step s (CharacterTokens (c ∷ [])) l >>= λ p. emitted_text to rows st (counted b c) p.0 t)
     one-told b s h c t l is =
         reading-char sound to rows laws st st b s h c c t l (plain c is (to.cdata s) t)
-        ∙ bind_same (to.step s (CharacterTokens (c ∷ [])) l) (λ p. told_text to rows st (b + line_break (nat_eq c 10)) p.0 t) (λ p. told_text to rows st (counted b c) p.0 t) (λ p. break-counted st b (nat_eq c 10) p.0 t)
+        ∙ bind_same (to.step s (CharacterTokens (c ∷ [])) l) (λ p. emitted_text to rows st (b + line_break (nat_eq c 10)) p.0 t) (λ p. emitted_text to rows st (counted b c) p.0 t) (λ p. break-counted st b (nat_eq c 10) p.0 t)
 
     -- text, and then lines more of it
     more-told : (b : ℕ) (s : T) → sound s → (front run t : List ℕ) (l : ℕ) → AreLines run
-        → (to.step s (CharacterTokens front) l >>= λ p. told_text to rows st b p.0 (run ++ t)) ≡ (to.step s (CharacterTokens (front ++ run)) l >>= λ p. told_text to rows st (counted_all b run) p.0 t)
-    more-told b s h front [] t l lines = ap (λ a. to.step s (CharacterTokens a) l >>= λ p. told_text to rows st b p.0 t) (sym (append-nil front))
+        → (to.step s (CharacterTokens front) l >>= λ p. emitted_text to rows st b p.0 (run ++ t)) ≡ (to.step s (CharacterTokens (front ++ run)) l >>= λ p. emitted_text to rows st (counted_all b run) p.0 t)
+    more-told b s h front [] t l lines = ap (λ a. to.step s (CharacterTokens a) l >>= λ p. emitted_text to rows st b p.0 t) (sym (append-nil front))
     more-told b s h front (c ∷ run) t l lines =
         told-then sound to rows laws st st b (counted b c) s h front c (run ++ t) l (λ s h. one-told b s h c (run ++ t) l (All-head IsOfLine c run lines))
         ∙ more-told (counted b c) s h (front ++ c ∷ []) run t l (All-tail IsOfLine c run lines)
-        ∙ ap (λ a. to.step s (CharacterTokens a) l >>= λ p. told_text to rows st (counted_all (counted b c) run) p.0 t) (append_assoc front (c ∷ []) run)
+        ∙ ap (λ a. to.step s (CharacterTokens a) l >>= λ p. emitted_text to rows st (counted_all (counted b c) run) p.0 t) (append_assoc front (c ∷ []) run)
 
     -- lines are read as one text
     lines-told : (b : ℕ) (s : T) → sound s → (run t : List ℕ) (l : ℕ) → 0 < length run → AreLines run
-        → told_text to rows st b s (run ++ t) ≡ (to.step s (CharacterTokens run) l >>= λ p. told_text to rows st (counted_all b run) p.0 t)
+        → emitted_text to rows st b s (run ++ t) ≡ (to.step s (CharacterTokens run) l >>= λ p. emitted_text to rows st (counted_all b run) p.0 t)
     lines-told b s h [] t l some lines = absurd (omega arith)
     lines-told b s h (c ∷ run) t l some lines =
         one-told b s h c (run ++ t) l (All-head IsOfLine c run lines)
@@ -218,7 +218,7 @@ module _ {K H : Type 0} (Sink : Ghosts K H) where
             ∙ told-next Sink nothing_owed old mid (CharacterTokens run) notes (λ s. at Sink state.Data old behind s t) told
             ∙ sym (now-target Sink old mid.sink state.Data behind (Sink.view mid.sink, more quiet notes) t from)
             ∙ sym (ap (λ (k : Tokenizer K). now Sink k behind (Sink.view mid.sink, more quiet notes) t) told.changed)
-            ∙ sym (held-other (listening Sink) mid.state mid mid.sink (record old.stream { breaks = behind }) behind (erred_by noting_error (fault_behind mid.char_ref) (Sink.view mid.sink, more quiet notes)) (pending mid.char_ref ++ t) (sym (ap (λ (k : Tokenizer K). k.stream.table) told.changed)));
+            ∙ sym (held-other (listening Sink) mid.state mid mid.sink (record old.stream { breaks = behind }) behind (erred_by noting_error (fault_after mid.char_ref) (Sink.view mid.sink, more quiet notes)) (pending mid.char_ref ++ t) (sym (ap (λ (k : Tokenizer K). k.stream.table) told.changed)));
         stream = refl;
         sound = told.sound;
         fits = ap (λ (k : Tokenizer K). fits_in (rows_of old) k.char_ref k.state) told.changed ∙ fits-at old state.Data from;

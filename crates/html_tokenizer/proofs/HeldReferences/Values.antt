@@ -6,7 +6,7 @@ use Rattle.std.proofs.lemmas.Bool.{and_parts}
 use Rattle.std.proofs.lemmas.Bool.Decides.{nat_tests}
 use Rattle.html_tokens.specs.declared.tags.Tag.{Tag}
 use Rattle.html_tokens.specs.Characters.{ends_word, is_null}
-use Rattle.html_tokens.specs.Item.{slight_if, InTag, Item, Stand, behind, behind_all, marked, moved, silent}
+use Rattle.html_tokens.specs.Item.{slight_if, InTag, Item, Stand, longer, longer_by, marked, moved, silent}
 use Rattle.html_tokens.specs.Reading.{erred_by}
 use Rattle.html_tokens.specs.Reference.{Reference, fault_of_reference, reference_at}
 use Rattle.html_tokens.specs.Table.{Row}
@@ -18,7 +18,7 @@ use Rattle.html_tokenizer.proofs.Steps.Keeping.{no-break}
 use Rattle.html_tokenizer.proofs.HeldReferences.Readings.{held-no_null, held-no_reference, held-unbroken}
 use Rattle.html_tokenizer_parts.proofs.HeldTexts.{held-drop}
 use Rattle.html_tokenizer.proofs.Steps.Readings.{Absorbing, marked-both, play-is, play-odd}
-use Rattle.html_tokenizer.specs.Listeners.{Listener, told_item}
+use Rattle.html_tokenizer.specs.Listeners.{Listener, emitted_item}
 
 -- so many more
 abbrev more : ℕ → ℕ → ℕ
@@ -38,18 +38,18 @@ drop-more : (xs u : List ℕ) (m : ℕ) → drop (more (length xs) m) (xs ++ u) 
 drop-more [] u m = refl
 drop-more (x ∷ xs) u m = drop-more xs u m
 
-silent-more : (n m : ℕ) (st : Stand) → silent (more n m) st ≡ behind_all n (silent m st)
+silent-more : (n m : ℕ) (st : Stand) → silent (more n m) st ≡ longer_by n (silent m st)
 silent-more zero m st = refl
-silent-more (suc n) m st = ap behind (silent-more n m st)
+silent-more (suc n) m st = ap longer (silent-more n m st)
 
-quote-more : (n m : ℕ) (st : Stand) (t : List ℕ) → quote_at (more n m) st t ≡ behind_all n (quote_at m st t)
+quote-more : (n m : ℕ) (st : Stand) (t : List ℕ) → quote_at (more n m) st t ≡ longer_by n (quote_at m st t)
 quote-more zero m st t = refl
-quote-more (suc n) m st t = quote_at-more (more n m) st t ∙ ap behind (quote-more n m st t)
+quote-more (suc n) m st t = quote_at-more (more n m) st t ∙ ap longer (quote-more n m st t)
 
 -- an item with something odd in it, after n characters more
-marked-behind_all : (n : ℕ) (odd : Bool) (i : Item) → marked odd (behind_all n i) ≡ behind_all n (marked odd i)
-marked-behind_all zero odd i = refl
-marked-behind_all (suc n) odd i = ap behind (marked-behind_all n odd i)
+marked-longer_by : (n : ℕ) (odd : Bool) (i : Item) → marked odd (longer_by n i) ≡ longer_by n (marked odd i)
+marked-longer_by zero odd i = refl
+marked-longer_by (suc n) odd i = ap longer (marked-longer_by n odd i)
 
 -- what no value ends before: what is held, of which nothing is odd, and "&"
 record GoesOn (odd ends : ℕ → Bool) : Type 0 where
@@ -125,7 +125,7 @@ module _ (rows : List Row) (st : Stand) (tag : Tag) (name front cs u : List ℕ)
   abbrev is_wrong : Bool
   is_wrong = is_some (fault_of_reference rows cs)
 
-  unquoted-held : unquoted_after rows st tag name front (38 ∷ cs ++ u) ≡ marked is_wrong (behind_all (suc (length cs)) (unquoted_after rows st tag name (front ++ told_value) u))
+  unquoted-held : unquoted_after rows st tag name front (38 ∷ cs ++ u) ≡ marked is_wrong (longer_by (suc (length cs)) (unquoted_after rows st tag name (front ++ told_value) u))
   unquoted-held =
       let v = value_from rows is_odd_unquoted ends_word 0 u in
       let next = moved st (InTag (with_attribute tag name ((front ++ told_value) ++ v.chars))) in
@@ -133,9 +133,9 @@ module _ (rows : List Row) (st : Stand) (tag : Tag) (name front cs u : List ℕ)
       ∙ ap (λ value. marked (is_wrong || v.is_odd) (silent (more (suc (length cs)) v.len) (moved st (InTag (with_attribute tag name value))))) (sym (append_assoc front told_value v.chars))
       ∙ marked-both is_wrong v.is_odd (silent (more (suc (length cs)) v.len) next)
       ∙ ap (λ i. marked is_wrong (marked v.is_odd i)) (silent-more (suc (length cs)) v.len next)
-      ∙ ap (marked is_wrong) (marked-behind_all (suc (length cs)) v.is_odd (silent v.len next))
+      ∙ ap (marked is_wrong) (marked-longer_by (suc (length cs)) v.is_odd (silent v.len next))
 
-  quoted-held : (quote : ℕ) → GoesOn is_null (nat_eq quote) → quoted_after rows quote st tag name front (38 ∷ cs ++ u) ≡ marked is_wrong (behind_all (suc (length cs)) (quoted_after rows quote st tag name (front ++ told_value) u))
+  quoted-held : (quote : ℕ) → GoesOn is_null (nat_eq quote) → quoted_after rows quote st tag name front (38 ∷ cs ++ u) ≡ marked is_wrong (longer_by (suc (length cs)) (quoted_after rows quote st tag name (front ++ told_value) u))
   quoted-held quote goes =
       let v = value_from rows is_null (nat_eq quote) 0 u in
       let next = moved st (InTag (with_attribute tag name ((front ++ told_value) ++ v.chars))) in
@@ -144,37 +144,37 @@ module _ (rows : List Row) (st : Stand) (tag : Tag) (name front cs u : List ℕ)
       ∙ ap (λ u. marked (is_wrong || v.is_odd) (quote_at (more (suc (length cs)) v.len) next u)) (drop-more (38 ∷ cs) u v.len)
       ∙ marked-both is_wrong v.is_odd (quote_at (more (suc (length cs)) v.len) next (drop v.len u))
       ∙ ap (λ i. marked is_wrong (marked v.is_odd i)) (quote-more (suc (length cs)) v.len next (drop v.len u))
-      ∙ ap (marked is_wrong) (marked-behind_all (suc (length cs)) v.is_odd (quote_at v.len next (drop v.len u)))
+      ∙ ap (marked is_wrong) (marked-longer_by (suc (length cs)) v.is_odd (quote_at v.len next (drop v.len u)))
 
 module _ {T : Type 0} (to : Listener T) (rows : List Row) where
   -- an item after characters that were held
-  play-behind_all : (j : Item) (b : ℕ) (s : T) (xs t : List ℕ) → list_all is_held xs ≡ true → told_item to rows (behind_all (length xs) j) b s (xs ++ t) ≡ told_item to rows j b s t
-  play-behind_all j b s [] t h = refl
-  play-behind_all j b s (x ∷ xs) t h =
+  play-longer_by : (j : Item) (b : ℕ) (s : T) (xs t : List ℕ) → list_all is_held xs ≡ true → emitted_item to rows (longer_by (length xs) j) b s (xs ++ t) ≡ emitted_item to rows j b s t
+  play-longer_by j b s [] t h = refl
+  play-longer_by j b s (x ∷ xs) t h =
       let p = and_parts (is_held x) (list_all is_held xs) h in
-      play-is to rows (behind_all (length (x ∷ xs)) j) (behind_all (length xs) j) b s x (xs ++ t) refl
-      ∙ ap (λ n. told_item to rows (behind_all (length xs) j) n s (xs ++ t)) (no-break b x (held-unbroken x p.0))
-      ∙ play-behind_all j b s xs t p.1
+      play-is to rows (longer_by (length (x ∷ xs)) j) (longer_by (length xs) j) b s x (xs ++ t) refl
+      ∙ ap (λ n. emitted_item to rows (longer_by (length xs) j) n s (xs ++ t)) (no-break b x (held-unbroken x p.0))
+      ∙ play-longer_by j b s xs t p.1
 
   module _ (absorbs : Absorbing to.erred) where
     -- an item after what was held, with which something may be wrong
-    play-held : (wrong : Bool) (i j : Item) (b : ℕ) (s : T) (cs t : List ℕ) → list_all is_held cs ≡ true → i ≡ marked wrong (behind_all (suc (length cs)) j) → told_item to rows i b s (38 ∷ cs ++ t) ≡ told_item to rows j b (erred_by to.erred (slight_if wrong) s) t
+    play-held : (wrong : Bool) (i j : Item) (b : ℕ) (s : T) (cs t : List ℕ) → list_all is_held cs ≡ true → i ≡ marked wrong (longer_by (suc (length cs)) j) → emitted_item to rows i b s (38 ∷ cs ++ t) ≡ emitted_item to rows j b (erred_by to.erred (slight_if wrong) s) t
     play-held wrong i j b s cs t h e =
         let q = erred_by to.erred (slight_if wrong) s in
-        play-odd to rows absorbs wrong i (behind_all (length cs) j) b s 38 (cs ++ t) e
-        ∙ ap (λ n. told_item to rows (behind_all (length cs) j) n q (cs ++ t)) (no-break b 38 refl)
-        ∙ play-behind_all j b q cs t h
+        play-odd to rows absorbs wrong i (longer_by (length cs) j) b s 38 (cs ++ t) e
+        ∙ ap (λ n. emitted_item to rows (longer_by (length cs) j) n q (cs ++ t)) (no-break b 38 refl)
+        ∙ play-longer_by j b q cs t h
 
     module _ (st : Stand) (tag : Tag) (name front cs u : List ℕ) (follows : Bool) (b : ℕ) (s : T) (held : list_all is_held cs ≡ true) (e : reference_at true rows (cs ++ u) ≡ decided true rows cs follows) (f : fault_of_reference rows (cs ++ u) ≡ fault_of_reference rows cs) where
       -- what is noted of what was held
       abbrev wronged_by : T
       wronged_by = erred_by to.erred (slight_if (is_some (fault_of_reference rows cs))) s
 
-      pub play-unquoted : told_item to rows (unquoted_after rows st tag name front (38 ∷ cs ++ u)) b s (38 ∷ cs ++ u) ≡ told_item to rows (unquoted_after rows st tag name (front ++ resolved true rows cs follows) u) b wronged_by u
+      pub play-unquoted : emitted_item to rows (unquoted_after rows st tag name front (38 ∷ cs ++ u)) b s (38 ∷ cs ++ u) ≡ emitted_item to rows (unquoted_after rows st tag name (front ++ resolved true rows cs follows) u) b wronged_by u
       play-unquoted = play-held _ _ _ b s cs u held (unquoted-held rows st tag name front cs u follows held e f)
 
-      pub play-double : told_item to rows (quoted_after rows 34 st tag name front (38 ∷ cs ++ u)) b s (38 ∷ cs ++ u) ≡ told_item to rows (quoted_after rows 34 st tag name (front ++ resolved true rows cs follows) u) b wronged_by u
+      pub play-double : emitted_item to rows (quoted_after rows 34 st tag name front (38 ∷ cs ++ u)) b s (38 ∷ cs ++ u) ≡ emitted_item to rows (quoted_after rows 34 st tag name (front ++ resolved true rows cs follows) u) b wronged_by u
       play-double = play-held _ _ _ b s cs u held (quoted-held rows st tag name front cs u follows held e f 34 double-goes_on)
 
-      pub play-single : told_item to rows (quoted_after rows 39 st tag name front (38 ∷ cs ++ u)) b s (38 ∷ cs ++ u) ≡ told_item to rows (quoted_after rows 39 st tag name (front ++ resolved true rows cs follows) u) b wronged_by u
+      pub play-single : emitted_item to rows (quoted_after rows 39 st tag name front (38 ∷ cs ++ u)) b s (38 ∷ cs ++ u) ≡ emitted_item to rows (quoted_after rows 39 st tag name (front ++ resolved true rows cs follows) u) b wronged_by u
       play-single = play-held _ _ _ b s cs u held (quoted-held rows st tag name front cs u follows held e f 39 single-goes_on)

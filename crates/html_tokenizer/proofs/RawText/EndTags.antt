@@ -15,7 +15,7 @@ use Rattle.html_tokens.specs.declared.token.Token.TheVariants.{CharacterTokens}
 use Rattle.html_tokens.specs.declared.sink.TokenSink.{Ghosts}
 use Rattle.html_tokens.specs.Notes.{Notes, noting}
 use Rattle.html_tokens.specs.Item.{InRaw}
-use Rattle.html_tokens.specs.RawText.{is_fitting_end, ends_at_tag, kind_behind}
+use Rattle.html_tokens.specs.RawText.{is_fitting_end, ends_at_tag, next_kind}
 use Rattle.html_tokens.specs.Reading.{◌>>=◌, line_number, line_break}
 use Rattle.html_tokens.specs.Sink.{SinkLaws}
 use Rattle.html_tokenizer.specs.declared.tokenizer.Tokenizer.{Tokenizer}
@@ -37,8 +37,8 @@ module _ {K H : Type 0} (Sink : Ghosts K H) (laws : SinkLaws Sink.is_sound Sink.
   pub two-says : (old : Tokenizer K) (kind : RawKind) (b : ℕ) (s : Sink.State × Notes ℕ) → Sink.is_sound s.0 → (c : ℕ) (t : List ℕ) → nat_eq c 60 ≡ false → nat_eq c 38 ≡ false → nat_eq c 0 ≡ false → nat_eq c 10 ≡ false → (ends_at_tag kind && is_fitting_end old.raw_end.name (c ∷ t)) ≡ false
       → raw_text Sink old kind b s (60 ∷ c ∷ t) ≡ (noting Sink.step Sink.is_quiet s (CharacterTokens (60 ∷ c ∷ [])) (line_number b) >>= λ p. raw_text Sink old (kind_after kind (60 ∷ c ∷ []) t) b p.0 t)
   two-says old kind b s h c t e f z n fits =
-      let mid = kind_behind kind 60 (c ∷ t) in
-      reading-two (λ p. Sink.is_sound p.0) (listening Sink) (rows_of old) (noting-lawful Sink.is_sound Sink.step Sink.ended Sink.is_quiet laws) (standing old (InRaw kind)) (standing old (InRaw mid)) (standing old (InRaw (kind_behind mid c t))) b s h 60 c t (line_number b) refl n
+      let mid = next_kind kind 60 (c ∷ t) in
+      reading-two (λ p. Sink.is_sound p.0) (listening Sink) (rows_of old) (noting-lawful Sink.is_sound Sink.step Sink.ended Sink.is_quiet laws) (standing old (InRaw kind)) (standing old (InRaw mid)) (standing old (InRaw (next_kind mid c t))) b s h 60 c t (line_number b) refl n
       (λ x. open-item old kind x (c ∷ t) fits) (λ x. plain-item old mid x c t e f z)
 
   pub fits-none : (k : Tokenizer K) (kind : RawKind) (t : List ℕ) → is_fitting_end k.raw_end.name t ≡ false → (ends_at_tag kind && is_fitting_end k.raw_end.name t) ≡ false
@@ -55,7 +55,7 @@ module _ {K H : Type 0} (Sink : Ghosts K H) (laws : SinkLaws Sink.is_sound Sink.
   unfolding held_at
   less-says old kind c e p f b s h t =
       held-open Sink old kind b s (c ∷ t) e
-      ∙ reading-text (λ p. Sink.is_sound p.0) (listening Sink) (rows_of old) (noting-lawful Sink.is_sound Sink.step Sink.ended Sink.is_quiet laws) (standing old (InRaw kind)) (standing old (InRaw (kind_behind kind 60 (c ∷ t)))) b s h 60 (c ∷ t) (line_number b) refl (open-item old kind (Sink.asks_cdata s.0) (c ∷ t) (fits-none old kind (c ∷ t) (fitting-slash old.raw_end.name c t f)))
+      ∙ reading-text (λ p. Sink.is_sound p.0) (listening Sink) (rows_of old) (noting-lawful Sink.is_sound Sink.step Sink.ended Sink.is_quiet laws) (standing old (InRaw kind)) (standing old (InRaw (next_kind kind 60 (c ∷ t)))) b s h 60 (c ∷ t) (line_number b) refl (open-item old kind (Sink.asks_cdata s.0) (c ∷ t) (fits-none old kind (c ∷ t) (fitting-slash old.raw_end.name c t f)))
       ∙ ap (λ k. noting Sink.step Sink.is_quiet s (CharacterTokens (60 ∷ [])) (line_number b) >>= λ p. raw_text Sink old k b p.0 (c ∷ t)) (kind-open kind c t p)
 
   pub less-kept : (old mid new : Tokenizer K) (kind : RawKind) (c : ℕ) (result : Result (ProcessResult H) ParseFault) → IsAt old (state.RawLessThanSign kind) → Sink.is_sound (Sink.view old.sink) → ends_at_tag kind ≡ true → may_escape kind c ≡ false → (c ≡ 47 → ⊥)
@@ -118,7 +118,7 @@ module _ {K H : Type 0} (Sink : Ghosts K H) (laws : SinkLaws Sink.is_sound Sink.
   unfolding held_at
   no_name-says old kind c f l b s h t =
       two-says old kind b s h 47 (c ∷ t) refl refl refl refl (fits-none old kind (47 ∷ c ∷ t) (f t))
-      ∙ ap (λ k. noting Sink.step Sink.is_quiet s (CharacterTokens (60 ∷ 47 ∷ [])) (line_number b) >>= λ p. raw_text Sink old (kind_behind k 47 (c ∷ t)) b p.0 (c ∷ t)) (kind-slash kind c t l)
+      ∙ ap (λ k. noting Sink.step Sink.is_quiet s (CharacterTokens (60 ∷ 47 ∷ [])) (line_number b) >>= λ p. raw_text Sink old (next_kind k 47 (c ∷ t)) b p.0 (c ∷ t)) (kind-slash kind c t l)
       ∙ ap (λ k. noting Sink.step Sink.is_quiet s (CharacterTokens (60 ∷ 47 ∷ [])) (line_number b) >>= λ p. raw_text Sink old k b p.0 (c ∷ t)) (kind-same kind 47 (c ∷ t) refl refl)
 
   pub no_name-kept : (old mid new : Tokenizer K) (kind : RawKind) (c : ℕ) (result : Result (ProcessResult H) ParseFault) → IsAt old (state.RawEndTagOpen kind) → Sink.is_sound (Sink.view old.sink) → ((t : List ℕ) → is_fitting_end old.raw_end.name (47 ∷ c ∷ t) ≡ false) → (is_ascii_alphabetic c ≡ false) ⊎ (ends_at_tag kind ≡ true)

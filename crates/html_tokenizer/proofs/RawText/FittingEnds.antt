@@ -13,7 +13,7 @@ use Rattle.html_tokens.specs.declared.tags.TagKind.TheVariants.{EndTag}
 use Rattle.html_tokens.specs.declared.sink.TokenSink.{Ghosts}
 use Rattle.html_tokens.specs.Characters.{lowered}
 use Rattle.html_tokens.specs.Notes.{Notes}
-use Rattle.html_tokens.specs.Item.{slight_if, InRaw, Stand, behind}
+use Rattle.html_tokens.specs.Item.{slight_if, InRaw, Stand, longer}
 use Rattle.html_tokens.specs.RawText.{is_fitting_end, ends_at_tag}
 use Rattle.html_tokens.specs.Reading.{erred_by, line_break}
 use Rattle.html_tokens.specs.Table.{Row}
@@ -28,7 +28,7 @@ use Rattle.html_tokenizer_parts.proofs.RawKinds.{letter-no_break, letter-no_null
 use Rattle.html_tokenizer.proofs.Steps.Readings.{Absorbing, sum-zero, reading-is, play-is}
 use Rattle.html_tokenizer.proofs.Steps.Lawful.{slight-absorbed}
 use Rattle.html_tokenizer.proofs.Tags.Readings.{name-more}
-use Rattle.html_tokenizer.specs.Listeners.{Listener, listening, told_text, told_item}
+use Rattle.html_tokenizer.specs.Listeners.{Listener, listening, emitted_text, emitted_item}
 
 letter-lowered : (c : ℕ) → is_ascii_alphabetic c ≡ true → lowered c ≡ to_ascii_lowercase c
 letter-lowered c h =
@@ -41,27 +41,27 @@ no_letter last word c fits = end-no_letter c (and_parts (is_fitting last word) _
 module _ {T : Type 0} (to : Listener T) (rows : List Row) where
   -- the letters of a tag's name
   name-letters : (absorbs : Absorbing to.erred) (st : Stand) (tag : Tag) (word : List ℕ) (b : ℕ) (s : T) (t : List ℕ) → list_all is_ascii_alphabetic word ≡ true
-      → told_item to rows (name_after st tag (word ++ t)) b s (word ++ t) ≡ told_item to rows (name_after st (record tag { name = tag.name ++ map to_ascii_lowercase word }) t) b s t
-  name-letters absorbs st tag [] b s t w = ap (λ n. told_item to rows (name_after st (record tag { name = n }) t) b s t) (sym (append-nil tag.name))
+      → emitted_item to rows (name_after st tag (word ++ t)) b s (word ++ t) ≡ emitted_item to rows (name_after st (record tag { name = tag.name ++ map to_ascii_lowercase word }) t) b s t
+  name-letters absorbs st tag [] b s t w = ap (λ n. emitted_item to rows (name_after st (record tag { name = n }) t) b s t) (sym (append-nil tag.name))
   name-letters absorbs st tag (c ∷ word) b s t w =
       let p = and_parts _ _ w in
       let more = record tag { name = tag.name ++ lowered c ∷ [] } in
       name-more to rows absorbs st tag b s c (word ++ t) (letter-no_end c p.0)
-      ∙ ap (λ odd. told_item to rows (name_after st more (word ++ t)) (b + line_break (nat_eq c 10)) (erred_by to.erred (slight_if odd) s) (word ++ t)) (letter-no_null c p.0)
-      ∙ ap (λ n. told_item to rows (name_after st more (word ++ t)) n s (word ++ t)) (no-break b c (letter-no_break c p.0))
+      ∙ ap (λ odd. emitted_item to rows (name_after st more (word ++ t)) (b + line_break (nat_eq c 10)) (erred_by to.erred (slight_if odd) s) (word ++ t)) (letter-no_null c p.0)
+      ∙ ap (λ n. emitted_item to rows (name_after st more (word ++ t)) n s (word ++ t)) (no-break b c (letter-no_break c p.0))
       ∙ name-letters absorbs st more word b s t p.1
-      ∙ ap (λ n. told_item to rows (name_after st (record tag { name = n }) t) b s t) (append_assoc tag.name (lowered c ∷ []) (map to_ascii_lowercase word))
-      ∙ ap (λ d. told_item to rows (name_after st (record tag { name = tag.name ++ d ∷ map to_ascii_lowercase word }) t) b s t) (letter-lowered c p.0)
+      ∙ ap (λ n. emitted_item to rows (name_after st (record tag { name = n }) t) b s t) (append_assoc tag.name (lowered c ∷ []) (map to_ascii_lowercase word))
+      ∙ ap (λ d. emitted_item to rows (name_after st (record tag { name = tag.name ++ d ∷ map to_ascii_lowercase word }) t) b s t) (letter-lowered c p.0)
 
   -- "</" and the name of an end tag
   end_tag-read : (absorbs : Absorbing to.erred) (st : Stand) (kind : RawKind) (word : List ℕ) (b : ℕ) (s : T) (t : List ℕ) → list_all is_ascii_alphabetic word ≡ true → st.place ≡ InRaw kind → ends_at_tag kind ≡ true → is_fitting_end st.last_start_tag (47 ∷ (word ++ t)) ≡ true
-      → told_text to rows st b s (60 ∷ 47 ∷ (word ++ t)) ≡ told_item to rows (name_after st (named EndTag (map to_ascii_lowercase word)) t) b s t
+      → emitted_text to rows st b s (60 ∷ 47 ∷ (word ++ t)) ≡ emitted_item to rows (name_after st (named EndTag (map to_ascii_lowercase word)) t) b s t
   end_tag-read absorbs st kind word b s t w place e fits =
       let name = name_after st (named EndTag []) (word ++ t) in
-      reading-is to rows st b s 60 (47 ∷ (word ++ t)) (behind name) (rw (place, e, fits) refl)
-      ∙ ap (λ n. told_item to rows (behind name) n s (47 ∷ (word ++ t))) (sum-zero b)
-      ∙ play-is to rows (behind name) name b s 47 (word ++ t) refl
-      ∙ ap (λ n. told_item to rows name n s (word ++ t)) (sum-zero b)
+      reading-is to rows st b s 60 (47 ∷ (word ++ t)) (longer name) (rw (place, e, fits) refl)
+      ∙ ap (λ n. emitted_item to rows (longer name) n s (47 ∷ (word ++ t))) (sum-zero b)
+      ∙ play-is to rows (longer name) name b s 47 (word ++ t) refl
+      ∙ ap (λ n. emitted_item to rows name n s (word ++ t)) (sum-zero b)
       ∙ name-letters absorbs st (named EndTag []) word b s t w
 
 module _ {K H : Type 0} (Sink : Ghosts K H) where

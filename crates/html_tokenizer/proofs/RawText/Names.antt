@@ -16,7 +16,7 @@ use Rattle.html_tokens.specs.declared.sink.TokenSink.{Ghosts}
 use Rattle.html_tokens.specs.Notes.{Notes, noting}
 use Rattle.html_tokens.specs.Item.{InRaw, character}
 use Rattle.html_tokens.specs.Items.{item}
-use Rattle.html_tokens.specs.RawText.{is_fitting_end, ends_at_tag, kind_behind}
+use Rattle.html_tokens.specs.RawText.{is_fitting_end, ends_at_tag, next_kind}
 use Rattle.html_tokens.specs.Reading.{◌>>=◌, line_number, line_break}
 use Rattle.html_tokens.specs.Sink.{SinkLaws}
 use Rattle.html_tokenizer.specs.declared.tokenizer.Tokenizer.{Tokenizer}
@@ -52,10 +52,10 @@ module _ {K H : Type 0} (Sink : Ghosts K H) (laws : SinkLaws Sink.is_sound Sink.
 
   -- "</" and letters, which are text
   pub end_tag-run : (old : Tokenizer K) (kind : RawKind) (word : List ℕ) (b : ℕ) (s : Sink.State × Notes ℕ) → Sink.is_sound s.0 → (t : List ℕ) → list_all is_ascii_alphabetic word ≡ true → (ends_at_tag kind && is_fitting_end old.raw_end.name (47 ∷ (word ++ t))) ≡ false
-      → raw_text Sink old kind b s (60 ∷ 47 ∷ (word ++ t)) ≡ (noting Sink.step Sink.is_quiet s (CharacterTokens (60 ∷ 47 ∷ word)) (line_number b) >>= λ p. raw_text Sink old (kind_behind (kind_behind kind 60 (47 ∷ (word ++ t))) 47 (word ++ t)) b p.0 t)
+      → raw_text Sink old kind b s (60 ∷ 47 ∷ (word ++ t)) ≡ (noting Sink.step Sink.is_quiet s (CharacterTokens (60 ∷ 47 ∷ word)) (line_number b) >>= λ p. raw_text Sink old (next_kind (next_kind kind 60 (47 ∷ (word ++ t))) 47 (word ++ t)) b p.0 t)
   end_tag-run old kind word b s h t w fits =
       two-says Sink laws old kind b s h 47 (word ++ t) refl refl refl refl fits
-      ∙ run-letters old (kind_behind (kind_behind kind 60 (47 ∷ (word ++ t))) 47 (word ++ t)) (60 ∷ 47 ∷ []) word b s h t (line_number b) w
+      ∙ run-letters old (next_kind (next_kind kind 60 (47 ∷ (word ++ t))) 47 (word ++ t)) (60 ∷ 47 ∷ []) word b s h t (line_number b) w
 
   -- a letter of the name
   pub letter-taken : (old : Tokenizer K) (kind : RawKind) (held : FittingEnd) (c : ℕ) → IsAt old (state.RawEndTagName kind) → Sink.is_sound (Sink.view old.sink) → is_ascii_alphabetic c ≡ true → held ≡ record old.raw_end { letters = old.raw_end.letters ++ c ∷ [] } → Took Sink old (record old { raw_end = held }) c flow.Continue
@@ -70,7 +70,7 @@ module _ {K H : Type 0} (Sink : Ghosts K H) (laws : SinkLaws Sink.is_sound Sink.
   unfolding held_at
   unfit-says old kind c w f e b s h t =
       end_tag-run old kind old.raw_end.letters b s h (c ∷ t) w (fits-none Sink laws old kind (47 ∷ (old.raw_end.letters ++ c ∷ t)) (f t))
-      ∙ ap (λ k. noting Sink.step Sink.is_quiet s (CharacterTokens (60 ∷ 47 ∷ old.raw_end.letters)) (line_number b) >>= λ p. raw_text Sink old (kind_behind k 47 (old.raw_end.letters ++ c ∷ t)) b p.0 (c ∷ t)) (kind-open_slash kind (old.raw_end.letters ++ c ∷ t) e)
+      ∙ ap (λ k. noting Sink.step Sink.is_quiet s (CharacterTokens (60 ∷ 47 ∷ old.raw_end.letters)) (line_number b) >>= λ p. raw_text Sink old (next_kind k 47 (old.raw_end.letters ++ c ∷ t)) b p.0 (c ∷ t)) (kind-open_slash kind (old.raw_end.letters ++ c ∷ t) e)
       ∙ ap (λ k. noting Sink.step Sink.is_quiet s (CharacterTokens (60 ∷ 47 ∷ old.raw_end.letters)) (line_number b) >>= λ p. raw_text Sink old k b p.0 (c ∷ t)) (kind-same kind 47 (old.raw_end.letters ++ c ∷ t) refl refl)
 
   pub unfit-kept : (old mid new : Tokenizer K) (kind : RawKind) (c : ℕ) (result : Result (ProcessResult H) ParseFault) → IsAt old (state.RawEndTagName kind) → Sink.is_sound (Sink.view old.sink) → list_all is_ascii_alphabetic old.raw_end.letters ≡ true → (ends_raw_text old.raw_end.name old.raw_end.letters c ≡ false → (t : List ℕ) → is_fitting_end old.raw_end.name (47 ∷ (old.raw_end.letters ++ c ∷ t)) ≡ false) → ends_at_tag kind ≡ true → ends_raw_text old.raw_end.name old.raw_end.letters c ≡ false
@@ -86,9 +86,9 @@ module _ {K H : Type 0} (Sink : Ghosts K H) (laws : SinkLaws Sink.is_sound Sink.
       → raw_text Sink old (raw.ScriptDataEscaped script.DoubleEscaped) b s (60 ∷ 47 ∷ (letters ++ c ∷ t)) ≡ (noting Sink.step Sink.is_quiet s (CharacterTokens (60 ∷ 47 ∷ letters)) (line_number b) >>= λ p. raw_text Sink old (kind_after (raw.ScriptDataEscaped script.DoubleEscaped) (60 ∷ 47 ∷ letters) (c ∷ t)) b p.0 (c ∷ t))
   deep-run old letters c b s h t w =
       let kind = raw.ScriptDataEscaped script.DoubleEscaped in
-      let behind_slash = kind_behind (kind_behind kind 60 (47 ∷ (letters ++ c ∷ t))) 47 (letters ++ c ∷ t) in
+      let after_slash = next_kind (next_kind kind 60 (47 ∷ (letters ++ c ∷ t))) 47 (letters ++ c ∷ t) in
       end_tag-run old kind letters b s h (c ∷ t) w refl
-      ∙ ap (λ k. noting Sink.step Sink.is_quiet s (CharacterTokens (60 ∷ 47 ∷ letters)) (line_number b) >>= λ p. raw_text Sink old k b p.0 (c ∷ t)) (sym (kind_after-letters behind_slash letters (c ∷ t) w))
+      ∙ ap (λ k. noting Sink.step Sink.is_quiet s (CharacterTokens (60 ∷ 47 ∷ letters)) (line_number b) >>= λ p. raw_text Sink old k b p.0 (c ∷ t)) (sym (kind_after-letters after_slash letters (c ∷ t) w))
 
   -- after "</"
   deep_open-says : (old : Tokenizer K) (word : List ℕ) (c : ℕ) → word ≡ []

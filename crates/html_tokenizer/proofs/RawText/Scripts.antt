@@ -14,7 +14,7 @@ use Rattle.html_tokens.specs.declared.states.State.TheVariants as state
 use Rattle.html_tokens.specs.declared.token.Token.TheVariants.{CharacterTokens}
 use Rattle.html_tokens.specs.declared.sink.TokenSink.{Ghosts}
 use Rattle.html_tokens.specs.Notes.{Notes, noting}
-use Rattle.html_tokens.specs.RawText.{kind_behind}
+use Rattle.html_tokens.specs.RawText.{next_kind}
 use Rattle.html_tokens.specs.Reading.{◌>>=◌, line_number, line_break}
 use Rattle.html_tokens.specs.Sink.{SinkLaws}
 use Rattle.html_tokenizer.specs.declared.tokenizer.Tokenizer.{Tokenizer}
@@ -28,7 +28,7 @@ use Rattle.html_tokenizer.proofs.RawText.States.{raw_text, raw-char}
 
 module _ {K H : Type 0} (Sink : Ghosts K H) (laws : SinkLaws Sink.is_sound Sink.step Sink.ended Sink.is_quiet) where
   -- a character is told, and the text has this kind after it
-  pub char-says : (old : Tokenizer K) (kind next : RawKind) (b : ℕ) (s : Sink.State × Notes ℕ) → Sink.is_sound s.0 → (c : ℕ) (t : List ℕ) → nat_eq c 60 ≡ false → nat_eq c 38 ≡ false → nat_eq c 0 ≡ false → kind_behind kind c t ≡ next
+  pub char-says : (old : Tokenizer K) (kind next : RawKind) (b : ℕ) (s : Sink.State × Notes ℕ) → Sink.is_sound s.0 → (c : ℕ) (t : List ℕ) → nat_eq c 60 ≡ false → nat_eq c 38 ≡ false → nat_eq c 0 ≡ false → next_kind kind c t ≡ next
       → raw_text Sink old kind b s (c ∷ t) ≡ (noting Sink.step Sink.is_quiet s (CharacterTokens (c ∷ [])) (line_number b) >>= λ p. raw_text Sink old next (b + line_break (nat_eq c 10)) p.0 t)
   char-says old kind next b s h c t e f z k =
       raw-char Sink laws old kind b s h c t e f z
@@ -76,7 +76,7 @@ module _ {K H : Type 0} (Sink : Ghosts K H) (laws : SinkLaws Sink.is_sound Sink.
   pub escaped-dash_told : (old new : Tokenizer K) (kind : ScriptEscapeKind) (c : ℕ) (result : Result (ProcessResult H) ParseFault) → IsAt old (state.ScriptDataEscapedDash kind) → Sink.is_sound (Sink.view old.sink) → c ≡ 45 → TakesAs Sink nothing_owed (CharacterTokens (45 ∷ [])) (record old { state = state.ScriptDataEscapedDashDash kind }) new result → Keeps Sink old new c result
   escaped-dash_told old new kind c result from ok e told = rw e (keeps_taken Sink nothing_owed old (record old { state = state.ScriptDataEscapedDashDash kind }) new 45 (state.ScriptDataEscapedDash kind) (state.ScriptDataEscapedDashDash kind) (CharacterTokens (45 ∷ [])) result from (record { state = refl; fresh = from.fresh }) refl refl ok told (escaped-dash old kind))
 
-  escaped-kind : (kind : ScriptEscapeKind) (c : ℕ) (t : List ℕ) → nat_eq 45 c ≡ false → kind_behind (raw.ScriptDataEscaped kind) 45 (c ∷ t) ≡ raw.ScriptDataEscaped kind
+  escaped-kind : (kind : ScriptEscapeKind) (c : ℕ) (t : List ℕ) → nat_eq 45 c ≡ false → next_kind (raw.ScriptDataEscaped kind) 45 (c ∷ t) ≡ raw.ScriptDataEscaped kind
   escaped-kind script.Escaped c t e = rw e refl
   escaped-kind script.DoubleEscaped c t e = rw e refl
 
@@ -99,7 +99,7 @@ module _ {K H : Type 0} (Sink : Ghosts K H) (laws : SinkLaws Sink.is_sound Sink.
   pub dashes-dash_told : (old new : Tokenizer K) (kind : ScriptEscapeKind) (c : ℕ) (result : Result (ProcessResult H) ParseFault) → IsAt old (state.ScriptDataEscapedDashDash kind) → Sink.is_sound (Sink.view old.sink) → c ≡ 45 → TakesAs Sink nothing_owed (CharacterTokens (45 ∷ [])) old new result → Keeps Sink old new c result
   dashes-dash_told old new kind c result from ok e told = rw e (keeps_taken Sink nothing_owed old old new 45 (state.ScriptDataEscapedDashDash kind) (state.ScriptDataEscapedDashDash kind) (CharacterTokens (45 ∷ [])) result from from refl refl ok told (dashes-dash old kind))
 
-  closed-kind : (kind : ScriptEscapeKind) (t : List ℕ) → kind_behind (kind_after (raw.ScriptDataEscaped kind) (45 ∷ 45 ∷ []) (62 ∷ t)) 62 t ≡ raw.ScriptData
+  closed-kind : (kind : ScriptEscapeKind) (t : List ℕ) → next_kind (kind_after (raw.ScriptDataEscaped kind) (45 ∷ 45 ∷ []) (62 ∷ t)) 62 t ≡ raw.ScriptData
   closed-kind script.Escaped t = refl
   closed-kind script.DoubleEscaped t = refl
 

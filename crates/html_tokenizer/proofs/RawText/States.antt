@@ -16,7 +16,7 @@ use Rattle.html_tokens.specs.Characters.{shown}
 use Rattle.html_tokens.specs.Notes.{Notes, noting}
 use Rattle.html_tokens.specs.Item.{grave_if, InRaw, character, shown_character}
 use Rattle.html_tokens.specs.Items.{item}
-use Rattle.html_tokens.specs.RawText.{is_fitting_end, ends_at_tag, has_references, kind_behind}
+use Rattle.html_tokens.specs.RawText.{is_fitting_end, ends_at_tag, has_references, next_kind}
 use Rattle.html_tokens.specs.Reading.{◌>>=◌, line_number, line_break}
 use Rattle.html_tokens.specs.Sink.{Refusal, SinkLaws}
 use Rattle.html_tokenizer_parts.specs.CharRefs.{may_hold}
@@ -34,11 +34,11 @@ use Rattle.html_tokenizer.specs.Listeners.{listening}
 
 -- a character of raw text that begins no end tag and no reference
 pub raw-item : {K : Type 0} (k : Tokenizer K) (kind : RawKind) (x : Bool) (c : ℕ) (t : List ℕ) → (nat_eq c 60 && ends_at_tag kind && is_fitting_end k.raw_end.name t) ≡ false → (nat_eq c 38 && has_references kind) ≡ false
-    → item (rows_of k) x (standing k (InRaw kind)) c t ≡ shown_character c (standing k (InRaw (kind_behind kind c t)))
+    → item (rows_of k) x (standing k (InRaw kind)) c t ≡ shown_character c (standing k (InRaw (next_kind kind c t)))
 raw-item k kind x c t e f = rw (e, f) refl
 
 pub plain-item : {K : Type 0} (k : Tokenizer K) (kind : RawKind) (x : Bool) (c : ℕ) (t : List ℕ) → nat_eq c 60 ≡ false → nat_eq c 38 ≡ false → nat_eq c 0 ≡ false
-    → item (rows_of k) x (standing k (InRaw kind)) c t ≡ character c (standing k (InRaw (kind_behind kind c t)))
+    → item (rows_of k) x (standing k (InRaw kind)) c t ≡ character c (standing k (InRaw (next_kind kind c t)))
 plain-item k kind x c t e f z = rw (e, f, z) refl
 
 unescaped : (kind : RawKind) → (kind ≡ raw.Rcdata) ⊎ ((kind ≡ raw.Rawtext) ⊎ (kind ≡ raw.ScriptData)) → (escape : ScriptEscapeKind) → kind ≡ raw.ScriptDataEscaped escape → ⊥
@@ -48,7 +48,7 @@ unescaped kind (inr (inr e)) _ h = cc
 
 -- "<" that is text
 pub open-item : {K : Type 0} (k : Tokenizer K) (kind : RawKind) (x : Bool) (t : List ℕ) → (ends_at_tag kind && is_fitting_end k.raw_end.name t) ≡ false
-    → item (rows_of k) x (standing k (InRaw kind)) 60 t ≡ character 60 (standing k (InRaw (kind_behind kind 60 t)))
+    → item (rows_of k) x (standing k (InRaw kind)) 60 t ≡ character 60 (standing k (InRaw (next_kind kind 60 t)))
 open-item k kind x t e = rw e refl
 
 -- text with references may hold one
@@ -75,8 +75,8 @@ module _ {K H : Type 0} (Sink : Ghosts K H) where
 module _ {K H : Type 0} (Sink : Ghosts K H) (laws : SinkLaws Sink.is_sound Sink.step Sink.ended Sink.is_quiet) where
   -- a character that is told, by the kind that the text has there
   pub raw-char : (old : Tokenizer K) (kind : RawKind) (b : ℕ) (s : Sink.State × Notes ℕ) → Sink.is_sound s.0 → (c : ℕ) (t : List ℕ) → nat_eq c 60 ≡ false → nat_eq c 38 ≡ false → nat_eq c 0 ≡ false
-      → raw_text Sink old kind b s (c ∷ t) ≡ (noting Sink.step Sink.is_quiet s (CharacterTokens (c ∷ [])) (line_number b) >>= λ p. raw_text Sink old (kind_behind kind c t) (b + line_break (nat_eq c 10)) p.0 t)
-  raw-char old kind b s h c t e f z = reading-char (λ p. Sink.is_sound p.0) (listening Sink) (rows_of old) (noting-lawful Sink.is_sound Sink.step Sink.ended Sink.is_quiet laws) (standing old (InRaw kind)) (standing old (InRaw (kind_behind kind c t))) b s h c c t (line_number b) (plain-item old kind (Sink.asks_cdata s.0) c t e f z)
+      → raw_text Sink old kind b s (c ∷ t) ≡ (noting Sink.step Sink.is_quiet s (CharacterTokens (c ∷ [])) (line_number b) >>= λ p. raw_text Sink old (next_kind kind c t) (b + line_break (nat_eq c 10)) p.0 t)
+  raw-char old kind b s h c t e f z = reading-char (λ p. Sink.is_sound p.0) (listening Sink) (rows_of old) (noting-lawful Sink.is_sound Sink.step Sink.ended Sink.is_quiet laws) (standing old (InRaw kind)) (standing old (InRaw (next_kind kind c t))) b s h c c t (line_number b) (plain-item old kind (Sink.asks_cdata s.0) c t e f z)
 
   pub shown-says : (old : Tokenizer K) (kind : RawKind) (c : ℕ) → nat_eq c 60 ≡ false → nat_eq c 38 ≡ false → nat_eq c 45 ≡ false → Says Sink (state.RawData kind) old c (owed_for (grave_if (nat_eq c 0))) (CharacterTokens (shown c ∷ [])) (λ b s t. at Sink (state.RawData kind) old (b + line_break (nat_eq c 10)) s t)
   unfolding held_at
@@ -99,7 +99,7 @@ module _ {K H : Type 0} (Sink : Ghosts K H) (laws : SinkLaws Sink.is_sound Sink.
   unfolding held_at
   open-says old b s h t =
       let kind = raw.ScriptDataEscaped script.DoubleEscaped in
-      reading-char (λ p. Sink.is_sound p.0) (listening Sink) (rows_of old) (noting-lawful Sink.is_sound Sink.step Sink.ended Sink.is_quiet laws) (standing old (InRaw kind)) (standing old (InRaw (kind_behind kind 60 t))) b s h 60 60 t (line_number b) refl
+      reading-char (λ p. Sink.is_sound p.0) (listening Sink) (rows_of old) (noting-lawful Sink.is_sound Sink.step Sink.ended Sink.is_quiet laws) (standing old (InRaw kind)) (standing old (InRaw (next_kind kind 60 t))) b s h 60 60 t (line_number b) refl
 
   pub raw-open_told : (old new : Tokenizer K) (kind : RawKind) (result : Result (ProcessResult H) ParseFault) → IsAt old (state.RawData kind) → Sink.is_sound (Sink.view old.sink) → ends_at_tag kind ≡ false → TakesAs Sink nothing_owed (CharacterTokens (60 ∷ [])) (record old { state = state.RawLessThanSign kind }) new result → Keeps Sink old new 60 result
   raw-open_told old new kind result from ok e told =

@@ -11,22 +11,22 @@ use Rattle.html_tokens.specs.declared.states.AttrValueKind.TheVariants as value
 use Rattle.html_tokens.specs.declared.states.State.{State}
 use Rattle.html_tokens.specs.declared.states.State.TheVariants as state
 use Rattle.html_tokens.specs.Comments.{comment_at, comment_after, bogus_comment_after}
-use Rattle.html_tokens.specs.Doctypes.{doctype_at, doctype_behind, doctype_name_after, after_name, after_public_keyword, after_system_keyword, public_after, system_after, after_public, after_system, junk_after}
+use Rattle.html_tokens.specs.Doctypes.{doctype_at, doctype_after, doctype_name_after, after_name, after_public_keyword, after_system_keyword, public_after, system_after, after_public, after_system, junk_after}
 use Rattle.html_tokens.specs.Tags.{name_after, attribute_after, equals_at, value_at, unquoted_after, quoted_after, lacks_space}
 use Rattle.html_tokenizer.specs.declared.tokenizer.Tokenizer.{Tokenizer}
-use Rattle.html_tokenizer.specs.Rest.{fault_behind, pending, rows_of, standing, held_at}
+use Rattle.html_tokenizer.specs.Rest.{fault_after, pending, rows_of, standing, held_at}
 use Rattle.html_tokens.specs.Item.{Fault, slight_if, InData, Item}
 use Rattle.html_tokens.specs.Reading.{erred_by, next_stand, line_breaks}
 use Rattle.html_tokens.specs.Table.{Row}
 use Rattle.html_tokenizer.proofs.Steps.RefusedReadings.{AllRefused, erred-refused, said-refused, reading-refused, noting-errs, noting-refused}
 use Rattle.html_tokenizer.specs.Steps.{now}
-use Rattle.html_tokenizer.specs.Listeners.{Listener, listening, told_text, told_item}
+use Rattle.html_tokenizer.specs.Listeners.{Listener, listening, emitted_text, emitted_item}
 
 module _ {T : Type 0} (to : Listener T) (rows : List Row) (errs : (fault : Fault) (s : T) → AllRefused to.step s → AllRefused to.step (to.erred fault s)) where
-  pub play-refused : (s : T) → AllRefused to.step s → (i : Item) (b : ℕ) (t : List ℕ) → IsErr (told_item to rows i b s t)
+  pub play-refused : (s : T) → AllRefused to.step s → (i : Item) (b : ℕ) (t : List ℕ) → IsErr (emitted_item to rows i b s t)
   play-refused s h i b t =
       let read = b + line_breaks (take i.len t) in
-      said-refused to rows errs i.fault s h i.token read (λ p. told_text to rows (next_stand i.next p.1) read p.0 (drop i.len t)) (λ q g reply. reading-refused to rows errs q g 0 (next_stand i.next reply) read (drop i.len t))
+      said-refused to rows errs i.fault s h i.token read (λ p. emitted_text to rows (next_stand i.next p.1) read p.0 (drop i.len t)) (λ q g reply. reading-refused to rows errs q g 0 (next_stand i.next reply) read (drop i.len t))
 
 module _ {K T : Type 0} (to : Listener T) (errs : (fault : Fault) (s : T) → AllRefused to.step s → AllRefused to.step (to.erred fault s)) where
   pub held-refused : (st : State) (k : Tokenizer K) (b : ℕ) (s : T) (t : List ℕ) → AllRefused to.step s → IsErr (held_at to st k b s t)
@@ -72,7 +72,7 @@ module _ {K T : Type 0} (to : Listener T) (errs : (fault : Fault) (s : T) → Al
   held-refused state.CommentEnd k b s t h = play-refused to (rows_of k) errs s h (comment_after (standing k InData) k.comment (45 ∷ 45 ∷ t)) b (45 ∷ 45 ∷ t)
   held-refused state.CommentEndBang k b s t h = play-refused to (rows_of k) errs s h (comment_after (standing k InData) k.comment (45 ∷ 45 ∷ 33 ∷ t)) b (45 ∷ 45 ∷ 33 ∷ t)
   held-refused state.Doctype k b s t h = play-refused to (rows_of k) errs s h (doctype_at (standing k InData) t) b t
-  held-refused state.BeforeDoctypeName k b s t h = play-refused to (rows_of k) errs s h (doctype_behind (standing k InData) t) b t
+  held-refused state.BeforeDoctypeName k b s t h = play-refused to (rows_of k) errs s h (doctype_after (standing k InData) t) b t
   held-refused state.DoctypeName k b s t h = play-refused to (rows_of k) errs s h (doctype_name_after (standing k InData) k.temporary t) b t
   held-refused state.AfterDoctypeName k b s t h = play-refused to (rows_of k) errs s h (after_name (standing k InData) k.doctype (k.keyword ++ t)) b (k.keyword ++ t)
   held-refused (state.AfterDoctypeKeyword id.Public) k b s t h = play-refused to (rows_of k) errs s h (after_public_keyword (standing k InData) k.doctype t) b t
@@ -95,5 +95,5 @@ module _ {K H : Type 0} (Sink : Ghosts K H) where
   -- the same of the machine where it is
   pub now-refused : (k : Tokenizer K) (b : ℕ) (notes : Notes ℕ) (t : List ℕ) → ((token : Token) (line : ℕ) → IsErr (Sink.step (Sink.view k.sink) token line)) → IsErr (now Sink k b (Sink.view k.sink, notes) t)
   now-refused k b notes t h =
-      held-refused (listening Sink) (noting-errs Sink) k.state k b (erred_by noting_error (fault_behind k.char_ref) (Sink.view k.sink, notes)) (pending k.char_ref ++ t)
-      (erred-refused (listening Sink) (rows_of k) (noting-errs Sink) (fault_behind k.char_ref) (Sink.view k.sink, notes) (noting-refused Sink (Sink.view k.sink) notes h))
+      held-refused (listening Sink) (noting-errs Sink) k.state k b (erred_by noting_error (fault_after k.char_ref) (Sink.view k.sink, notes)) (pending k.char_ref ++ t)
+      (erred-refused (listening Sink) (rows_of k) (noting-errs Sink) (fault_after k.char_ref) (Sink.view k.sink, notes) (noting-refused Sink (Sink.view k.sink) notes h))

@@ -14,7 +14,7 @@ use Rattle.html_tokens.specs.Item.{Slight, grave_if, slight_if, InData}
 use Rattle.html_tokens.specs.Notes.{Notes, heard, noted, noting, noting_error}
 use Rattle.html_tokens.specs.Reading.{◌>>=◌, erred_by, line_break, line_number, next_stand}
 use Rattle.html_tokens.specs.Sink.{Reply, Refusal}
-use Rattle.html_tokens.specs.Tags.{behind_tag, is_faulty_tag}
+use Rattle.html_tokens.specs.Tags.{after_tag, is_faulty_tag}
 use Rattle.html_tokens.specs.declared.states.RawKind.TheVariants as raw
 use Rattle.html_tokens.specs.declared.states.ScriptEscapeKind.TheVariants as script
 use Rattle.html_tokens.specs.declared.states.DoctypeIdKind.TheVariants as id
@@ -24,7 +24,7 @@ use Rattle.html_tokens.specs.declared.sink.TokenSink.{Ghosts}
 use Rattle.html_tokenizer_parts.specs.CharRefs.{fits_in}
 use Rattle.html_tokenizer_parts.specs.declared.stream.Stream.{Stream}
 use Rattle.html_tokenizer.specs.declared.tokenizer.Tokenizer.{Tokenizer}
-use Rattle.html_tokenizer.specs.Rest.{rows_of, standing, fault_behind, pending, held_at}
+use Rattle.html_tokenizer.specs.Rest.{rows_of, standing, fault_after, pending, held_at}
 use Rattle.html_tokenizer.proofs.Steps.Lawful.{erred-more}
 use Rattle.html_tokenizer.proofs.Steps.Readings.{sum-zero}
 use Rattle.html_tokenizer.specs.Steps.{Owed, nothing_owed, owed_for, and_heard, together, owed_by, IsAt, paused_by, more, noted_by, Rises, now, Stays, Fell, FailsAmong, Fails, Falls, IsOfText, Emitted, Erred, Took, Keeps, EndsTag, reads}
@@ -75,7 +75,7 @@ module _ {K H : Type 0} (Sink : Ghosts K H) where
   at st k b s t = held_at (listening Sink) st k b s t
 
   pub now-at : (k : Tokenizer K) (st : State) (b : ℕ) (s : Sink.State × Notes ℕ) (t : List ℕ) → IsAt k st → now Sink k b s t ≡ at st k b s t
-  now-at k st b s t h = ap (λ r. held_at (listening Sink) k.state k b (erred_by noting_error (fault_behind r) s) (pending r ++ t)) h.fresh ∙ ap (λ x. held_at (listening Sink) x k b s t) h.state
+  now-at k st b s t h = ap (λ r. held_at (listening Sink) k.state k b (erred_by noting_error (fault_after r) s) (pending r ++ t)) h.fresh ∙ ap (λ x. held_at (listening Sink) x k b s t) h.state
 
   -- The character is taken, which may be odd, and the machine stands in st'; it is quiet only where it is not odd.
   pub noted_odd : (odd : Bool) (old new : Tokenizer K) (c : ℕ) (st st' : State) → IsAt old st → IsAt new st' → new.stream ≡ old.stream → new.sink ≡ old.sink → Sink.is_sound (Sink.view old.sink)
@@ -226,7 +226,7 @@ module _ {K H : Type 0} (Sink : Ghosts K H) where
 
   -- The machine with another sink is where it was.
   pub now-target : (k : Tokenizer K) (sink : K) (st : State) (b : ℕ) (s : Sink.State × Notes ℕ) (t : List ℕ) → IsAt k st → now Sink (record k { sink = sink }) b s t ≡ at Sink st k b s t
-  now-target k sink st b s t h = held-other (listening Sink) k.state k sink k.stream b (erred_by noting_error (fault_behind k.char_ref) s) (pending k.char_ref ++ t) refl ∙ now-at Sink k st b s t h
+  now-target k sink st b s t h = held-other (listening Sink) k.state k sink k.stream b (erred_by noting_error (fault_after k.char_ref) s) (pending k.char_ref ++ t) refl ∙ now-at Sink k st b s t h
 
   -- A token was told, and the machine stands in st'. The target is the machine as it was, with the fields that changed.
   pub took_told : {owed : Owed} (old mid new target : Tokenizer K) (c : ℕ) (st st' : State) (token : Token) → IsAt old st → Sink.is_sound (Sink.view old.sink) → Emitted Sink owed token old mid
@@ -345,7 +345,7 @@ module _ {K H : Type 0} (Sink : Ghosts K H) where
   -- The tag was told, and the character ended it.
   pub took_tag : (old new : Tokenizer K) (c : ℕ) (st : State) (result : Result (ProcessResult H) ParseFault) → IsAt old st → c ≡ 62 → EndsTag Sink old new result
       → ((b : ℕ) (s : Sink.State × Notes ℕ) → Sink.is_sound s.0 → (t : List ℕ) → at Sink st old b s (c ∷ t)
-      ≡ (noting Sink.step Sink.is_quiet (s.0, more (owed_for (grave_if (is_faulty_tag old.tag))) s.1) (TagToken old.tag) (line_number b) >>= λ p. reads Sink (rows_of old) (next_stand (behind_tag (standing old InData) old.tag) p.1) b p.0 t))
+      ≡ (noting Sink.step Sink.is_quiet (s.0, more (owed_for (grave_if (is_faulty_tag old.tag))) s.1) (TagToken old.tag) (line_number b) >>= λ p. reads Sink (rows_of old) (next_stand (after_tag (standing old InData) old.tag) p.1) b p.0 t))
       → Sink.is_sound (Sink.view old.sink) → Keeps Sink old new c result
   took_tag old new c st (Ok result) from close h law ok = record {
     owed = owed_by Sink old;
@@ -372,7 +372,7 @@ module _ {K H : Type 0} (Sink : Ghosts K H) where
   pub erred-now : {owed : Owed} (old mid : Tokenizer K) (b : ℕ) (notes : Notes ℕ) (t : List ℕ) → Erred Sink owed old mid → now Sink old b (Sink.view old.sink, notes) t ≡ now Sink mid b (Sink.view mid.sink, notes) t
   erred-now old mid b notes t h =
       ap (λ s. now Sink old b (s, notes) t) (sym h.sink)
-      ∙ sym (held-other (listening Sink) old.state old mid.sink old.stream b (erred_by noting_error (fault_behind old.char_ref) (Sink.view mid.sink, notes)) (pending old.char_ref ++ t) refl)
+      ∙ sym (held-other (listening Sink) old.state old mid.sink old.stream b (erred_by noting_error (fault_after old.char_ref) (Sink.view mid.sink, notes)) (pending old.char_ref ++ t) refl)
       ∙ sym (ap (λ k. now Sink k b (Sink.view mid.sink, notes) t) h.changed)
 
   pub at_erred : {owed : Owed} (old mid : Tokenizer K) (st : State) → Erred Sink owed old mid → IsAt old st → IsAt mid st

@@ -10,7 +10,7 @@ use Rattle.html_tokens.specs.declared.states.State.TheVariants as state
 use Rattle.html_tokens.specs.declared.token.Token.{Token}
 use Rattle.html_tokens.specs.declared.token.Token.TheVariants.{EOFToken}
 use Rattle.html_tokens.specs.Comments.{comment_at, comment_after, bogus_comment_after}
-use Rattle.html_tokens.specs.Doctypes.{doctype_at, doctype_behind, doctype_name_after, after_name, after_public_keyword, after_system_keyword, public_after, system_after, after_public, after_system, junk_after}
+use Rattle.html_tokens.specs.Doctypes.{doctype_at, doctype_after, doctype_name_after, after_name, after_public_keyword, after_system_keyword, public_after, system_after, after_public, after_system, junk_after}
 use Rattle.html_tokens.specs.Tags.{name_after, attribute_after, equals_at, value_at, unquoted_after, quoted_after}
 use Rattle.html_tokens.specs.Item.{Fault, InData, Stand, Item, fault_at_end}
 use Rattle.html_tokens.specs.Items.{item}
@@ -19,7 +19,7 @@ use Rattle.html_tokens.specs.Table.{Row}
 use Rattle.html_tokens.proofs.Readings.{bind_same}
 use Rattle.html_tokenizer.specs.declared.tokenizer.Tokenizer.{Tokenizer}
 use Rattle.html_tokenizer.specs.Rest.{rows_of, standing, held_at}
-use Rattle.html_tokenizer.specs.Listeners.{Listener, told_text, told_item}
+use Rattle.html_tokenizer.specs.Listeners.{Listener, emitted_text, emitted_item}
 
 -- After so many line breaks, or so many, and any number more, the line is the same.
 abbrev pub SameLines : ℕ → ℕ → Type 0
@@ -60,11 +60,11 @@ module _ {T : Type 0} (to : Listener T) (rows : List Row) where
       (λ p. reading-lines (i.len - 1) (next_stand i.next p.1) (b + m) (d + m) p.0 t (lines-behind b d m h))
   reading-lines (suc n) st b d s (c ∷ t) h = reading-lines n st b d s t h
 
-  pub play-lines : (i : Item) (b d : ℕ) (s : T) (t : List ℕ) → SameLines b d → told_item to rows i b s t ≡ told_item to rows i d s t
+  pub play-lines : (i : Item) (b d : ℕ) (s : T) (t : List ℕ) → SameLines b d → emitted_item to rows i b s t ≡ emitted_item to rows i d s t
   play-lines i b d s t h =
       let m = line_breaks (take i.len t) in
-      ap (λ r. r >>= λ p. told_text to rows (next_stand i.next p.1) (b + m) p.0 (drop i.len t)) (said-same i.fault i.token (b + m) (d + m) s (h m))
-      ∙ bind_same (said to.step to.erred i.fault i.token (d + m) s) (λ p. told_text to rows (next_stand i.next p.1) (b + m) p.0 (drop i.len t)) (λ p. told_text to rows (next_stand i.next p.1) (d + m) p.0 (drop i.len t))
+      ap (λ r. r >>= λ p. emitted_text to rows (next_stand i.next p.1) (b + m) p.0 (drop i.len t)) (said-same i.fault i.token (b + m) (d + m) s (h m))
+      ∙ bind_same (said to.step to.erred i.fault i.token (d + m) s) (λ p. emitted_text to rows (next_stand i.next p.1) (b + m) p.0 (drop i.len t)) (λ p. emitted_text to rows (next_stand i.next p.1) (d + m) p.0 (drop i.len t))
       (λ p. reading-lines 0 (next_stand i.next p.1) (b + m) (d + m) p.0 (drop i.len t) (lines-behind b d m h))
 
 module _ {K T : Type 0} (to : Listener T) where
@@ -112,7 +112,7 @@ module _ {K T : Type 0} (to : Listener T) where
   held-lines state.CommentEnd k b d s t h = play-lines to (rows_of k) (comment_after (standing k InData) k.comment (45 ∷ 45 ∷ t)) b d s (45 ∷ 45 ∷ t) h
   held-lines state.CommentEndBang k b d s t h = play-lines to (rows_of k) (comment_after (standing k InData) k.comment (45 ∷ 45 ∷ 33 ∷ t)) b d s (45 ∷ 45 ∷ 33 ∷ t) h
   held-lines state.Doctype k b d s t h = play-lines to (rows_of k) (doctype_at (standing k InData) t) b d s t h
-  held-lines state.BeforeDoctypeName k b d s t h = play-lines to (rows_of k) (doctype_behind (standing k InData) t) b d s t h
+  held-lines state.BeforeDoctypeName k b d s t h = play-lines to (rows_of k) (doctype_after (standing k InData) t) b d s t h
   held-lines state.DoctypeName k b d s t h = play-lines to (rows_of k) (doctype_name_after (standing k InData) k.temporary t) b d s t h
   held-lines state.AfterDoctypeName k b d s t h = play-lines to (rows_of k) (after_name (standing k InData) k.doctype (k.keyword ++ t)) b d s (k.keyword ++ t) h
   held-lines (state.AfterDoctypeKeyword id.Public) k b d s t h = play-lines to (rows_of k) (after_public_keyword (standing k InData) k.doctype t) b d s t h

@@ -14,7 +14,7 @@ use Rattle.html_tokens.specs.Sink.{Refusal}
 use Rattle.html_tokenizer_parts.specs.CharRefs.{fits_in, may_hold}
 use Rattle.html_tokenizer_parts.specs.declared.held_reference.Ampersand.TheVariants.{Held}
 use Rattle.html_tokenizer.specs.declared.tokenizer.Tokenizer.{Tokenizer}
-use Rattle.html_tokenizer.specs.Rest.{fault_behind, pending, held_at, rows_of}
+use Rattle.html_tokenizer.specs.Rest.{fault_after, pending, held_at, rows_of}
 use Rattle.html_tokenizer.specs.Steps.{Owed, IsAt, more, Falls, Emitted, TakesAs, Took, Keeps, now, nothing_owed}
 use Rattle.html_tokenizer.proofs.Errors.Rises.{rises-same}
 use Rattle.html_tokenizer.proofs.Steps.Keeping.{at, now-at, Says, took_told, keeps_told, token-fails, stays-same, no-break}
@@ -79,7 +79,7 @@ module _ {K H : Type 0} (Sink : Ghosts K H) where
 
   -- what is to come where a reference has begun
   begun : (k : Tokenizer K) (st : State) (b : ℕ) (s : Sink.State × Notes ℕ) (t : List ℕ) → k.state ≡ st → k.char_ref ≡ Some (Held []) → now Sink k b s t ≡ at Sink st k b s (38 ∷ t)
-  begun k st b s t e f = ap (λ r. held_at (listening Sink) k.state k b (erred_by noting_error (fault_behind r) s) (pending r ++ t)) f ∙ ap (λ x. held_at (listening Sink) x k b s (38 ∷ t)) e
+  begun k st b s t e f = ap (λ r. held_at (listening Sink) k.state k b (erred_by noting_error (fault_after r) s) (pending r ++ t)) f ∙ ap (λ x. held_at (listening Sink) x k b s (38 ∷ t)) e
 
   -- A reference begins.
   pub took_reference : (old new : Tokenizer K) (c : ℕ) (st : State) → IsAt old st → may_hold st ≡ true → nat_eq c 10 ≡ false → new.state ≡ st → new.char_ref ≡ Some (Held []) → new.stream ≡ old.stream → new.sink ≡ old.sink → Sink.is_sound (Sink.view old.sink)

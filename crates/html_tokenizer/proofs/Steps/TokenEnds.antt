@@ -9,7 +9,7 @@ use Rattle.html_tokens.specs.declared.states.State.{State}
 use Rattle.html_tokens.specs.declared.states.State.TheVariants as state
 use Rattle.html_tokens.specs.declared.token.Token.{Token}
 use Rattle.html_tokens.specs.declared.sink.TokenSink.{Ghosts}
-use Rattle.html_tokens.specs.Item.{Item, InData, behind, told_as, Fault, Slight}
+use Rattle.html_tokens.specs.Item.{Item, InData, longer, token_item, Fault, Slight}
 use Rattle.html_tokens.specs.Notes.{Notes, noting}
 use Rattle.html_tokens.specs.Reading.{line_number, line_break, line_breaks}
 use Rattle.html_tokens.specs.Sink.{◌>>=◌, SinkLaws}
@@ -27,7 +27,7 @@ module _ {K H : Type 0} (Sink : Ghosts K H) (laws : SinkLaws Sink.is_sound Sink.
   EndSays st old source owed token = Says Sink st old 62 owed token (λ b s t. at Sink state.Data source (b + line_break (nat_eq 62 10)) s t)
 
   -- what such an item makes of the sink
-  pub end-says : (fault : Option Fault) (old : Tokenizer K) (b : ℕ) (s : Sink.State × Notes ℕ) → Sink.is_sound s.0 → (token : Token) (t u : List ℕ) (n : ℕ) (i : Item) → IsNoTag token → i ≡ told_as fault token n (standing old InData) → line_breaks (take n u) ≡ 0 → drop n u ≡ t
+  pub end-says : (fault : Option Fault) (old : Tokenizer K) (b : ℕ) (s : Sink.State × Notes ℕ) → Sink.is_sound s.0 → (token : Token) (t u : List ℕ) (n : ℕ) (i : Item) → IsNoTag token → i ≡ token_item fault token n (standing old InData) → line_breaks (take n u) ≡ 0 → drop n u ≡ t
       → plays Sink (rows_of old) i b s u ≡ (noting Sink.step Sink.is_quiet (s.0, more (owed_for fault) s.1) token (line_number b) >>= λ p. reads Sink (rows_of old) (standing old InData) (b + 0) p.0 t)
   end-says fault old b s h token t u n i none is unbroken left =
       play-end (λ p. Sink.is_sound p.0) (listening Sink) (rows_of old) (noting-lawful Sink.is_sound Sink.step Sink.ended Sink.is_quiet laws) fault i token n (standing old InData) b s (erred-sound Sink.is_sound fault s h) u none is unbroken
@@ -49,11 +49,11 @@ module _ {K H : Type 0} (Sink : Ghosts K H) (laws : SinkLaws Sink.is_sound Sink.
   same-text old i b s u = ap (λ x. plays Sink (rows_of old) i x s u) (sym (sum-zero b))
 
   -- an item after a character that breaks no line
-  pub behind-one : (old : Tokenizer K) (d : ℕ) → nat_eq d 10 ≡ false → (i j : Item) (b : ℕ) (s : Sink.State × Notes ℕ) (u : List ℕ) → i ≡ behind j → plays Sink (rows_of old) i b s (d ∷ u) ≡ plays Sink (rows_of old) j b s u
+  pub behind-one : (old : Tokenizer K) (d : ℕ) → nat_eq d 10 ≡ false → (i j : Item) (b : ℕ) (s : Sink.State × Notes ℕ) (u : List ℕ) → i ≡ longer j → plays Sink (rows_of old) i b s (d ∷ u) ≡ plays Sink (rows_of old) j b s u
   behind-one old d e i j b s u is = play-is (listening Sink) (rows_of old) i j b s d u is ∙ ap (λ x. plays Sink (rows_of old) j x s u) (no-break b d e)
 
   -- an item after one character more
-  pub behind-any : (old : Tokenizer K) (i j : Item) (b : ℕ) (s : Sink.State × Notes ℕ) (c : ℕ) (t : List ℕ) → i ≡ behind j → plays Sink (rows_of old) i b s (c ∷ t) ≡ plays Sink (rows_of old) j (b + line_break (nat_eq c 10)) s t
+  pub behind-any : (old : Tokenizer K) (i j : Item) (b : ℕ) (s : Sink.State × Notes ℕ) (c : ℕ) (t : List ℕ) → i ≡ longer j → plays Sink (rows_of old) i b s (c ∷ t) ≡ plays Sink (rows_of old) j (b + line_break (nat_eq c 10)) s t
   behind-any old i j b s c t is = play-is (listening Sink) (rows_of old) i j b s c t is
 
   -- what is slight before an item with a fault changes nothing

@@ -11,7 +11,7 @@ use Rattle.html_tokens.specs.declared.tags.TagKind.TheVariants.{StartTag, EndTag
 use Rattle.html_tokens.specs.declared.token.Token.TheVariants.{CharacterTokens}
 use Rattle.html_tokens.specs.declared.sink.TokenSink.{Ghosts}
 use Rattle.html_tokens.specs.Comments.{bogus_comment_after}
-use Rattle.html_tokens.specs.Item.{Stand, Item, InData, behind, behind_all, Slight, Grave, unopened}
+use Rattle.html_tokens.specs.Item.{Stand, Item, InData, longer, longer_by, Slight, Grave, unopened}
 use Rattle.html_tokens.specs.Items.{item, opening, Opening, Letter, Slash, Mark, Question, Close, Other, open_by, end_at, end_by}
 use Rattle.html_tokens.specs.Notes.{Notes, noting, noting_error}
 use Rattle.html_tokens.specs.Reading.{line_number}
@@ -59,18 +59,18 @@ opens-by c false true d ea eb ed l e = mark (rw (l, ea, eb) refl)
 opens-by c false false true ea eb ed l e = question (rw (l, ea, eb, ed) refl)
 opens-by c false false false ea eb ed l e = any (rw (l, ea, eb, ed, e) refl)
 
-end-opens : (c : ℕ) → Opens c → (st : Stand) (t : List ℕ) → end_by (opening c) st c t ≡ behind_all 2 (bogus_comment_after st [] (c ∷ t))
+end-opens : (c : ℕ) → Opens c → (st : Stand) (t : List ℕ) → end_by (opening c) st c t ≡ longer_by 2 (bogus_comment_after st [] (c ∷ t))
 end-opens c (slash e) st t = rw e refl
 end-opens c (mark e) st t = rw e refl
 end-opens c (question e) st t = rw e refl
 end-opens c (any e) st t = rw e refl
 
-end-bogus : (c : ℕ) → is_ascii_alphabetic c ≡ false → nat_eq c 62 ≡ false → (st : Stand) (t : List ℕ) → end_at st (c ∷ t) ≡ behind_all 2 (bogus_comment_after st [] (c ∷ t))
+end-bogus : (c : ℕ) → is_ascii_alphabetic c ≡ false → nat_eq c 62 ≡ false → (st : Stand) (t : List ℕ) → end_at st (c ∷ t) ≡ longer_by 2 (bogus_comment_after st [] (c ∷ t))
 end-bogus c l e st t = end-opens c (opens-by c (nat_eq c 47) (nat_eq c 33) (nat_eq c 63) refl refl refl l e) st t
 
 module _ {K H : Type 0} (Sink : Ghosts K H) (laws : SinkLaws Sink.is_sound Sink.step Sink.ended Sink.is_quiet) where
   -- a reading at "<", by the item that stands there
-  pub opened : (old : Tokenizer K) (b : ℕ) (s : Sink.State × Notes ℕ) (t : List ℕ) (j : Item) → item (rows_of old) (Sink.asks_cdata s.0) (standing old InData) 60 t ≡ behind j
+  pub opened : (old : Tokenizer K) (b : ℕ) (s : Sink.State × Notes ℕ) (t : List ℕ) (j : Item) → item (rows_of old) (Sink.asks_cdata s.0) (standing old InData) 60 t ≡ longer j
       → reads Sink (rows_of old) (standing old InData) b s (60 ∷ t) ≡ plays Sink (rows_of old) j b s t
   opened old b s t j is = reading-is (listening Sink) (rows_of old) (standing old InData) b s 60 t j is ∙ ap (λ x. plays Sink (rows_of old) j x s t) (sum-zero b)
 
@@ -100,8 +100,8 @@ module _ {K H : Type 0} (Sink : Ghosts K H) (laws : SinkLaws Sink.is_sound Sink.
   unfolding held_at
   end-letter old new c tag result from e is keeps =
       keeps_silent Sink old (record old { tag = tag; state = state.TagName }) new c state.EndTagOpen state.TagName result from (record { state = refl; fresh = from.fresh }) refl refl
-      (λ b s t. rw is (opened old b s (47 ∷ c ∷ t) (behind (name_after (standing old InData) (named EndTag []) (c ∷ t))) (ap (λ o. end_by o (standing old InData) c t) (is-letter c e))
-      ∙ behind-one Sink laws old 47 refl (behind (name_after (standing old InData) (named EndTag []) (c ∷ t))) (name_after (standing old InData) (named EndTag []) (c ∷ t)) b s (c ∷ t) refl))
+      (λ b s t. rw is (opened old b s (47 ∷ c ∷ t) (longer (name_after (standing old InData) (named EndTag []) (c ∷ t))) (ap (λ o. end_by o (standing old InData) c t) (is-letter c e))
+      ∙ behind-one Sink laws old 47 refl (longer (name_after (standing old InData) (named EndTag []) (c ∷ t))) (name_after (standing old InData) (named EndTag []) (c ∷ t)) b s (c ∷ t) refl))
       keeps
 
   -- a bogus comment
@@ -118,8 +118,8 @@ module _ {K H : Type 0} (Sink : Ghosts K H) (laws : SinkLaws Sink.is_sound Sink.
   unfolding held_at
   end-bogus_kept fault old new c front result from l e is keeps =
       keeps_silent Sink old (record old { comment = front; fault = fault; state = state.BogusComment }) new c state.EndTagOpen state.BogusComment result from (record { state = refl; fresh = from.fresh }) refl refl
-      (λ b s t. rw is (opened old b s (47 ∷ c ∷ t) (behind (bogus_comment_after (standing old InData) [] (c ∷ t))) (end-bogus c l e (standing old InData) t)
-      ∙ behind-one Sink laws old 47 refl (behind (bogus_comment_after (standing old InData) [] (c ∷ t))) (bogus_comment_after (standing old InData) [] (c ∷ t)) b s (c ∷ t) refl))
+      (λ b s t. rw is (opened old b s (47 ∷ c ∷ t) (longer (bogus_comment_after (standing old InData) [] (c ∷ t))) (end-bogus c l e (standing old InData) t)
+      ∙ behind-one Sink laws old 47 refl (longer (bogus_comment_after (standing old InData) [] (c ∷ t))) (bogus_comment_after (standing old InData) [] (c ∷ t)) b s (c ∷ t) refl))
       keeps
 
   -- "<" is text

@@ -12,7 +12,7 @@ use Rattle.html_tokens.specs.Characters.{is_white_space, ends_tag_name, lowered,
 use Rattle.html_tokens.specs.Item.{InData, InTag, moved}
 use Rattle.html_tokens.specs.Notes.{Notes}
 use Rattle.html_tokens.specs.Reading.{line_break}
-use Rattle.html_tokens.specs.Tags.{behind_tag, name_after}
+use Rattle.html_tokens.specs.Tags.{after_tag, name_after}
 use Rattle.html_tokenizer.specs.declared.tokenizer.Tokenizer.{Tokenizer}
 use Rattle.html_tokenizer.specs.Rest.{rows_of, standing, held_at}
 use Rattle.html_tokenizer.specs.Steps.{IsAt, Took, Keeps, EndsTag, reads, plays}
@@ -60,7 +60,7 @@ module _ {K H : Type 0} (Sink : Ghosts K H) where
       took_tag Sink old new 62 state.TagName result from refl h
       (λ b s x t. name-end (listening Sink) (rows_of old) (standing old InData) old.tag b s 62 t refl
       ∙ tag-end (listening Sink) (rows_of old) (standing old InData) old.tag b s t
-      ∙ noted-tag Sink old old.tag (behind_tag (standing old InData) old.tag) b s t) ok)
+      ∙ noted-tag Sink old old.tag (after_tag (standing old InData) old.tag) b s t) ok)
 
   pub tag_name-more : (old : Tokenizer K) (c : ℕ) (name : List ℕ) → IsAt old state.TagName → Sink.is_sound (Sink.view old.sink) → is_white_space c ≡ false → c ≢ 47 → c ≢ 62 → name ≡ old.tag.name ++ lowered c ∷ []
       → Took Sink old (record old { tag = record old.tag { name = name } }) c flow.Continue
@@ -78,7 +78,7 @@ module _ {K H : Type 0} (Sink : Ghosts K H) where
       let law = λ (k : Tokenizer K) (b : ℕ) (s : Sink.State × Notes ℕ) (t : List ℕ). tag-slash_end (listening Sink) (rows_of k) (standing k InData) k.tag b s t in
       rw e (
       keeps_silent Sink old closed new 62 state.SelfClosingStartTag state.SelfClosingStartTag result from at_closed refl refl (λ b s t. law old b s t ∙ sym (law closed b s t))
-      (took_tag Sink closed new 62 state.SelfClosingStartTag result at_closed refl h (λ b s x t. law closed b s t ∙ noted-tag Sink closed closed.tag (behind_tag (standing closed InData) closed.tag) b s t) ok))
+      (took_tag Sink closed new 62 state.SelfClosingStartTag result at_closed refl h (λ b s x t. law closed b s t ∙ noted-tag Sink closed closed.tag (after_tag (standing closed InData) closed.tag) b s t) ok))
 
   pub slash-other : (old new : Tokenizer K) (c : ℕ) (result : Result (ProcessResult H) ParseFault) → IsAt old state.SelfClosingStartTag → c ≢ 62
       → Keeps Sink (record old { state = state.BeforeAttributeName }) new c result → Keeps Sink old new c result

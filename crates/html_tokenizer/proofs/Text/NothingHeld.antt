@@ -12,10 +12,10 @@ use Rattle.html_tokenizer_parts.specs.declared.held_reference.Ampersand.{Ampersa
 use Rattle.html_tokenizer.specs.declared.tokenizer.Tokenizer.{Tokenizer}
 use Rattle.html_tokenizer.specs.Rest.{rows_of, standing, coming, held_at}
 use Rattle.html_tokenizer.proofs.Steps.Keeping.{now-at}
-use Rattle.html_tokenizer.specs.Listeners.{Listener, listening, told_text}
+use Rattle.html_tokenizer.specs.Listeners.{Listener, listening, emitted_text}
 
 module _ {K T : Type 0} (to : Listener T) where
-  text-reads : (st : State) (k : Tokenizer K) (b : ℕ) (s : T) (t : List ℕ) → is_text_state st ≡ true → held_at to st k b s t ≡ told_text to (rows_of k) (standing k (first_place (Some st))) b s t
+  text-reads : (st : State) (k : Tokenizer K) (b : ℕ) (s : T) (t : List ℕ) → is_text_state st ≡ true → held_at to st k b s t ≡ emitted_text to (rows_of k) (standing k (first_place (Some st))) b s t
   unfolding held_at
   text-reads state.Data k b s t h = refl
   text-reads state.Plaintext k b s t h = refl

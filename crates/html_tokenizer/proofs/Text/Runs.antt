@@ -24,7 +24,7 @@ use Rattle.html_tokens.specs.Characters.{ends_attribute_name, ends_word, lowered
 use Rattle.html_tokens.specs.Item.{TextPlace, InData, InPlaintext, InRaw, Stand, character}
 use Rattle.html_tokens.specs.Items.{item}
 use Rattle.html_tokens.specs.Notes.{Notes, noting}
-use Rattle.html_tokens.specs.RawText.{has_references, kind_behind}
+use Rattle.html_tokens.specs.RawText.{has_references, next_kind}
 use Rattle.html_tokens.specs.Reading.{◌>>=◌, line_number}
 use Rattle.html_tokens.specs.Sink.{SinkLaws}
 use Rattle.html_tokens.specs.Table.{Row}
@@ -47,7 +47,7 @@ use Rattle.html_tokenizer.proofs.Steps.Runs.{reading-text, told-more}
 use Rattle.html_tokenizer.proofs.Text.RunStops.{run-at}
 use Rattle.html_tokenizer.proofs.Text.ShownTexts.{shown-itself}
 use Rattle.html_tokenizer_parts.proofs.Sets.{differs, not-member}
-use Rattle.html_tokenizer.specs.Listeners.{Listener, listening, told_text}
+use Rattle.html_tokenizer.specs.Listeners.{Listener, listening, emitted_text}
 
 -- a character of an attribute's name that is no U+0000
 pub lowered-same : (c : ℕ) → nat_eq c 0 ≡ false → lowered c ≡ to_ascii_lowercase c
@@ -65,21 +65,21 @@ module _ {T : Type 0} (sound : T → Type 0) (to : Listener T) (rows : List Row)
   -- Each character that is not in a set, which has the line feed, is read as itself.
   module _ (bits : ℕ) (unbroken : has bits 10 ≡ true) (st : Stand) (plain : (c : ℕ) → has bits c ≡ false → (x : Bool) (t : List ℕ) → item rows x st c t ≡ character c st) where
     one-told : (b : ℕ) (s : T) → sound s → (c : ℕ) (t : List ℕ) (l : ℕ) → has bits c ≡ false
-        → told_text to rows st b s (c ∷ t) ≡ (to.step s (CharacterTokens (c ∷ [])) l >>= λ p. told_text to rows st b p.0 t)
+        → emitted_text to rows st b s (c ∷ t) ≡ (to.step s (CharacterTokens (c ∷ [])) l >>= λ p. emitted_text to rows st b p.0 t)
     one-told b s h c t l lacks = reading-text sound to rows laws st st b s h c t l (not-member bits c 10 unbroken lacks) (plain c lacks (to.cdata s) t)
 
     -- text, and then a run more of it
     run-more : (b : ℕ) (s : T) → sound s → (front run t : List ℕ) (l : ℕ) → All (λ c. has bits c ≡ false) run
-        → (to.step s (CharacterTokens front) l >>= λ p. told_text to rows st b p.0 (run ++ t)) ≡ (to.step s (CharacterTokens (front ++ run)) l >>= λ p. told_text to rows st b p.0 t)
-    run-more b s h front [] t l lacking = ap (λ a. to.step s (CharacterTokens a) l >>= λ p. told_text to rows st b p.0 t) (sym (append-nil front))
+        → (to.step s (CharacterTokens front) l >>= λ p. emitted_text to rows st b p.0 (run ++ t)) ≡ (to.step s (CharacterTokens (front ++ run)) l >>= λ p. emitted_text to rows st b p.0 t)
+    run-more b s h front [] t l lacking = ap (λ a. to.step s (CharacterTokens a) l >>= λ p. emitted_text to rows st b p.0 t) (sym (append-nil front))
     run-more b s h front (c ∷ run) t l lacking =
         told-more sound to rows laws st st b s h front c (run ++ t) l (λ s h. one-told b s h c (run ++ t) l (All-head (λ c. has bits c ≡ false) c run lacking))
         ∙ run-more b s h (front ++ c ∷ []) run t l (All-tail (λ c. has bits c ≡ false) c run lacking)
-        ∙ ap (λ a. to.step s (CharacterTokens a) l >>= λ p. told_text to rows st b p.0 t) (append_assoc front (c ∷ []) run)
+        ∙ ap (λ a. to.step s (CharacterTokens a) l >>= λ p. emitted_text to rows st b p.0 t) (append_assoc front (c ∷ []) run)
 
     -- a run is read as one text
     pub run-told : (b : ℕ) (s : T) → sound s → (run t : List ℕ) (l : ℕ) → 0 < length run → All (λ c. has bits c ≡ false) run
-        → told_text to rows st b s (run ++ t) ≡ (to.step s (CharacterTokens run) l >>= λ p. told_text to rows st b p.0 t)
+        → emitted_text to rows st b s (run ++ t) ≡ (to.step s (CharacterTokens run) l >>= λ p. emitted_text to rows st b p.0 t)
     run-told b s h [] t l filled lacking = absurd (omega arith)
     run-told b s h (c ∷ run) t l filled lacking =
         one-told b s h c (run ++ t) l (All-head (λ c. has bits c ≡ false) c run lacking)
@@ -95,11 +95,11 @@ and-false true = refl
 and-false false = refl
 
 -- a character of raw text that stands for itself, and changes no kind
-raw-by : {K : Type 0} (k : Tokenizer K) (kind : RawKind) (x : Bool) (c : ℕ) (t : List ℕ) → nat_eq c 60 ≡ false → nat_eq c 0 ≡ false → (nat_eq c 38 && has_references kind) ≡ false → kind_behind kind c t ≡ kind
+raw-by : {K : Type 0} (k : Tokenizer K) (kind : RawKind) (x : Bool) (c : ℕ) (t : List ℕ) → nat_eq c 60 ≡ false → nat_eq c 0 ≡ false → (nat_eq c 38 && has_references kind) ≡ false → next_kind kind c t ≡ kind
     → item (rows_of k) x (standing k (InRaw kind)) c t ≡ character c (standing k (InRaw kind))
 raw-by k kind x c t e z f same =
     raw-item k kind x c t (rw e refl) f
-    ∙ shown-itself c (standing k (InRaw (kind_behind kind c t))) z
+    ∙ shown-itself c (standing k (InRaw (next_kind kind c t))) z
     ∙ ap (λ kind. character c (standing k (InRaw kind))) same
 
 raw-plain : {K : Type 0} (k : Tokenizer K) (kind : RawKind) (c : ℕ) → has (raw_stops kind).bits c ≡ false → (x : Bool) (t : List ℕ) → item (rows_of k) x (standing k (InRaw kind)) c t ≡ character c (standing k (InRaw kind))

@@ -3,7 +3,7 @@ use Rattle.std.proofs.Common.{◌≡◌, ◌∙◌, ℕ, length, Bool, true, fal
 use Rattle.std.specs.Prelude.{codes, not}
 use Rattle.std.specs.List.{list_all}
 use Rattle.html_tokens.specs.declared.states.State.{State}
-use Rattle.html_tokens.specs.Item.{Item, behind_all}
+use Rattle.html_tokens.specs.Item.{Item, longer_by}
 use Rattle.html_tokens.specs.Table.{Row}
 use Rattle.html_tokenizer.specs.declared.tokenizer.Tokenizer.{Tokenizer}
 use Rattle.html_tokenizer.specs.Rest.{held_at, played}
@@ -12,7 +12,7 @@ use Rattle.html_tokenizer.proofs.Steps.Keeping.{no-break}
 use Rattle.html_tokenizer_parts.proofs.Keywords.{and_both}
 use Rattle.html_tokenizer.proofs.Steps.Readings.{play-is}
 use Rattle.html_tokenizer_parts.proofs.Words.{and_parts}
-use Rattle.html_tokenizer.specs.Listeners.{Listener, told_item}
+use Rattle.html_tokenizer.specs.Listeners.{Listener, emitted_item}
 
 -- a character that ends no line
 abbrev pub is_inline : ℕ → Bool
@@ -31,12 +31,12 @@ all-pass p q f (c ∷ w) h =
 
 module _ {T : Type 0} (to : Listener T) (rows : List Row) where
   -- an item after characters that end no line
-  pub play-inline : (cs t : List ℕ) (j : Item) (b : ℕ) (s : T) → list_all is_inline cs ≡ true → told_item to rows (behind_all (length cs) j) b s (cs ++ t) ≡ told_item to rows j b s t
+  pub play-inline : (cs t : List ℕ) (j : Item) (b : ℕ) (s : T) → list_all is_inline cs ≡ true → emitted_item to rows (longer_by (length cs) j) b s (cs ++ t) ≡ emitted_item to rows j b s t
   play-inline [] t j b s h = refl
   play-inline (c ∷ cs) t j b s h =
       let p = and_parts (is_inline c) (list_all is_inline cs) h in
-      play-is to rows (behind_all (length (c ∷ cs)) j) (behind_all (length cs) j) b s c (cs ++ t) refl
-      ∙ ap (λ n. told_item to rows (behind_all (length cs) j) n s (cs ++ t)) (no-break b c (not-so (nat_eq c 10) p.0))
+      play-is to rows (longer_by (length (c ∷ cs)) j) (longer_by (length cs) j) b s c (cs ++ t) refl
+      ∙ ap (λ n. emitted_item to rows (longer_by (length cs) j) n s (cs ++ t)) (no-break b c (not-so (nat_eq c 10) p.0))
       ∙ play-inline cs t j b s p.1
 
 module _ (T : Type 0) {K : Type 0} (k : Tokenizer K) where

@@ -10,7 +10,7 @@ use Rattle.html_tokens.specs.declared.token.Doctype.{Doctype}
 use Rattle.html_tokens.specs.declared.token.Token.TheVariants.{CommentToken}
 use Rattle.html_tokens.specs.Comments.{comment_after}
 use Rattle.html_tokens.specs.Doctypes.{after_name, forced, given, given_more, no_doctype}
-use Rattle.html_tokens.specs.Item.{Grave, InData, Stand, Item, behind_all, told_as}
+use Rattle.html_tokens.specs.Item.{Grave, InData, Stand, Item, longer_by, token_item}
 use Rattle.html_tokens.specs.Items.{declaration_at}
 use Rattle.html_tokens.specs.Table.{Row}
 use Rattle.html_tokens.proofs.CleanComments.{end-mark}
@@ -26,11 +26,11 @@ use Rattle.html_tokenizer.proofs.Declarations.DoctypeKeywords.{name-word, junk-r
 use Rattle.html_tokenizer_parts.proofs.Keywords.{begun-part, is_plain, last-plain, part-plain, plain-break, word-plain}
 use Rattle.html_tokenizer.proofs.Steps.Readings.{play-is, sum-zero}
 use Rattle.html_tokenizer.proofs.Untold.Completing.{all-pass, by-mark, is_inline, play-inline}
-use Rattle.html_tokenizer.specs.Listeners.{Listener, told_item}
+use Rattle.html_tokenizer.specs.Listeners.{Listener, emitted_item}
 
 -- ITEMS
 
-comment-closed : (st : Stand) (front t : List ℕ) → comment_after st front (45 ∷ 45 ∷ 62 ∷ t) ≡ told_as None (CommentToken front) 3 st
+comment-closed : (st : Stand) (front t : List ℕ) → comment_after st front (45 ∷ 45 ∷ 62 ∷ t) ≡ token_item None (CommentToken front) 3 st
 comment-closed st front t = rw (end-mark t) refl
 
 -- WORDS BEFORE ">"
@@ -58,23 +58,23 @@ plain-inline : (cs : List ℕ) → list_all is_plain cs ≡ true → list_all is
 plain-inline cs h = all-pass is_plain is_inline (λ c p. rw (plain-break c p) refl) cs h
 
 -- ">" after the front of a word makes a bogus comment after "<!", and junk in a doctype
-word-bogus : (asks : Bool) (st : Stand) (cs t : List ℕ) → IsPart cs → declaration_at asks st (cs ++ 62 ∷ t) ≡ behind_all 2 (behind_all (length cs) (told_as (Some Grave) (CommentToken cs) 1 st))
+word-bogus : (asks : Bool) (st : Stand) (cs t : List ℕ) → IsPart cs → declaration_at asks st (cs ++ 62 ∷ t) ≡ longer_by 2 (longer_by (length cs) (token_item (Some Grave) (CommentToken cs) 1 st))
 word-bogus asks st cs t part = bogus-declared asks st cs 62 t part (nothing-begun asks cs 62 part (record { dashes = no-word word.Dashes cs; doctype = no-word word.Doctype cs; cdata = no-word word.Cdata cs }) (declares-none cs))
 
-word-junk : (st : Stand) (d : Doctype) (x : ℕ) (cs t : List ℕ) → IsPart (x ∷ cs) → after_name st d (x ∷ (cs ++ 62 ∷ t)) ≡ behind_all (length (x ∷ cs)) (given_more st (forced d) 1)
+word-junk : (st : Stand) (d : Doctype) (x : ℕ) (cs t : List ℕ) → IsPart (x ∷ cs) → after_name st d (x ∷ (cs ++ 62 ∷ t)) ≡ longer_by (length (x ∷ cs)) (given_more st (forced d) 1)
 word-junk st d x cs t part =
     name-word st d (x ∷ cs) 62 t (begun-part x cs (part-plain (x ∷ cs) part))
     ∙ junk-read st d (x ∷ cs) 62 t part (record { public_word = no-word word.Public (x ∷ cs); system_word = no-word word.System (x ∷ cs) }) (identifies-none (x ∷ cs))
 
 module _ {T : Type 0} (to : Listener T) (rows : List Row) where
   -- an item after "<!" and characters of words
-  play-declared : (cs t : List ℕ) (j : Item) (b : ℕ) (s : T) → list_all is_plain cs ≡ true → told_item to rows (behind_all 2 (behind_all (length cs) j)) b s (60 ∷ 33 ∷ (cs ++ t)) ≡ told_item to rows j b s t
+  play-declared : (cs t : List ℕ) (j : Item) (b : ℕ) (s : T) → list_all is_plain cs ≡ true → emitted_item to rows (longer_by 2 (longer_by (length cs) j)) b s (60 ∷ 33 ∷ (cs ++ t)) ≡ emitted_item to rows j b s t
   play-declared cs t j b s h =
-      let all = behind_all (length cs) j in
-      play-is to rows (behind_all 2 all) (behind_all 1 all) b s 60 (33 ∷ (cs ++ t)) refl
-      ∙ ap (λ n. told_item to rows (behind_all 1 all) n s (33 ∷ (cs ++ t))) (sum-zero b)
-      ∙ play-is to rows (behind_all 1 all) all b s 33 (cs ++ t) refl
-      ∙ ap (λ n. told_item to rows all n s (cs ++ t)) (sum-zero b)
+      let all = longer_by (length cs) j in
+      play-is to rows (longer_by 2 all) (longer_by 1 all) b s 60 (33 ∷ (cs ++ t)) refl
+      ∙ ap (λ n. emitted_item to rows (longer_by 1 all) n s (33 ∷ (cs ++ t))) (sum-zero b)
+      ∙ play-is to rows (longer_by 1 all) all b s 33 (cs ++ t) refl
+      ∙ ap (λ n. emitted_item to rows all n s (cs ++ t)) (sum-zero b)
       ∙ play-inline to rows cs t j b s (plain-inline cs h)
 
 -- STATES
@@ -85,7 +85,7 @@ module _ (T : Type 0) {K : Type 0} (k : Tokenizer K) where
   unfolding held_at
   open-front = Front (record {
     more = codes "?>";
-    item = told_as (Some Grave) (CommentToken (codes "?")) 2 (standing k InData);
+    item = token_item (Some Grave) (CommentToken (codes "?")) 2 (standing k InData);
     some = lit< tt;
     whole = refl;
     markup = refl;
@@ -96,7 +96,7 @@ module _ (T : Type 0) {K : Type 0} (k : Tokenizer K) where
   unfolding held_at
   end_open-front = Front (record {
     more = codes "?>";
-    item = told_as (Some Grave) (CommentToken (codes "?")) 2 (standing k InData);
+    item = token_item (Some Grave) (CommentToken (codes "?")) 2 (standing k InData);
     some = lit< tt;
     whole = refl;
     markup = refl;
@@ -105,23 +105,23 @@ module _ (T : Type 0) {K : Type 0} (k : Tokenizer K) where
 
   pub declaration-front : IsPart k.keyword → Untold T state.MarkupDeclarationOpen k
   unfolding held_at
-  declaration-front part = by-mark T k state.MarkupDeclarationOpen (told_as (Some Grave) (CommentToken k.keyword) 1 (standing k InData)) refl refl (λ to b s t.
+  declaration-front part = by-mark T k state.MarkupDeclarationOpen (token_item (Some Grave) (CommentToken k.keyword) 1 (standing k InData)) refl refl (λ to b s t.
       reading-item to.step to.erred to.cdata to.ends (rows_of k) (standing k InData) b s 60 (33 ∷ (k.keyword ++ 62 ∷ t))
       ∙ ap (λ i. played to i k b s (60 ∷ 33 ∷ (k.keyword ++ 62 ∷ t))) (word-bogus (to.cdata s) (standing k InData) k.keyword t part)
-      ∙ play-declared to (rows_of k) k.keyword (62 ∷ t) (told_as (Some Grave) (CommentToken k.keyword) 1 (standing k InData)) b s (part-plain k.keyword part))
+      ∙ play-declared to (rows_of k) k.keyword (62 ∷ t) (token_item (Some Grave) (CommentToken k.keyword) 1 (standing k InData)) b s (part-plain k.keyword part))
 
   -- comments
   pub bogus-front : Untold T state.BogusComment k
   unfolding held_at
-  bogus-front = by-mark T k state.BogusComment (told_as (Some Grave) (CommentToken k.comment) 1 (standing k InData)) refl refl (λ to b s t. refl)
+  bogus-front = by-mark T k state.BogusComment (token_item (Some Grave) (CommentToken k.comment) 1 (standing k InData)) refl refl (λ to b s t. refl)
 
   pub comment_start-front : Untold T state.CommentStart k
   unfolding held_at
-  comment_start-front = by-mark T k state.CommentStart (told_as (Some Grave) (CommentToken []) 1 (standing k InData)) refl refl (λ to b s t. refl)
+  comment_start-front = by-mark T k state.CommentStart (token_item (Some Grave) (CommentToken []) 1 (standing k InData)) refl refl (λ to b s t. refl)
 
   pub comment_start_dash-front : Untold T state.CommentStartDash k
   unfolding held_at
-  comment_start_dash-front = by-mark T k state.CommentStartDash (told_as (Some Grave) (CommentToken []) 1 (standing k InData)) refl refl (λ to b s t. refl)
+  comment_start_dash-front = by-mark T k state.CommentStartDash (token_item (Some Grave) (CommentToken []) 1 (standing k InData)) refl refl (λ to b s t. refl)
 
   -- in a comment, after what may open another or not
   abbrev InComment : State → Type 0
@@ -130,7 +130,7 @@ module _ (T : Type 0) {K : Type 0} (k : Tokenizer K) where
   comment-front_at : (st : State) → InComment st → Untold T st k
   comment-front_at st same = Front (record {
     more = codes "-->";
-    item = told_as None (CommentToken k.comment) 3 (standing k InData);
+    item = token_item None (CommentToken k.comment) 3 (standing k InData);
     some = lit< tt;
     whole = refl;
     markup = refl;
@@ -152,13 +152,13 @@ module _ (T : Type 0) {K : Type 0} (k : Tokenizer K) where
   comment_bang-front = comment-front_at state.CommentLessThanSignBang (λ to b s t. refl)
 
   -- after "-" in one
-  abbrev BehindDash : State → Type 0
-  BehindDash st = (to : Listener T) (b : ℕ) (s : T) (t : List ℕ) → held_at to st k b s t ≡ played to (comment_after (standing k InData) k.comment (45 ∷ t)) k b s (45 ∷ t)
+  abbrev AfterDash : State → Type 0
+  AfterDash st = (to : Listener T) (b : ℕ) (s : T) (t : List ℕ) → held_at to st k b s t ≡ played to (comment_after (standing k InData) k.comment (45 ∷ t)) k b s (45 ∷ t)
 
-  dash-front_at : (st : State) → BehindDash st → Untold T st k
+  dash-front_at : (st : State) → AfterDash st → Untold T st k
   dash-front_at st same = Front (record {
     more = codes "->";
-    item = told_as None (CommentToken k.comment) 2 (standing k InData);
+    item = token_item None (CommentToken k.comment) 2 (standing k InData);
     some = lit< tt;
     whole = refl;
     markup = refl;
@@ -178,15 +178,15 @@ module _ (T : Type 0) {K : Type 0} (k : Tokenizer K) where
   -- after "--", and "--!"
   pub comment_bang_dashes-front : Untold T state.CommentLessThanSignBangDashDash k
   unfolding held_at
-  comment_bang_dashes-front = by-mark T k state.CommentLessThanSignBangDashDash (told_as None (CommentToken k.comment) 1 (standing k InData)) refl refl (λ to b s t. ap (λ i. played to i k b s (45 ∷ 45 ∷ 62 ∷ t)) (comment-closed (standing k InData) k.comment t))
+  comment_bang_dashes-front = by-mark T k state.CommentLessThanSignBangDashDash (token_item None (CommentToken k.comment) 1 (standing k InData)) refl refl (λ to b s t. ap (λ i. played to i k b s (45 ∷ 45 ∷ 62 ∷ t)) (comment-closed (standing k InData) k.comment t))
 
   pub comment_end-front : Untold T state.CommentEnd k
   unfolding held_at
-  comment_end-front = by-mark T k state.CommentEnd (told_as None (CommentToken k.comment) 1 (standing k InData)) refl refl (λ to b s t. ap (λ i. played to i k b s (45 ∷ 45 ∷ 62 ∷ t)) (comment-closed (standing k InData) k.comment t))
+  comment_end-front = by-mark T k state.CommentEnd (token_item None (CommentToken k.comment) 1 (standing k InData)) refl refl (λ to b s t. ap (λ i. played to i k b s (45 ∷ 45 ∷ 62 ∷ t)) (comment-closed (standing k InData) k.comment t))
 
   pub comment_end_bang-front : Untold T state.CommentEndBang k
   unfolding held_at
-  comment_end_bang-front = by-mark T k state.CommentEndBang (told_as (Some Grave) (CommentToken k.comment) 1 (standing k InData)) refl refl (λ to b s t. refl)
+  comment_end_bang-front = by-mark T k state.CommentEndBang (token_item (Some Grave) (CommentToken k.comment) 1 (standing k InData)) refl refl (λ to b s t. refl)
 
   -- doctypes
   pub doctype-front : Untold T state.Doctype k

@@ -11,7 +11,7 @@ use Rattle.html_tokens.specs.declared.states.State.TheVariants as state
 use Rattle.html_tokens.specs.declared.tags.Tag.{Tag}
 use Rattle.html_tokens.specs.declared.tags.TagKind.TheVariants.{EndTag}
 use Rattle.html_tokens.specs.Characters.{ends_tag_name, has_null, all_lowered, run}
-use Rattle.html_tokens.specs.Item.{InData, InRaw, InTag, Stand, Item, moved, behind, behind_all, marked, silent}
+use Rattle.html_tokens.specs.Item.{InData, InRaw, InTag, Stand, Item, moved, longer, longer_by, marked, silent}
 use Rattle.html_tokens.specs.RawText.{is_letters, is_fitting_end, ends_at_tag}
 use Rattle.html_tokens.specs.Table.{Row}
 use Rattle.html_tokens.specs.Tags.{named, name_after, tag_end}
@@ -27,7 +27,7 @@ use Rattle.html_tokenizer.proofs.Untold.Completing.{all-pass, is_inline, play-in
 use Rattle.html_tokenizer.proofs.Untold.Tags.{part-closed}
 use Rattle.html_tokenizer.proofs.Untold.Text.{less_than-told}
 use Rattle.html_tokenizer_parts.proofs.Words.{and_parts, letter-of}
-use Rattle.html_tokenizer.specs.Listeners.{Listener, told_text, told_item}
+use Rattle.html_tokenizer.specs.Listeners.{Listener, emitted_text, emitted_item}
 
 -- LETTERS
 
@@ -96,12 +96,12 @@ no-null (c ∷ word) h =
     let p = and_parts (is_ascii_alphabetic c) (list_all is_ascii_alphabetic word) h in
     rw (letter-no_null c p.0, no-null word p.1) refl
 
-silent-behind : (n : ℕ) (st : Stand) → silent n st ≡ behind_all n (silent 0 st)
+silent-behind : (n : ℕ) (st : Stand) → silent n st ≡ longer_by n (silent 0 st)
 silent-behind zero st = refl
-silent-behind (suc n) st = ap behind (silent-behind n st)
+silent-behind (suc n) st = ap longer (silent-behind n st)
 
 -- a name of letters before ">"
-name-read : (st : Stand) (tag : Tag) (word t : List ℕ) → list_all is_ascii_alphabetic word ≡ true → name_after st tag (word ++ 62 ∷ t) ≡ behind_all (length word) (silent 0 (moved st (InTag (record tag { name = tag.name ++ all_lowered word }))))
+name-read : (st : Stand) (tag : Tag) (word t : List ℕ) → list_all is_ascii_alphabetic word ≡ true → name_after st tag (word ++ 62 ∷ t) ≡ longer_by (length word) (silent 0 (moved st (InTag (record tag { name = tag.name ++ all_lowered word }))))
 name-read st tag word t h =
     let u = word ++ 62 ∷ t in
     let next : List ℕ → Stand = λ w. moved st (InTag (record tag { name = tag.name ++ all_lowered w })) in
@@ -111,9 +111,9 @@ name-read st tag word t h =
     ∙ silent-behind (length word) (next word)
 
 -- a tag that ends after some text and ">"
-ends-later : (st : Stand) (tag : Tag) (w : List ℕ) → behind_all (length w) (tag_end st tag 1) ≡ tag_end st tag (length (w ++ 62 ∷ []))
+ends-later : (st : Stand) (tag : Tag) (w : List ℕ) → longer_by (length w) (tag_end st tag 1) ≡ tag_end st tag (length (w ++ 62 ∷ []))
 ends-later st tag [] = refl
-ends-later st tag (c ∷ w) = ap behind (ends-later st tag w)
+ends-later st tag (c ∷ w) = ap longer (ends-later st tag w)
 
 spelled : (front more word t : List ℕ) → front ++ more ≡ 47 ∷ word → front ++ ((more ++ 62 ∷ []) ++ t) ≡ 47 ∷ (word ++ 62 ∷ t)
 spelled front more word t e = ap (λ u. front ++ u) (append_assoc more (62 ∷ []) t) ∙ sym (append_assoc front more (62 ∷ t)) ∙ ap (λ u. u ++ 62 ∷ t) e
@@ -124,14 +124,14 @@ some-text w = omega (arith, length-append w (62 ∷ []))
 module _ {T : Type 0} (to : Listener T) (rows : List Row) where
   -- the fitting end tag
   end_tag-closed : (st : Stand) (kind : RawKind) (word : List ℕ) (b : ℕ) (s : T) (t : List ℕ) → list_all is_ascii_alphabetic word ≡ true → st.place ≡ InRaw kind → ends_at_tag kind ≡ true → is_fitting_end st.last_start_tag (47 ∷ (word ++ 62 ∷ t)) ≡ true
-      → told_text to rows st b s (60 ∷ 47 ∷ (word ++ 62 ∷ t)) ≡ told_item to rows (tag_end st (named EndTag (all_lowered word)) 1) b s (62 ∷ t)
+      → emitted_text to rows st b s (60 ∷ 47 ∷ (word ++ 62 ∷ t)) ≡ emitted_item to rows (tag_end st (named EndTag (all_lowered word)) 1) b s (62 ∷ t)
   end_tag-closed st kind word b s t w place e fits =
       let tag : Tag = named EndTag (all_lowered word) in
-      let name : Item = behind_all (length word) (silent 0 (moved st (InTag tag))) in
-      reading-is to rows st b s 60 (47 ∷ (word ++ 62 ∷ t)) (behind name) (rw (place, e, fits) (ap (λ i. behind (behind i)) (name-read st (named EndTag []) word t w)))
-      ∙ ap (λ n. told_item to rows (behind name) n s (47 ∷ (word ++ 62 ∷ t))) (sum-zero b)
-      ∙ play-is to rows (behind name) name b s 47 (word ++ 62 ∷ t) refl
-      ∙ ap (λ n. told_item to rows name n s (word ++ 62 ∷ t)) (sum-zero b)
+      let name : Item = longer_by (length word) (silent 0 (moved st (InTag tag))) in
+      reading-is to rows st b s 60 (47 ∷ (word ++ 62 ∷ t)) (longer name) (rw (place, e, fits) (ap (λ i. longer (longer i)) (name-read st (named EndTag []) word t w)))
+      ∙ ap (λ n. emitted_item to rows (longer name) n s (47 ∷ (word ++ 62 ∷ t))) (sum-zero b)
+      ∙ play-is to rows (longer name) name b s 47 (word ++ 62 ∷ t) refl
+      ∙ ap (λ n. emitted_item to rows name n s (word ++ 62 ∷ t)) (sum-zero b)
       ∙ play-inline to rows word (62 ∷ t) (silent 0 (moved st (InTag tag))) b s (letters-inline word w)
       ∙ part-closed to rows st tag b s t
 

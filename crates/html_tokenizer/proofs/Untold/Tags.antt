@@ -15,18 +15,18 @@ use Rattle.html_tokenizer.specs.Rest.{rows_of, standing, held_at}
 use Rattle.html_tokenizer.specs.Untold.{Untold, Front}
 use Rattle.html_tokenizer.proofs.Steps.Readings.{play-is, play-nothing}
 use Rattle.html_tokenizer.proofs.Untold.Completing.{by-mark}
-use Rattle.html_tokenizer.specs.Listeners.{Listener, told_text, told_item}
+use Rattle.html_tokenizer.specs.Listeners.{Listener, emitted_text, emitted_item}
 
 module _ {T : Type 0} (to : Listener T) (rows : List Row) where
   -- ">" in a tag
-  pub tag-closed : (st : Stand) (tag : Tag) (b : ℕ) (s : T) (t : List ℕ) → told_text to rows (moved st (InTag tag)) b s (62 ∷ t) ≡ told_item to rows (tag_end st tag 1) b s (62 ∷ t)
+  pub tag-closed : (st : Stand) (tag : Tag) (b : ℕ) (s : T) (t : List ℕ) → emitted_text to rows (moved st (InTag tag)) b s (62 ∷ t) ≡ emitted_item to rows (tag_end st tag 1) b s (62 ∷ t)
   tag-closed st tag b s t = reading-item to.step to.erred to.cdata to.ends rows (moved st (InTag tag)) b s 62 t
 
   -- the same after a part of it that to.ends here, or with the next character
-  pub part-closed : (st : Stand) (tag : Tag) (b : ℕ) (s : T) (t : List ℕ) → told_item to rows (silent 0 (moved st (InTag tag))) b s (62 ∷ t) ≡ told_item to rows (tag_end st tag 1) b s (62 ∷ t)
+  pub part-closed : (st : Stand) (tag : Tag) (b : ℕ) (s : T) (t : List ℕ) → emitted_item to rows (silent 0 (moved st (InTag tag))) b s (62 ∷ t) ≡ emitted_item to rows (tag_end st tag 1) b s (62 ∷ t)
   part-closed st tag b s t = play-nothing to rows (moved st (InTag tag)) b s (62 ∷ t) ∙ tag-closed st tag b s t
 
-  pub later-closed : (st : Stand) (tag : Tag) (b : ℕ) (s : T) (c : ℕ) (t : List ℕ) → told_item to rows (silent 1 (moved st (InTag tag))) b s (c ∷ 62 ∷ t) ≡ told_item to rows (tag_end st tag 2) b s (c ∷ 62 ∷ t)
+  pub later-closed : (st : Stand) (tag : Tag) (b : ℕ) (s : T) (c : ℕ) (t : List ℕ) → emitted_item to rows (silent 1 (moved st (InTag tag))) b s (c ∷ 62 ∷ t) ≡ emitted_item to rows (tag_end st tag 2) b s (c ∷ 62 ∷ t)
   later-closed st tag b s c t =
       play-is to rows (silent 1 (moved st (InTag tag))) (silent 0 (moved st (InTag tag))) b s c (62 ∷ t) refl
       ∙ part-closed st tag (b + line_break (nat_eq c 10)) s t

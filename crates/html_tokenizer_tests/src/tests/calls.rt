@@ -68,7 +68,7 @@ const PENDING: &[(&str, bool)] = &[
 ];
 
 /// Whether nothing is pending at the start, and nothing or something after a text that is fed.
-fn is_pending_behind<S: TokenSink>(
+fn is_pending_after<S: TokenSink>(
     alloc: Global,
     tokenizer: &mut Tokenizer<S>,
     row: (&str, bool),
@@ -94,7 +94,7 @@ fn is_pending<S: TokenSink + Drop>(
     let Ok(mut tokenizer) = tokenizer_over(alloc, sink, setting) else {
         return false;
     };
-    let is_right = is_pending_behind(alloc, &mut tokenizer, row);
+    let is_right = is_pending_after(alloc, &mut tokenizer, row);
     drop(tokenizer);
     is_right
 }
@@ -263,7 +263,7 @@ fn is_ended<S: TokenSink>(tokenizer: &mut Tokenizer<S>, input: &mut BufferQueue)
 }
 
 /// Whether each call after a text and the end is refused.
-fn is_refused_behind<S: TokenSink>(
+fn is_refused_after<S: TokenSink>(
     alloc: Global,
     tokenizer: &mut Tokenizer<S>,
     text: &str,
@@ -278,7 +278,7 @@ fn is_refused_behind<S: TokenSink>(
 }
 
 /// The same of a tokenizer over this sink, which is lent.
-fn refuses_behind<S: TokenSink>(
+fn refuses_after<S: TokenSink>(
     alloc: Global,
     sink: &mut S,
     text: &str,
@@ -289,7 +289,7 @@ fn refuses_behind<S: TokenSink>(
     let Ok(mut tokenizer) = tokenizer_over(alloc, sink, PAGE) else {
         return false;
     };
-    let is_right = is_refused_behind(alloc, &mut tokenizer, text, input);
+    let is_right = is_refused_after(alloc, &mut tokenizer, text, input);
     drop(tokenizer);
     is_right
 }
@@ -300,17 +300,17 @@ fn has_left_all(alloc: Global, sink: &Listed, input: &BufferQueue) -> bool {
 }
 
 /// Whether calls after the end are refused, and leave the input, which was empty, and the sink as they are.
-fn are_refused_behind(alloc: Global, input: &mut BufferQueue) -> bool {
+fn are_refused_after(alloc: Global, input: &mut BufferQueue) -> bool {
     if put(alloc, input, "b").is_err() {
         return false;
     }
     let mut sink = list_of(alloc, PAGE);
-    refuses_behind(alloc, &mut sink, "a<", input) && has_left_all(alloc, &sink, input)
+    refuses_after(alloc, &mut sink, "a<", input) && has_left_all(alloc, &sink, input)
 }
 
 #[test]
-fn calls_behind_the_end_are_refused(rt: HostRuntime) {
-    assert!(rt; are_refused_behind(rt.alloc(), &mut BufferQueue::new()));
+fn calls_after_the_end_are_refused(rt: HostRuntime) {
+    assert!(rt; are_refused_after(rt.alloc(), &mut BufferQueue::new()));
 }
 
 /// What is read before all that follows is text, what is read then, and the tokens.

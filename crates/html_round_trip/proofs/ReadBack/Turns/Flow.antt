@@ -54,12 +54,12 @@ is_formatting Link = true
 is_formatting _ = false
 
 -- what is left of a state where a heading begins
-abbrev pub behind_heading : State → State
-behind_heading s = choose (current_is (is_in set.HeadingTag) s.open_elems) (λ _. pop_but_root (parse_error s)) (λ _. s)
+abbrev pub after_heading : State → State
+after_heading s = choose (current_is (is_in set.HeadingTag) s.open_elems) (λ _. pop_but_root (parse_error s)) (λ _. s)
 
 -- and where a link begins
-abbrev pub behind_link : State → State
-behind_link s = choose (is_some (last_named (codes "a") s.active_formatting)) (λ _. handle_misnested_a_tags s) (λ _. s)
+abbrev pub after_link : State → State
+after_link s = choose (is_some (last_named (codes "a") s.active_formatting)) (λ _. handle_misnested_a_tags s) (λ _. s)
 
 module _ (o : Around) (head : Option ℕ) (n : ℕ) (top : PlainElement) (f : Forest) (os : List Open) (es : List Entry) (ok : Bool) (attrs : List Attribute) where
   abbrev here : Home → State
@@ -77,7 +77,7 @@ module _ (o : Around) (head : Option ℕ) (n : ℕ) (top : PlainElement) (f : Fo
   start-block (ListElement Ordered) h OfCell = refl
   start-block k h b = absurd (cc)
 
-  pub start-heading : (level : Level) (b : Home) → turn (start_token (spelled (Heading level)) attrs) (here b) ≡ turn_of (insert_element names.Html (spelled (Heading level)) attrs false (behind_heading (close_p_element_in_button_scope (here b)))) (Finished false)
+  pub start-heading : (level : Level) (b : Home) → turn (start_token (spelled (Heading level)) attrs) (here b) ≡ turn_of (insert_element names.Html (spelled (Heading level)) attrs false (after_heading (close_p_element_in_button_scope (here b)))) (Finished false)
   unfolding turn is_foreign using_rules_for rows names_of
   start-heading One OfBody = refl
   start-heading One OfCell = refl
@@ -114,7 +114,7 @@ module _ (o : Around) (head : Option ℕ) (n : ℕ) (top : PlainElement) (f : Fo
   start-format (Formatted Code) h OfCell = refl
   start-format k h b = absurd (cc)
 
-  pub start-link : (b : Home) → turn (start_token (spelled Link) attrs) (here b) ≡ turn_of (create_formatting_element_for (tag_of Link attrs) (reconstruct_active_formatting_elements (behind_link (here b)))) (Finished false)
+  pub start-link : (b : Home) → turn (start_token (spelled Link) attrs) (here b) ≡ turn_of (create_formatting_element_for (tag_of Link attrs) (reconstruct_active_formatting_elements (after_link (here b)))) (Finished false)
   unfolding turn is_foreign using_rules_for rows names_of
   start-link OfBody = refl
   start-link OfCell = refl

@@ -53,9 +53,9 @@ module _ (o : Around) where
     unfolding turn is_foreign using_rules_for rows
     space-in_head c h = rw h refl
 
-    pub space-behind_head : (c : ℕ) → is_space c ≡ true → turn (CharacterTokens (c ∷ [])) (at o head mode.AfterHead f (opened n Html ∷ []) [] true) ≡ turn_of (append_text (c ∷ []) (at o head mode.AfterHead f (opened n Html ∷ []) [] true)) (Finished false)
+    pub space-after_head : (c : ℕ) → is_space c ≡ true → turn (CharacterTokens (c ∷ [])) (at o head mode.AfterHead f (opened n Html ∷ []) [] true) ≡ turn_of (append_text (c ∷ []) (at o head mode.AfterHead f (opened n Html ∷ []) [] true)) (Finished false)
     unfolding turn is_foreign using_rules_for rows
-    space-behind_head c h = rw h refl
+    space-after_head c h = rw h refl
 
     pub start-title : (attrs : List Attribute) → turn (start_token (spelled Title) attrs) (at o head mode.InHead f (opened m Head ∷ opened n Html ∷ []) [] true)
         ≡ turn_of (in_title o head (put_new f (Last m) (element_node Title attrs)) (opened (node_count f) Title ∷ opened m Head ∷ opened n Html ∷ [])) (Replied (RawData Rcdata))

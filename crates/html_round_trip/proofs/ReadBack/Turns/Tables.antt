@@ -75,8 +75,8 @@ module _ (o : Around) (head : Option ℕ) (n : ℕ) (f : Forest) (os : List Open
   next-character c OfRow text = refl
 
   -- what waits is told before a tag is taken
-  pub tag-behind_text : (tag : Tag) (part : Part) (text : List ℕ) → turn (TagToken tag) (inside_waiting part text) ≡ turn_of (restore_mode (insert_pending_text (inside_waiting part text))) Again
+  pub tag-place_after_text : (tag : Tag) (part : Part) (text : List ℕ) → turn (TagToken tag) (inside_waiting part text) ≡ turn_of (restore_mode (insert_pending_text (inside_waiting part text))) Again
   unfolding turn is_foreign using_rules_for rows
-  tag-behind_text tag OfTable text = refl
-  tag-behind_text tag OfBodies text = refl
-  tag-behind_text tag OfRow text = refl
+  tag-place_after_text tag OfTable text = refl
+  tag-place_after_text tag OfBodies text = refl
+  tag-place_after_text tag OfRow text = refl

@@ -1,7 +1,7 @@
 use Rattle.std.proofs.Common.{◌≡◌, ◌≢◌, ◌∙◌, ℕ, List, ap, arith, subst, sym}
 use Rattle.markup.specs.Forest.{reparent_children}
 use Rattle.markup.proofs.Reparented.{reparent_children-same}
-use Rattle.html_forest.specs.Links.{link_at, moved_behind}
+use Rattle.html_forest.specs.Links.{link_at, moved_after}
 use Rattle.html_forest.specs.Views.{IsKept, abouts_of, forest_view, links_of}
 use Rattle.html_forest.proofs.Answers.{below-count, ends-there}
 use Rattle.html_forest.proofs.Moved.{IsKept-reparented}
@@ -32,7 +32,7 @@ kept c =
     let other : c.args.from.now ≢ c.args.to.now = λ same. c.if-number.true (c.number.ensures ∙ (same ∙ sym c.number-2.ensures)) in
     IsKept-reparented f _ ls _ c.args.from.now c.args.to.now c.self.invariant.kept from to apart other
     (omega (arith, length-links_of c.self.inside.nodes.items, length-links_of c.move_children.new.nodes.items, c.move_children.ensures.len))
-    (λ n. c.move_children.ensures.links n ∙ ap (λ (ns : List ℕ). moved_behind c.args.from.now c.args.to.now (link_at ls c.args.to.now).last (link_at ls c.args.from.now).first (link_at ls c.args.from.now).last ns n (link_at ls n)) (children-shown f ls c.self.invariant.kept.is_forest c.self.invariant.kept.count_links c.self.invariant.kept.is_linked c.args.from.now))
+    (λ n. c.move_children.ensures.links n ∙ ap (λ (ns : List ℕ). moved_after c.args.from.now c.args.to.now (link_at ls c.args.to.now).last (link_at ls c.args.from.now).first (link_at ls c.args.from.now).last ns n (link_at ls n)) (children-shown f ls c.self.invariant.kept.is_forest c.self.invariant.kept.count_links c.self.invariant.kept.is_linked c.args.from.now))
 
 pub invariant_of-self : goal.invariant_of-self
 invariant_of-self c = rw c.move_children.ensures.entries (record { kept = IsKept-shown _ _ _ (kept c); stored = c.self.invariant.stored })

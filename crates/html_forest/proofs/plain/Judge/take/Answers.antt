@@ -12,17 +12,17 @@ use Rattle.html_forest.proofs.plain.Judge.take.Goals as goal
 pub returns-in-Some-Text-clause-ok : goal.returns-in-Some-Text-clause-ok
 returns-in-Some-Text-clause-ok c =
     text-taken c.args.forest.now c.requires.tree _ _ c.args.id _ _ _ (sym c.in-Some-Text.ensures.about ∙ ap data_view c.in-Some-Text.field-0-is)
-    c.behind_text-behind.ensures c.go_on.ensures.stand c.go_on.ensures.rest (ap (λ waiting. waiting.items) c.go_on.ensures.waiting)
+    c.place_after_text-behind.ensures c.go_on.ensures.stand c.go_on.ensures.rest (ap (λ waiting. waiting.items) c.go_on.ensures.waiting)
 
 pub returns-in-Some-Doctype-clause-ok : goal.returns-in-Some-Doctype-clause-ok
 returns-in-Some-Doctype-clause-ok c =
     doctype-taken c.args.forest.now c.requires.tree _ _ c.args.id _ _ _ _ _ (sym c.in-Some-Doctype.ensures.about ∙ ap data_view c.in-Some-Doctype.field-0-is)
-    c.behind_doctype-behind.ensures c.go_on-in-Some-Doctype.ensures.stand c.go_on-in-Some-Doctype.ensures.rest (ap (λ waiting. waiting.items) c.go_on-in-Some-Doctype.ensures.waiting)
+    c.after_doctype-behind.ensures c.go_on-in-Some-Doctype.ensures.stand c.go_on-in-Some-Doctype.ensures.rest (ap (λ waiting. waiting.items) c.go_on-in-Some-Doctype.ensures.waiting)
 
 pub returns-in-Some-Comment-clause-ok : goal.returns-in-Some-Comment-clause-ok
 returns-in-Some-Comment-clause-ok c =
     comment-taken c.args.forest.now c.requires.tree _ _ c.args.id _ _ _ (sym c.in-Some-Comment.ensures.about ∙ ap data_view c.in-Some-Comment.field-0-is)
-    c.behind_comment-behind.ensures c.go_on-in-Some-Comment.ensures.stand c.go_on-in-Some-Comment.ensures.rest (ap (λ waiting. waiting.items) c.go_on-in-Some-Comment.ensures.waiting)
+    c.after_comment-behind.ensures c.go_on-in-Some-Comment.ensures.stand c.go_on-in-Some-Comment.ensures.rest (ap (λ waiting. waiting.items) c.go_on-in-Some-Comment.ensures.waiting)
 
 pub returns-in-Some-ProcessingInstruction-clause-ok : goal.returns-in-Some-ProcessingInstruction-clause-ok
 returns-in-Some-ProcessingInstruction-clause-ok c = instruction-taken c.args.forest.now c.requires.tree _ _ c.args.id _ _ (sym c.in-Some-ProcessingInstruction.ensures.about ∙ ap data_view c.in-Some-ProcessingInstruction.field-0-is)

@@ -10,4 +10,4 @@ returns-then-is_ascii_alphabetic g c =
 pub returns : goal.returns
 returns g c =
     let m = g.Sink.TokenSink in
-    word-kept m g.met.Sink.TokenSink.laws _ _ _ _ _ c.requires.at c.kind_behind_word-kind.ensures.letters (sym c.if-is_ascii_alphabetic.ensures.value) c.kind_behind_word-kind.ensures.is c.raw_data_state.ensures
+    word-kept m g.met.Sink.TokenSink.laws _ _ _ _ _ c.requires.at c.kind_after_word-kind.ensures.letters (sym c.if-is_ascii_alphabetic.ensures.value) c.kind_after_word-kind.ensures.is c.raw_data_state.ensures

@@ -3,7 +3,7 @@ use Rattle.html_tokens.specs.Tags.{or_last}
 use Rattle.html_tokenizer.specs.declared.tokenizer.Tokenizer.{Tokenizer}
 use Rattle.html_tokens.specs.declared.token.Token.TheVariants.{TagToken}
 use Rattle.html_tokenizer.proofs.Errors.RefusedErrors.{refused-now, took-stays}
-use Rattle.html_tokenizer.specs.Steps.{IsOfText, state_behind}
+use Rattle.html_tokenizer.specs.Steps.{IsOfText, state_after}
 use Rattle.html_tokenizer.proofs.Errors.Rises.{rises-own}
 use Rattle.html_tokenizer.proofs.Tags.TagEnds.{tag-failed, tag-refused, tag-ended}
 use Rattle.html_tokenizer.proofs.tokenizer.Tokenizer.emit_tag.Goals as goal
@@ -26,4 +26,4 @@ returns g c =
     tag-ended m c.args.self.now c.emit_faulty_tag.new.self c.follow.new.self c.process_tag.new.self
     c.keep_last_start_tag.new.self.raw_end c.process_tag.new.tag c.line-line.result c.in_ok-reply.reply c.follow.result c.requires.fresh c.requires.sound c.in_ok-emit_faulty_tag.ensures
     (c.keep_last_start_tag.ensures.name ∙ ap₂ or_last c.in_ok-own_name.ensures.ok (ap (λ (k : Tokenizer _). k.raw_end.name) c.in_ok-emit_faulty_tag.ensures.changed)) c.line-line.ensures c.in_ok-reply.ensures.gives (c.in_ok-reply.ensures.sound c.in_ok-reply.ensures.failed_after) (took-stays m g.met.Sink.TokenSink.laws _ _ c.in_ok-reply.ensures.failed_after c.in_ok-reply.ensures.same_references)
-    (rises-own m.errors _ _ _ c.in_ok-reply.ensures.counts) (c.follow.ensures.moved ∙ ap (λ (k : Tokenizer _). record k { state = state_behind c.in_ok-reply.reply }) c.keep_last_start_tag.ensures.changed) c.follow.ensures.answer
+    (rises-own m.errors _ _ _ c.in_ok-reply.ensures.counts) (c.follow.ensures.moved ∙ ap (λ (k : Tokenizer _). record k { state = state_after c.in_ok-reply.reply }) c.keep_last_start_tag.ensures.changed) c.follow.ensures.answer

@@ -4,8 +4,8 @@ use Rattle.html_rules_laws.proofs.Progress.UsableTokens.{usable-unhushed}
 use Rattle.html_tree_builder.specs.States.{built}
 use Rattle.html_tree_builder.proofs.builder.TreeBuilder.process_or_fail.Goals as goal
 
-pub take-requires-clause-usable : goal.take-requires-clause-usable
-take-requires-clause-usable g c =
+pub process-requires-clause-usable : goal.process-requires-clause-usable
+process-requires-clause-usable g c =
     let s = built g.Sink.TreeSink c.args.self.now.construction (g.Sink.TreeSink.forest c.args.self.now.sink) in
     subst Usable (sym c.report_line.ensures.same) (usable-unhushed s c.requires.usable)
 

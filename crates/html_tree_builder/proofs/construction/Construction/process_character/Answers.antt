@@ -5,5 +5,5 @@ use Rattle.html_tree_builder.proofs.construction.Construction.process_character.
 
 pub returns-clause-ok : goal.returns-clause-ok
 returns-clause-ok g c =
-    c.in_ok-settle_told.ensures.state
+    c.in_ok-settle_named.ensures.state
     ∙ ap (λ t. (settle t (built g.Sink.TreeSink c.args.self.now (g.Sink.TreeSink.forest c.args.sink.now))).state) c.of-told.ensures.content

@@ -33,8 +33,8 @@ process_run-requires g c =
     let a = its_answers g.Sink.TreeSink in
     record { stands = usable-stands a c.loop-character.self (g.Sink.TreeSink.forest c.loop-character.sink) c.loop-character.invariant.usable c.loop-character.invariant.going }
 
-pub take_front-requires-clause-usable : goal.take_front-requires-clause-usable
-take_front-requires-clause-usable g c = c.loop-character.invariant.usable
+pub process_front-requires-clause-usable : goal.process_front-requires-clause-usable
+process_front-requires-clause-usable g c = c.loop-character.invariant.usable
 
-pub take_front-requires-clause-going : goal.take_front-requires-clause-going
-take_front-requires-clause-going g c = c.loop-character.invariant.going
+pub process_front-requires-clause-going : goal.process_front-requires-clause-going
+process_front-requires-clause-going g c = c.loop-character.invariant.going
