@@ -5,24 +5,24 @@ use examples::outlines::outline;
 use examples::tags::tags;
 use examples::texts::text;
 use examples::tokens::tokens;
-use figpliers::{MemWriter, QuirksMode, References, Report, Token};
+use figpliers::{MemWriter, QuirksMode, References, Report, Token, standard};
 use std::alloc::Global;
 use std::test::Fail;
 
 const PAGE: &str =
-    "<!DOCTYPE html><title>A page</title><style>p {}</style><h1>One <b>and</b></h1><p>See <a href=\"/two?a=1&amp;b\">two</a> or <a href=three>three</a>, <a>none</a>.<h2>End</h2>";
+    "<!DOCTYPE html><title>A caf&eacute;</title><style>p {}</style><h1>One <b>and</b></h1><p>See <a href=\"/two?a=1&amp;b\">two</a> or <a href=three>three</a>, <a>none</a>.<h2>End</h2>";
 
 const NORMAL: &str =
-    "<!DOCTYPE html><html><head><title>A page</title><style>p {}</style></head><body><h1>One <b>and</b></h1><p>See <a href=\"/two?a=1&amp;b\">two</a> or <a href=\"three\">three</a>, <a>none</a>.</p><h2>End</h2></body></html>";
+    "<!DOCTYPE html><html><head><title>A café</title><style>p {}</style></head><body><h1>One <b>and</b></h1><p>See <a href=\"/two?a=1&amp;b\">two</a> or <a href=\"three\">three</a>, <a>none</a>.</p><h2>End</h2></body></html>";
 
 /// The page, as the examples take it.
 fn page(alloc: Global) -> Result<String, Fail> {
     Ok(String::from_str(alloc, PAGE)?)
 }
 
-/// The table that escaping needs.
-fn five(alloc: Global) -> Result<References, Fail> {
-    Ok(References::five(alloc)?)
+/// The Standard's table.
+fn table(alloc: Global) -> Result<References, Fail> {
+    Ok(standard(alloc)?)
 }
 
 #[test]
@@ -43,31 +43,31 @@ fn a_page_has_its_normal_text(rt: HostRuntime) -> Result<(), Fail> {
 #[test]
 fn a_page_is_looked_through(rt: HostRuntime) -> Result<(), Fail> {
     let alloc = rt.alloc();
-    let found = links(alloc, five(alloc)?, page(alloc)?)?;
+    let found = links(alloc, table(alloc)?, page(alloc)?)?;
     for (link, want) in found.iter().zip(["/two?a=1&b", "three"]) {
         assert!(rt; link.as_str() == want);
     }
     assert!(rt; found.len() == 2);
-    let headings = outline(alloc, five(alloc)?, page(alloc)?)?;
+    let headings = outline(alloc, table(alloc)?, page(alloc)?)?;
     for (heading, want) in headings.iter().zip([(1_u8, "One and"), (2, "End")]) {
         assert!(rt; (heading.level, heading.text.as_str()) == want);
     }
     assert!(rt; headings.len() == 2);
-    let shown = text(alloc, five(alloc)?, page(alloc)?)?;
-    assert!(rt; shown.as_str() == "A pageOne andSee two or three, none.End");
+    let shown = text(alloc, table(alloc)?, page(alloc)?)?;
+    assert!(rt; shown.as_str() == "A caféOne andSee two or three, none.End");
     Ok(())
 }
 
 #[test]
 fn tokens_are_listed_and_tags_counted(rt: HostRuntime) -> Result<(), Fail> {
     let alloc = rt.alloc();
-    let listed = tokens(alloc, five(alloc)?, page(alloc)?)?;
+    let listed = tokens(alloc, table(alloc)?, page(alloc)?)?;
     let tag_count = listed
         .told
         .iter()
         .filter(|told| matches!(told.token, Token::TagToken(_)))
         .count();
     assert!(rt; tag_count == 17 && listed.has_ended);
-    assert!(rt; tags(alloc, five(alloc)?, page(alloc)?)? == 17);
+    assert!(rt; tags(alloc, table(alloc)?, page(alloc)?)? == 17);
     Ok(())
 }
