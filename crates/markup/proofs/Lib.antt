@@ -18,5 +18,6 @@ pub mod RisingTexts
 pub mod PlainTexts
 pub mod KnownTexts
 mod PlacedNames
+mod LongNames
 pub mod WholeTrees
 pub mod WalkCalls

@@ -84,6 +84,9 @@ pub const NAMES: [&str; 626] = [
     "zoomAndPan", "zoomandpan",
 ];
 
+// The most bytes of a known name.
+const LONGEST: usize = 31;
+
 /// A known name, by its place in the table.
 #[derive(Clone, Copy, Debug, PartialEq, Eq, Hash)]
 pub struct KnownName {
@@ -137,6 +140,9 @@ pub(crate) fn known_name(name: &str) -> Option<KnownName>
     ensures found { IfSome result (λ known. IsNameAt known.place (chars name.now)) }
     ensures missing { IfNone result (list_any (bytes_eq (chars name.now)) names ≡ false) }
 {
+    if name.len() > LONGEST {
+        return None;
+    }
     let place = place_of(hash_of(name));
     match table().get(place as usize) {
         Some(known) if *known == name => Some(KnownName { place }),
