@@ -19,5 +19,6 @@ pub mod PlainTexts
 pub mod KnownTexts
 mod PlacedNames
 mod LongNames
+mod LoweredNames
 pub mod WholeTrees
 pub mod WalkCalls

@@ -7,7 +7,7 @@ ghost use Rattle.markup.specs.declared.fault.ParseFault.TheVariants.{Memory};
 
 use crate::characters;
 use crate::fault::ParseFault;
-use crate::known_names::KnownName;
+use crate::known_names::{self, KnownName};
 use crate::name_form::NameForm;
 use crate::namespaces::{self, KnownForm, KnownNamespace};
 use crate::text::Text;
@@ -38,7 +38,8 @@ impl Model for LocalName {
 }
 
 impl LocalName {
-    ghost use Rattle.std.specs.Prelude.{◌<◌, ◌==◌, false, length, slice_index_or, IfSome, IfNone};
+    ghost use Rattle.std.specs.Char.{to_ascii_lowercase};
+    ghost use Rattle.std.specs.Prelude.{◌<◌, ◌==◌, false, length, map, slice_index_or, IfSome, IfNone};
     ghost use Rattle.std.specs.List.{list_any};
     ghost use Rattle.markup.specs.KnownNames.{names, IsNameAt};
 
@@ -87,6 +88,21 @@ impl LocalName {
         Ok(LocalName {
             form: NameForm::from_str(alloc, text)?,
         })
+    }
+
+    /// The name of characters that are lent, with ASCII letters lowered.
+    pub fn from_str_lowered(alloc: Global, text: &str) -> Result<LocalName, ParseFault>
+        ensures ok { IfOk result (λ made. made ≡ map to_ascii_lowercase (chars text.now)) }
+        ensures fault { IfErr result (λ fault. fault ≡ Memory) }
+    {
+        match known_names::lowered_name(text) {
+            Some(known) => Ok(LocalName::from_known(alloc, known)),
+            None => {
+                let mut lowered = Text::empty(alloc);
+                lowered.push_lowered(text)?;
+                Ok(LocalName::from_text(lowered))
+            }
+        }
     }
 
     /// The name, lent.
@@ -345,7 +361,10 @@ impl PartialEq for Namespace {
     ghost laws = { partial_equiv_from_equiv nat_list_eq_equiv };
 
     fn eq(&self, other: &Namespace) -> bool {
-        characters::are_same(self.as_str(), other.as_str())
+        match other.known() {
+            Some(known) => self.is_known(known),
+            None => characters::are_same(self.as_str(), other.as_str()),
+        }
     }
 }
 
