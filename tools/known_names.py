@@ -1,4 +1,4 @@
-"""Writes the slots by which a text is found among the known names.
+"""Writes the slots by which a text is found among the known names, and their places in lower case.
 
 The names stand in crates/markup/src/known_names.rt. A name's hash picks a shift, and hash and
 shift pick a slot, which holds the name's place. The shifts are chosen so that no two names share
@@ -24,6 +24,14 @@ MIDDLE = """];
 /// The place of a known name, by the high part of its hash and its shift.
 #[rattlefmt::skip]
 pub(crate) const SLOTS: [u16; 1024] = [
+"""
+
+
+END = """];
+
+/// The place of each known name with its letters lowered.
+#[rattlefmt::skip]
+pub(crate) const LOWERED: [u16; %d] = [
 """
 
 
@@ -54,5 +62,6 @@ for group in sorted(groups, key=len, reverse=True):
     shifts[group[0][0]] = shift
     for _, high, place in group:
         slots[(high + shift) % SLOTS] = place
-text = HEAD + lines(shifts) + MIDDLE + lines([it or 0 for it in slots]) + "];\n"
+text = HEAD + lines(shifts) + MIDDLE + lines([it or 0 for it in slots])
+text += END % len(names) + lines([names.index(name.lower()) for name in names]) + "];\n"
 (ROOT / "known_slots.rt").write_text(text, encoding="ascii")

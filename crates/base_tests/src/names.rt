@@ -388,13 +388,12 @@ fn is_name_copied(alloc: Global, name: &QualName) -> bool {
     }
 }
 
-// Whether a name is copied, and so is each of its parts, and the text of the last.
+// Whether a name is copied, and so is each of its parts.
 fn are_parts_copied(alloc: Global, name: &QualName, words: &[&str; 3]) -> bool {
     is_name_copied(alloc, name)
         && is_prefix_of(alloc, &name.prefix, words[0])
         && is_namespace_copied(alloc, &name.ns, words[1])
         && is_local_name_copied(alloc, &name.local, words[2])
-        && is_text_copied(alloc, name.local.as_text(), words[2])
 }
 
 fn is_copied(alloc: Global, words: &[&str; 3]) -> bool {

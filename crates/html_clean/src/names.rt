@@ -224,7 +224,7 @@ fn has_name_characters(text: &str) -> bool
 fn is_attribute_name(name: &LocalName) -> bool
     ensures { result ≡ is_attribute_name name.now }
 {
-    !name.as_text().is_empty() && has_name_characters(name.as_str())
+    !name.is_empty() && has_name_characters(name.as_str())
 }
 
 /// Whether an attribute is one of those that are never kept.

@@ -22,6 +22,9 @@ pub(crate) fn none(alloc: Global) -> Result<Vec<u32>, AllocError> {
 pub(crate) fn slot(name: &QualName) -> usize
     ensures { result ≤ 1020 }
 {
+    if let Some(known) = name.local.known() {
+        return known.place as usize % VALUES * WAYS;
+    }
     let mut hash: usize = 0;
     for byte in name.local.as_str().as_bytes() {
         hash = hash.wrapping_mul(31).wrapping_add(*byte as usize);

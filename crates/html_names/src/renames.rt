@@ -140,12 +140,11 @@ fn renamed_place(table: &[Rename], place: u16) -> u16
 }
 
 /// A known name as a name of its own.
-fn known_name(alloc: Global, place: u16) -> Result<LocalName, ParseFault>
+fn known_name(alloc: Global, place: u16) -> LocalName
     requires { place < length names }
-    ensures ok { IfOk result (λ name. name ≡ slice_index_or names place []) }
-    ensures fault { IfErr result (λ fault. fault ≡ Memory) }
+    ensures { result ≡ slice_index_or names place [] }
 {
-    LocalName::from_str(alloc, KnownName { place }.as_str())
+    LocalName::from_known(alloc, KnownName { place })
 }
 
 /// The name that a name becomes. It is looked up once.
@@ -178,7 +177,7 @@ fn renamed_known(
     if place == known.place {
         Ok(name)
     } else {
-        known_name(alloc, place)
+        Ok(known_name(alloc, place))
     }
 }
 
@@ -238,7 +237,7 @@ fn adjust_foreign_name(alloc: Global, name: QualName) -> Result<QualName, ParseF
         Some(row) => Ok(QualName::new(
             Some(Prefix::from_known(row.prefix)),
             Namespace::from_known(row.namespace),
-            known_name(alloc, row.name)?,
+            known_name(alloc, row.name),
         )),
     }
 }

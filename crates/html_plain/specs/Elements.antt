@@ -2,6 +2,7 @@
 use Rattle.std.specs.Prelude.{ℕ, Bool, true, false, cond, ◌&&◌, ◌||◌, not, List, [], ◌∷◌, Option, Some, None, is_none, codes}
 use Rattle.std.specs.Str.{bytes_eq}
 use Rattle.markup.specs.Names.{html_namespace}
+pub use Rattle.markup.specs.Names.{html_name}
 use Rattle.markup.specs.declared.names.QualName.{QualName}
 use Rattle.html_plain.specs.declared.elements.CellKind.{CellKind}
 use Rattle.html_plain.specs.declared.elements.CellKind.TheVariants.{Data, Header}
@@ -59,10 +60,6 @@ spelled (Cell kind) = spelled_cell kind
 spelled Break = codes "br"
 spelled (Formatted format) = spelled_format format
 spelled Link = codes "a"
-
--- the name of an HTML element, without a prefix
-abbrev pub html_name : List ℕ → QualName
-html_name local = record { prefix = None; ns = html_namespace; local = local }
 
 abbrev pub elements : List PlainElement
 elements =

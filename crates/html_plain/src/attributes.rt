@@ -24,7 +24,7 @@ fn has_name_characters(text: &str) -> bool
 fn is_plain_name(name: &LocalName) -> bool
     ensures { result ≡ is_plain_name name.now }
 {
-    !name.as_text().is_empty() && has_name_characters(name.as_str())
+    !name.is_empty() && has_name_characters(name.as_str())
 }
 
 /// Whether a name has neither a prefix nor a namespace.
@@ -82,7 +82,7 @@ fn are_many_distinct(alloc: Global, attributes: &[Attribute]) -> Result<bool, Pa
 {
     let mut names = BTreeSet::new(alloc);
     for attribute in attributes {
-        let name = attribute.name.local.as_text().copy(alloc)?;
+        let name = attribute.name.local.copy(alloc)?;
         if !names.insert(name)? {
             return Ok(false);
         }

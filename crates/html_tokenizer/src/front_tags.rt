@@ -14,7 +14,7 @@ use html_queue::SmallCharSet;
 use html_tokens::TagKind;
 use html_tokens::sink::TokenSink;
 use html_tokens::states::State;
-use markup::{Attributes, LocalName, ParseFault, Text};
+use markup::{Attributes, LocalName, ParseFault};
 
 /// NUL, what ends a tag's name, and a carriage return.
 fn name_stops() -> SmallCharSet
@@ -98,10 +98,9 @@ impl<Sink: TokenSink> Tokenizer<Sink> {
         ensures fault { IfErr result (λ fault. fault ≡ Memory) }
         ensures sink { self.new.sink ≡ self.old.sink }
     {
-        let mut text = Text::empty(self.stream.alloc);
-        text.push_lowered(name)?;
+        let name = LocalName::from_str_lowered(self.stream.alloc, name)?;
         self.tag.kind = kind;
-        self.tag.name = LocalName::from_text(text);
+        self.tag.name = name;
         self.tag.self_closing = false;
         self.tag.had_duplicate_attributes = false;
         if !self.tag.attrs.is_empty() {

@@ -18,5 +18,7 @@ pub mod RisingTexts
 pub mod PlainTexts
 pub mod KnownTexts
 mod PlacedNames
+mod LongNames
+mod LoweredNames
 pub mod WholeTrees
 pub mod WalkCalls

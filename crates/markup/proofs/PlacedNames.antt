@@ -3,10 +3,11 @@ use Rattle.std.proofs.Common.{◌≡◌, ◌∙◌, ℕ, zero, suc, ◌+◌, ◌
 use Rattle.std.specs.List.{list_any}
 use Rattle.std.specs.Str.{bytes_eq}
 use Rattle.std.proofs.lemmas.Bool.{and_parts}
+use Rattle.std.proofs.lemmas.Bool.Decides.{Decides-eqb, Decides-like, same_from_decides}
 use Rattle.std.proofs.lemmas.List.{get_or_default}
-use Rattle.std.proofs.lemmas.List.Folds.{list_any_none}
+use Rattle.std.proofs.lemmas.List.Folds.{list_any_at, list_any_none}
 use Rattle.std.proofs.lemmas.Slice.Eq.{bytes_eq-Decides}
-use Rattle.markup.specs.KnownNames.{names}
+use Rattle.markup.specs.KnownNames.{IsNameAt, names}
 use Rattle.markup.specs.KnownSlots.{name_hash, place_at}
 
 -- the texts are at the places from a first one on
@@ -44,3 +45,23 @@ none_placed bytes place p h =
     list_any_none (bytes_eq bytes) names (λ k d l. apart bytes (get_or names k d) _ refl (λ e.
     let here : place ≡ k = p ∙ ap (λ b. place_at (name_hash b)) e ∙ placed k l d in
     h (rw here l) (rw here (get_or_default names k bytes d l ∙ sym e))))
+
+-- a name has one place
+one_place : (i j : ℕ) (name : List ℕ) → IsNameAt i name → IsNameAt j name → i ≡ j
+one_place i j name first second =
+    let same : place_at (name_hash (get_or names i [])) ≡ place_at (name_hash (get_or names j [])) = ap (λ n. place_at (name_hash n)) (first.there ∙ sym second.there) in
+    sym (placed i first.within []) ∙ same ∙ placed j second.within []
+
+-- known names are the same where their places are
+pub same_places : (i j : ℕ) (a b : List ℕ) → IsNameAt i a → IsNameAt j b → (i == j) ≡ bytes_eq a b
+same_places i j a b first second =
+    same_from_decides {P = a ≡ b} (i == j) (bytes_eq a b)
+    (Decides-like {P = i ≡ j} {Q = a ≡ b} (i == j) (λ e. sym first.there ∙ ap (λ k. get_or names k []) e ∙ second.there) (λ e. one_place i j b (rw e at first) second) (Decides-eqb i j))
+    (bytes_eq-Decides a b)
+
+-- a text that is no known name is none of them
+pub not_known : (i : ℕ) (a b : List ℕ) → IsNameAt i a → list_any (bytes_eq b) names ≡ false → bytes_eq b a ≡ false
+not_known i a b known none =
+    apart b a _ refl (λ e.
+    let here : bytes_eq b (get_or names i []) ≡ true = (bytes_eq-Decides b (get_or names i [])).1 (e ∙ sym known.there) in
+    sym none ∙ list_any_at (bytes_eq b) names i [] known.within here)

@@ -5,6 +5,7 @@ pub mod Forest
 pub mod Named
 pub mod TreeLaws
 pub mod TextForm
+pub mod NameForm
 pub mod Namespaces
 pub mod Attributes
 pub mod AttributeIndex

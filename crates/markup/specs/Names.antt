@@ -18,6 +18,10 @@ has_attribute name attributes = list_any (λ attribute. same_name attribute.name
 unfoldable pub html_namespace : List ℕ
 html_namespace = codes "http://www.w3.org/1999/xhtml"
 
+-- the name of an HTML element, without a prefix
+abbrev pub html_name : List ℕ → QualName
+html_name local = record { prefix = None; ns = html_namespace; local = local }
+
 -- whether it is the name of an HTML element with that local name
 abbrev pub is_html_name : Option QualName → List ℕ → Bool
 is_html_name None local = false

@@ -10,7 +10,6 @@ ghost use Rattle.markup.specs.Names.{has_attribute};
 
 use crate::attributes::Attribute;
 use crate::names::{LocalName, QualName};
-use crate::text::Text;
 use std::alloc::Global;
 use std::collections::BTreeMap;
 
@@ -21,13 +20,13 @@ pub(crate) const MANY: usize = 16;
 #[derive(Drop)]
 pub(crate) struct AttributeIndex {
     // Where the first attribute with a local name is.
-    pub(crate) places: BTreeMap<Text, usize>,
+    pub(crate) places: BTreeMap<LocalName, usize>,
     // Whether no local name comes twice.
     pub(crate) are_distinct: bool,
 }
 
 /// Puts one more into an index; false where memory is short.
-fn add(index: &mut AttributeIndex, alloc: Global, name: &Text, place: usize) -> bool
+fn add(index: &mut AttributeIndex, alloc: Global, name: &LocalName, place: usize) -> bool
     ensures { IsTrue result → AddsPlace name.now place index.old index.new }
 {
     if index.places.contains_key(name) {
@@ -52,7 +51,7 @@ fn all(alloc: Global, attributes: &[Attribute]) -> Option<Box<AttributeIndex>>
         return None;
     };
     for place in 0..attributes.len() {
-        let name = attributes[place].name.local.as_text();
+        let name = &attributes[place].name.local;
         if !add(&mut index, alloc, name, place) {
             return None;
         }
@@ -64,7 +63,7 @@ fn all(alloc: Global, attributes: &[Attribute]) -> Option<Box<AttributeIndex>>
 pub(crate) fn with(
     index: Option<Box<AttributeIndex>>,
     alloc: Global,
-    name: &Text,
+    name: &LocalName,
     place: usize,
 ) -> Option<Box<AttributeIndex>>
     ensures { AddsPlaceIf name.now place index result }
@@ -119,7 +118,7 @@ pub(crate) fn has_local_name(
     ensures { result ≡ has_local_name name.now attributes.now }
 {
     match index {
-        Some(index) => index.places.contains_key(name.as_text()),
+        Some(index) => index.places.contains_key(name),
         None => attributes
             .iter()
             .any(|attribute| *name == attribute.name.local),
@@ -135,7 +134,7 @@ fn first<'a>(
     requires { IsIndex index.now attributes.now }
     ensures { option_copied result ≡ find (λ attribute. bytes_eq name.now attribute.name.local) attributes.now }
 {
-    let place = index.places.get(name.as_text())?;
+    let place = index.places.get(name)?;
     attributes.get(*place)
 }
 

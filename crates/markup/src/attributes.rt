@@ -224,12 +224,7 @@ fn put_last(
     ensures fits { FitsIndex result list.new.items }
 {
     let alloc = *list.allocator();
-    let index = attribute_index::with(
-        index,
-        alloc,
-        attribute.name.local.as_text(),
-        list.as_slice().len(),
-    );
+    let index = attribute_index::with(index, alloc, &attribute.name.local, list.as_slice().len());
     list.push_reserved(attribute);
     attribute_index::grown(index, alloc, list.as_slice())
 }

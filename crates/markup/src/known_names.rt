@@ -1,12 +1,13 @@
 //! The names of elements and attributes that the HTML Standard, SVG and MathML know.
 ghost use Rattle.std.specs.Prelude.{◌≡◌, [], false, map, slice_index_or, IfSome, IfNone};
+ghost use Rattle.std.specs.Char.{to_ascii_lowercase};
 ghost use Rattle.std.specs.List.{list_any};
 ghost use Rattle.std.specs.Str.{bytes_eq, chars};
 ghost use Rattle.markup.specs.KnownNames.{names, IsNameAt};
 ghost use Rattle.markup.specs.KnownSlots.{name_hash, place_at};
-ghost use Rattle.markup.specs.declared.known_slots.TheConstants.{SHIFTS, SLOTS};
+ghost use Rattle.markup.specs.declared.known_slots.TheConstants.{LOWERED, SHIFTS, SLOTS};
 
-use crate::known_slots::{SHIFTS, SLOTS};
+use crate::known_slots::{LOWERED, SHIFTS, SLOTS};
 
 /// The known names, in the order of their characters and without repeats: of elements and of attributes, those of SVG both
 /// as they are and as a tag has them, in lower case.
@@ -84,11 +85,21 @@ pub const NAMES: [&str; 626] = [
     "zoomAndPan", "zoomandpan",
 ];
 
+// The most bytes of a known name.
+const LONGEST: usize = 31;
+
 /// A known name, by its place in the table.
 #[derive(Clone, Copy, Debug, PartialEq, Eq, Hash)]
 pub struct KnownName {
     /// The place in the table.
     pub place: u16,
+}
+
+/// The places of known names with their letters lowered, lent.
+fn lowered_places() -> &'static [u16; 626]
+    ensures { result.now ≡ LOWERED }
+{
+    &LOWERED
 }
 
 /// The known names, lent.
@@ -137,11 +148,23 @@ pub(crate) fn known_name(name: &str) -> Option<KnownName>
     ensures found { IfSome result (λ known. IsNameAt known.place (chars name.now)) }
     ensures missing { IfNone result (list_any (bytes_eq (chars name.now)) names ≡ false) }
 {
+    if name.len() > LONGEST {
+        return None;
+    }
     let place = place_of(hash_of(name));
     match table().get(place as usize) {
         Some(known) if *known == name => Some(KnownName { place }),
         _ => None,
     }
+}
+
+/// The known name that a text is with its ASCII letters lowered, if the text itself is a known name.
+pub(crate) fn lowered_name(name: &str) -> Option<KnownName>
+    ensures { IfSome result (λ known. IsNameAt known.place (map to_ascii_lowercase (chars name.now))) }
+{
+    let known = known_name(name)?;
+    let place = lowered_places()[known.place as usize];
+    Some(KnownName { place })
 }
 
 impl KnownName {

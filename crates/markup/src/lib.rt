@@ -13,6 +13,7 @@ pub mod html_names;
 pub mod known_names;
 mod known_slots;
 pub mod laws;
+mod name_form;
 pub mod names;
 pub mod namespaces;
 pub mod node_or_text;

@@ -8,18 +8,21 @@ ghost use Rattle.markup.specs.declared.fault.ParseFault.TheVariants.{Memory};
 use crate::characters;
 use crate::fault::ParseFault;
 use crate::known_names::{self, KnownName};
+use crate::name_form::NameForm;
 use crate::namespaces::{self, KnownForm, KnownNamespace};
 use crate::text::Text;
+use crate::text_form::TextForm;
 use std::alloc::Global;
 use std::cmp::Ordering;
 use std::fmt::{self, Debug};
 use std::hash::{Hash, Hasher};
 use std::marker::Model;
 
-/// The name of an element or an attribute within its namespace, as `table`. A contract sees the list of its characters.
-#[derive(Debug, Drop, PartialEq, Eq, PartialOrd, Ord, Hash)]
+/// The name of an element or an attribute within its namespace, as `table`. A contract sees the list of its characters. A known name
+/// takes no memory: it is held as its place in the table.
+#[derive(Drop)]
 pub struct LocalName {
-    name: Text,
+    form: NameForm,
 }
 
 impl Model for LocalName {
@@ -27,13 +30,16 @@ impl Model for LocalName {
 
     ghost Value = { List ℕ };
 
-    ghost view = { λ n. n.name };
+    ghost use Rattle.markup.specs.NameForm.{form_characters, IsPlaced};
 
-    ghost inverse = { λ characters. record { name = characters } };
+    ghost view = { λ n. form_characters n.form };
+
+    ghost invariant = { λ n. IsPlaced n.form };
 }
 
 impl LocalName {
-    ghost use Rattle.std.specs.Prelude.{false, IfSome, IfNone};
+    ghost use Rattle.std.specs.Char.{to_ascii_lowercase};
+    ghost use Rattle.std.specs.Prelude.{◌<◌, ◌==◌, false, length, map, slice_index_or, IfSome, IfNone};
     ghost use Rattle.std.specs.List.{list_any};
     ghost use Rattle.markup.specs.KnownNames.{names, IsNameAt};
 
@@ -42,7 +48,7 @@ impl LocalName {
         ensures { result ≡ chars (string_bytes text) }
     {
         LocalName {
-            name: Text::new(text),
+            form: NameForm::of(TextForm::Long(text)),
         }
     }
 
@@ -51,7 +57,17 @@ impl LocalName {
         ensures { result ≡ [] }
     {
         LocalName {
-            name: Text::empty(alloc),
+            form: NameForm::empty(alloc),
+        }
+    }
+
+    /// A known name, which takes no memory. What it grows to lies in the memory of `alloc`.
+    pub fn from_known(alloc: Global, known: KnownName) -> LocalName
+        requires { known.place < length names }
+        ensures { result ≡ slice_index_or names known.place [] }
+    {
+        LocalName {
+            form: NameForm::Known(known, alloc),
         }
     }
 
@@ -59,7 +75,9 @@ impl LocalName {
     pub fn from_text(name: Text) -> LocalName
         ensures { result ≡ name }
     {
-        LocalName { name }
+        LocalName {
+            form: NameForm::of(name.into_form()),
+        }
     }
 
     /// The name of characters that are lent.
@@ -68,31 +86,45 @@ impl LocalName {
         ensures fault { IfErr result (λ fault. fault ≡ Memory) }
     {
         Ok(LocalName {
-            name: Text::from_str(alloc, text)?,
+            form: NameForm::from_str(alloc, text)?,
         })
+    }
+
+    /// The name of characters that are lent, with ASCII letters lowered.
+    pub fn from_str_lowered(alloc: Global, text: &str) -> Result<LocalName, ParseFault>
+        ensures ok { IfOk result (λ made. made ≡ map to_ascii_lowercase (chars text.now)) }
+        ensures fault { IfErr result (λ fault. fault ≡ Memory) }
+    {
+        match known_names::lowered_name(text) {
+            Some(known) => Ok(LocalName::from_known(alloc, known)),
+            None => {
+                let mut lowered = Text::empty(alloc);
+                lowered.push_lowered(text)?;
+                Ok(LocalName::from_text(lowered))
+            }
+        }
     }
 
     /// The name, lent.
     pub fn as_str(&self) -> &str
         ensures { chars result.now ≡ self.now }
     {
-        self.name.as_str()
+        self.form.as_str()
     }
 
-    /// The text of the name, lent.
-    pub fn as_text(&self) -> &Text
-        ensures { result.now ≡ self.now }
+    /// Whether there is no character.
+    pub fn is_empty(&self) -> bool
+        ensures { result ≡ (length self.now == 0) }
     {
-        &self.name
+        self.as_str().is_empty()
     }
 
-    /// The known name that this is, if it is one of those in `known_names::NAMES`. It is looked up at each call: who asks for
-    /// it again keeps it.
+    /// The known name that this is, if it is one of those in `known_names::NAMES`. It is looked up once, when the name is made.
     pub fn known(&self) -> Option<KnownName>
         ensures found { IfSome result (λ known. IsNameAt known.place self.now) }
         ensures missing { IfNone result (list_any (bytes_eq self.now) names ≡ false) }
     {
-        known_names::known_name(self.as_str())
+        self.form.known()
     }
 
     /// Whether this is the given name, which is of ASCII alone.
@@ -100,7 +132,7 @@ impl LocalName {
         requires { IsTrue (is_plain plain.now) }
         ensures { result ≡ bytes_eq self.now plain.now }
     {
-        self.name.is(plain)
+        characters::are_same(self.as_str(), plain)
     }
 
     /// Adds a character at the end.
@@ -109,7 +141,7 @@ impl LocalName {
         ensures err { OnErr result (self.new ≡ self.old) }
         ensures fault { IfErr result (λ fault. fault ≡ Memory) }
     {
-        self.name.push(character)?;
+        self.form.push(character)?;
         Ok(())
     }
 
@@ -119,7 +151,7 @@ impl LocalName {
         ensures left { self.new ≡ [] }
     {
         LocalName {
-            name: self.name.take(),
+            form: self.form.take(),
         }
     }
 
@@ -129,8 +161,87 @@ impl LocalName {
         ensures fault { IfErr result (λ fault. fault ≡ Memory) }
     {
         Ok(LocalName {
-            name: self.name.copy(alloc)?,
+            form: self.form.copy(alloc)?,
         })
+    }
+}
+
+impl Debug for LocalName {
+    fn fmt<W: fmt::Write>(&self, f: &mut fmt::Formatter<W>) -> fmt::Result {
+        Debug::fmt(self.as_str(), f)
+    }
+}
+
+impl PartialEq for LocalName {
+    ghost use Rattle.std.specs.Prelude.{nat_eq};
+    ghost use Rattle.std.specs.Cmp.{partial_equiv_from_equiv};
+    ghost use Rattle.std.specs.Cmp.Lexicographic.{pointwise, nat_list_eq_equiv};
+
+    ghost eq = { pointwise nat_eq };
+
+    ghost laws = { partial_equiv_from_equiv nat_list_eq_equiv };
+
+    fn eq(&self, other: &LocalName) -> bool {
+        match (self.known(), other.known()) {
+            (Some(one), Some(two)) => one.place == two.place,
+            (Some(_), None) => false,
+            (None, Some(_)) => false,
+            (None, None) => characters::are_same(self.as_str(), other.as_str()),
+        }
+    }
+}
+
+impl Eq for LocalName {
+    ghost use Rattle.std.specs.Cmp.Lexicographic.{nat_list_eq_equiv};
+
+    ghost laws = { nat_list_eq_equiv };
+}
+
+// Names are ordered by their characters.
+impl PartialOrd for LocalName {
+    ghost use Rattle.std.specs.Prelude.{Some};
+    ghost use Rattle.std.specs.Ordering.{nat_cmp};
+    ghost use Rattle.std.specs.Cmp.Lexicographic.{slice_cmp, texts_po};
+
+    ghost partial_cmp = { λ a b. Some (slice_cmp nat_cmp a b) };
+
+    ghost laws = { texts_po };
+
+    fn partial_cmp(&self, other: &LocalName) -> Option<Ordering> {
+        Some(self.cmp(other))
+    }
+}
+
+impl Ord for LocalName {
+    ghost use Rattle.std.specs.Prelude.{refl};
+    ghost use Rattle.std.specs.Ordering.{nat_cmp};
+    ghost use Rattle.std.specs.Cmp.Lexicographic.{slice_cmp, nat_list_cmp_total, texts_ties};
+
+    ghost cmp = { slice_cmp nat_cmp };
+
+    ghost total = { nat_list_cmp_total };
+
+    ghost matches_partial_cmp = { λ a b. refl };
+
+    ghost matches_eq = { λ a b. texts_ties a b };
+
+    fn cmp(&self, other: &LocalName) -> Ordering {
+        characters::compared(self.as_str(), other.as_str())
+    }
+}
+
+impl Hash for LocalName {
+    ghost use Rattle.std.specs.Prelude.{encode_utf8_all};
+    ghost use Rattle.std.specs.Hash as fed;
+    ghost use Rattle.std.specs.Cmp.Rules.{hashing};
+    ghost use Rattle.std.proofs.Common.{rules};
+
+    ghost hash_input = { λ text. fed.str (encode_utf8_all text) };
+
+    ghost respects_eq = { Prim.search (hashing, rules) };
+
+    fn hash<H: Hasher>(&self, state: &mut H) {
+        characters::feed(self.as_str(), state);
     }
 }
 
@@ -250,7 +361,10 @@ impl PartialEq for Namespace {
     ghost laws = { partial_equiv_from_equiv nat_list_eq_equiv };
 
     fn eq(&self, other: &Namespace) -> bool {
-        characters::are_same(self.as_str(), other.as_str())
+        match other.known() {
+            Some(known) => self.is_known(known),
+            None => characters::are_same(self.as_str(), other.as_str()),
+        }
     }
 }
 

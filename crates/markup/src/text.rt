@@ -34,6 +34,8 @@ impl Model for Text {
 }
 
 impl Text {
+    ghost use Rattle.markup.specs.TextForm.{form_bytes};
+
     /// The text of a string, which keeps its memory and its allocator.
     pub fn new(text: String) -> Text
         ensures { result ≡ chars (string_bytes text) }
@@ -76,6 +78,14 @@ impl Text {
     {
         let Text { form } = self;
         Ok(form.into_string()?)
+    }
+
+    /// What the text is held as.
+    pub(crate) fn into_form(self) -> TextForm
+        ensures { chars (form_bytes result) ≡ self }
+    {
+        let Text { form } = self;
+        form
     }
 
     /// Whether there is no character.

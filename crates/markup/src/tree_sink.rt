@@ -5,7 +5,8 @@ ghost use Rattle.markup.specs.declared.fault.ParseFault.TheVariants.{Memory};
 use crate::attributes::{Attribute, Attributes};
 use crate::fault::ParseFault;
 use crate::flags::ElementFlags;
-use crate::names::QualName;
+use crate::names::{LocalName, Namespace, QualName};
+use crate::namespaces::KnownNamespace;
 use crate::node_or_text::NodeOrText;
 use crate::quirks::QuirksMode;
 use crate::text::Text;
@@ -18,7 +19,7 @@ use std::borrow::CowStr;
 pub trait TreeSink {
     ghost use Rattle.std.specs.Prelude.{List};
     ghost use Rattle.markup.specs.declared.attributes.Attribute.{Attribute};
-    ghost use Rattle.markup.specs.Names.{is_html_name};
+    ghost use Rattle.markup.specs.Names.{html_name, is_html_name};
     ghost use Rattle.markup.specs.Named.{HasContents, is_named};
     ghost use Rattle.markup.specs.Forest.{Forest, IsForest, IsNode, IsParent, MayPut, add_attributes, add_error, children_of, create_element, data_of, element_name, is_among, Above, node_count, parent_of, place_before, place_near, put_child, put_new, remove, reparent_children, set_quirks, with_node};
     ghost use Rattle.markup.specs.Forest.NodeData.{Comment, Doctype, ProcessingInstruction};
@@ -91,6 +92,23 @@ pub trait TreeSink {
         ensures ok { OnOk result (forest self.new ≡ create_element (forest self.old) name attributes flags) }
         ensures err { OnErr result (forest self.new ≡ forest self.old) }
         ensures fault { IfErr result (λ fault. fault ≡ Memory) };
+
+    /// A new element of HTML, as [`TreeSink::create_element`] makes it, by its local name.
+    fn create_html_element(
+        &mut self,
+        name: LocalName,
+        attributes: Attributes,
+        flags: ElementFlags,
+    ) -> Result<Self::Handle, ParseFault>
+        requires { flags.template ≡ is_html_name (Some (html_name name)) (codes "template") }
+        ensures named { IfOk result (λ made. node made ≡ node_count (forest self.old)) }
+        ensures ok { OnOk result (forest self.new ≡ create_element (forest self.old) (html_name name) attributes flags) }
+        ensures err { OnErr result (forest self.new ≡ forest self.old) }
+        ensures fault { IfErr result (λ fault. fault ≡ Memory) }
+    {
+        let html = Namespace::from_known(KnownNamespace::Html);
+        self.create_element(QualName::new(None, html, name), attributes, flags)
+    }
 
     /// A new comment, which stands nowhere yet.
     fn create_comment(&mut self, text: Text) -> Result<Self::Handle, ParseFault>

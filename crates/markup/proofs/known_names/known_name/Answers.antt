@@ -6,6 +6,7 @@ use Rattle.std.specs.Str.{bytes_eq, chars}
 use Rattle.markup.specs.KnownNames.{IsNameAt, names}
 use Rattle.markup.specs.KnownSlots.{place_at}
 use Rattle.markup.proofs.KnownTexts.{names-plain}
+use Rattle.markup.proofs.LongNames.{none_long}
 use Rattle.markup.proofs.Plain.{chars-plain}
 use Rattle.markup.proofs.PlacedNames.{none_placed}
 use Rattle.markup.proofs.PlainTexts.{among_plain, plain-at}
@@ -17,6 +18,10 @@ its_characters place bs h =
     let there = chars-plain (slice_index_or names place []) (plain-at names names-plain place h.within) in
     let plain : chars bs ≡ bs = rw h.there at there in
     rw plain h
+
+pub returns-then-name-gt-LONGEST-clause-missing : goal.returns-then-name-gt-LONGEST-clause-missing
+returns-then-name-gt-LONGEST-clause-missing c =
+    sym (among_plain c.args.name.now c.utf8.name names names-plain) ∙ none_long c.args.name.now c.if-name-gt-LONGEST.true
 
 pub returns-in-Some-clause-found : goal.returns-in-Some-clause-found
 returns-in-Some-clause-found c =
