@@ -1,5 +1,7 @@
 -- What is taken from the front of the input at once.
+pub mod Ahead
 pub mod Attributes
+pub mod Kinds
 pub mod Lines
 pub mod Moves
 pub mod References

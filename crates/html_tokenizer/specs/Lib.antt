@@ -1,3 +1,4 @@
+pub mod AheadRuns
 pub mod Calls
 pub mod EndStates
 pub mod EndText

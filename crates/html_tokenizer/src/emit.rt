@@ -22,6 +22,7 @@ impl<Sink: TokenSink> Tokenizer<Sink> {
     }
 
     /// Hands out a token of the text that is no tag.
+    #[inline(always)]
     pub(crate) fn emit(&mut self, token: Token) -> Result<(), ParseFault>
         requires no_tag { IsNoTag token }
         requires of_text { IsOfText token }

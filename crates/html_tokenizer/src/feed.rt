@@ -84,6 +84,25 @@ impl<Sink: TokenSink> Tokenizer<Sink> {
         }
     }
 
+    /// Takes a run of the front of the input that no set of stops bounds, or else what comes next.
+    fn move_ahead(
+        &mut self,
+        input: &mut BufferQueue,
+    ) -> Result<ProcessResult<Sink::Handle>, ParseFault>
+        requires ready { IsReady Sink.TokenSink self.old }
+        ensures { Moves Sink.TokenSink self.old self.new input.old input.new result }
+    {
+        let Some((kind, run)) = self.run_ahead(input.as_str()) else {
+            return self.move_by_piece(input);
+        };
+        let width = run.len();
+        let copied = Text::from_str(self.stream.alloc, run)?;
+        self.stream.ignore_lf = false;
+        input.skip(width);
+        self.consume_ahead(kind, copied)?;
+        Ok(ProcessResult::Continue)
+    }
+
     /// Takes the lines of data at the front of the input, or else the next character.
     #[inline(always)]
     fn move_by_lines(
@@ -239,7 +258,7 @@ impl<Sink: TokenSink> Tokenizer<Sink> {
         }
         match self.value_read() {
             Some(kind) => self.move_in_value(kind, input),
-            None => self.move_by_piece(input),
+            None => self.move_ahead(input),
         }
     }
 

@@ -19,6 +19,7 @@ mod feed;
 mod front_attributes;
 mod front_lines;
 mod front_references;
+mod front_runs;
 mod front_tags;
 pub mod laws;
 mod open_states;

@@ -225,42 +225,47 @@ module _ {K H : Type 0} (Sink : Ghosts K H) where
             (fails-before Sink old.sink mid.sink new.sink _ fault stays (p.1 notes (coming_in mid.stream t)));
       }
 
-  pub moved-run : (old mid new : Tokenizer K) (from to : Queue) (run : List ℕ) (result : Result (ProcessResult H) ParseFault) → mid ≡ record old { stream = mid.stream } → ComesAsRunAt old mid.stream from to run
-      → KeepsText Sink mid new run result → Moves Sink old new from to result
-  moved-run old mid new from to run (Ok flow.Continue) is h p = record {
+  -- a front was taken as a run, where control characters and noncharacters are not told
+  pub moved-plain : (old mid new : Tokenizer K) (from to : Queue) (run : List ℕ) (result : Result (ProcessResult H) ParseFault) → mid ≡ record old { stream = mid.stream } → IsOther old.stream mid.stream → old.stream.exact_errors ≡ false
+      → Takes run from to → ((t : List ℕ) → coming_in old.stream (run ++ t) ≡ run ++ coming_in mid.stream t) → 0 < length run → KeepsText Sink mid new run result → Moves Sink old new from to result
+  moved-plain old mid new from to run (Ok flow.Continue) is other plain takes front filled p = record {
     taken = run;
-    takes = h.comes.takes;
+    takes = takes;
     came = run;
-    comes = λ t. h.comes.front t ∙ ap (λ s. run ++ coming_in s t) (sym p.stream);
+    comes = λ t. front t ∙ ap (λ s. run ++ coming_in s t) (sym p.stream);
     owed = p.owed;
     rises =
-        let plain : old.stream.exact_errors ≡ false = run-plain old.stream.exact_errors old.char_ref old.state h.stops h.are in
         subst (λ b. Rises Sink.errors (together p.owed (owed_for_text b run)) old.sink new.sink) (sym plain)
         (rises-less Sink.errors old.sink new.sink (text-no-more run p.owed) (subst (λ s. Rises Sink.errors p.owed s new.sink) (ap (λ (k : Tokenizer K). k.sink) is) p.rises));
     same = λ notes t.
-        comes-to old mid (run ++ t) (run ++ coming_in mid.stream t) notes h.comes.changed is (h.comes.front t)
+        comes-to old mid (run ++ t) (run ++ coming_in mid.stream t) notes other is (front t)
         ∙ p.same notes (coming_in mid.stream t)
         ∙ ap (λ s. now Sink new s.breaks (Sink.view new.sink, more p.owed notes) (coming_in s t)) (sym p.stream);
     ready = record { sound = p.sound; fits = p.fits };
     stays = stays-then Sink old.sink mid.sink new.sink (stays-same Sink old.sink mid.sink (ap (λ (k : Tokenizer K). k.sink) is)) p.stays;
-    ended = ap (λ s. s.has_ended) p.stream ∙ ap (λ s. s.has_ended) h.comes.changed;
-    failed = ap (λ s. s.has_failed) p.stream ∙ ap (λ s. s.has_failed) h.comes.changed;
-    exact = ap (λ s. s.exact_errors) p.stream ∙ ap (λ s. s.exact_errors) h.comes.changed;
-    left = h.comes.filled;
+    ended = ap (λ s. s.has_ended) p.stream ∙ ap (λ s. s.has_ended) other;
+    failed = ap (λ s. s.has_failed) p.stream ∙ ap (λ s. s.has_failed) other;
+    exact = ap (λ s. s.exact_errors) p.stream ∙ ap (λ s. s.exact_errors) other;
+    left = filled;
   }
-  moved-run old mid new from to run (Ok flow.Suspend) is h p = absurd p
-  moved-run old mid new from to run (Ok (flow.Script handle)) is h p = absurd p
-  moved-run old mid new from to run (Ok (flow.EncodingIndicator label)) is h p = absurd p
-  moved-run old mid new from to run (Err fault) is h p =
+  moved-plain old mid new from to run (Ok flow.Suspend) is other plain takes front filled p = absurd p
+  moved-plain old mid new from to run (Ok (flow.Script handle)) is other plain takes front filled p = absurd p
+  moved-plain old mid new from to run (Ok (flow.EncodingIndicator label)) is other plain takes front filled p = absurd p
+  moved-plain old mid new from to run (Err fault) is other plain takes front filled p =
       let stays : Stays Sink old.sink mid.sink = stays-same Sink old.sink mid.sink (ap (λ (k : Tokenizer K). k.sink) is) in
       record {
         lost = run;
-        takes = h.comes.takes;
+        takes = takes;
         fell = fell-behind Sink old.sink mid.sink new.sink stays p.0;
         fails = λ notes t.
-            fails-along Sink old.sink new.sink _ _ fault (comes-to old mid (run ++ t) (run ++ coming_in mid.stream t) notes h.comes.changed is (h.comes.front t))
+            fails-along Sink old.sink new.sink _ _ fault (comes-to old mid (run ++ t) (run ++ coming_in mid.stream t) notes other is (front t))
             (fails-before Sink old.sink mid.sink new.sink _ fault stays (p.1 notes (coming_in mid.stream t)));
       }
+
+  pub moved-run : (old mid new : Tokenizer K) (from to : Queue) (run : List ℕ) (result : Result (ProcessResult H) ParseFault) → mid ≡ record old { stream = mid.stream } → ComesAsRunAt old mid.stream from to run
+      → KeepsText Sink mid new run result → Moves Sink old new from to result
+  moved-run old mid new from to run result is h p =
+      moved-plain old mid new from to run result is h.comes.changed (run-plain old.stream.exact_errors old.char_ref old.state h.stops h.are) h.comes.takes h.comes.front h.comes.filled p
 
   -- The run could not be taken.
   pub not-taken : (old new : Tokenizer K) (run : List ℕ) (fault : ParseFault) (result : Result (ProcessResult H) ParseFault) → KeepsRun Sink old new run (Err fault) → IsErrAnd result (λ y. y ≡ fault)

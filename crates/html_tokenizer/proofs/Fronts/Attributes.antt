@@ -31,7 +31,7 @@ use Rattle.html_tokenizer.proofs.Fronts.Texts.{ascii-one, chars-cons, utf8-cons}
 use Rattle.html_tokenizer.proofs.Steps.Keeping.{fits-at}
 use Rattle.html_tokenizer_parts.proofs.Sets.{differs, not-member}
 use Rattle.html_tokenizer.proofs.Tags.States.{tag_name-close, tag_name-space}
-use Rattle.html_tokenizer.proofs.Text.Runs.{name-goes_on, run-held, shown-same, took-then, value-run}
+use Rattle.html_tokenizer.proofs.Text.Runs.{name-goes_on, run-held, set-unbroken, shown-same, took-then, value-run}
 
 -- CHARACTERS
 
@@ -137,7 +137,7 @@ module _ {K H : Type 0} (Sink : Ghosts K H) where
   -- the rest of a name
   name-run : (old : Tokenizer K) (front run : List ℕ) → old.char_ref ≡ None → Sink.is_sound (Sink.view old.sink) → Lacks attribute_stops run → TookRun Sink (naming old front) (naming old (front ++ run)) run
   name-run old front run fresh ok lacking =
-      run-held Sink (naming old) attribute_stops.bits refl (λ front. ok) (λ front. fits-at (naming old front) state.AttributeName (record { state = refl; fresh = fresh }))
+      run-held Sink (naming old) (has attribute_stops.bits) (set-unbroken attribute_stops.bits refl) (λ front. ok) (λ front. fits-at (naming old front) state.AttributeName (record { state = refl; fresh = fresh }))
       (λ front c lacks. name-more Sink (naming old front) c (map to_ascii_lowercase (front ++ c ∷ [])) (record { state = refl; fresh = fresh }) ok (name-goes_on c lacks) (lowered-more front c (not-member attribute_stops.bits c 0 refl lacks)))
       front run lacking
 
@@ -244,7 +244,7 @@ module _ {K H : Type 0} (Sink : Ghosts K H) where
       let first : Took Sink old (valuing old value.Unquoted (c ∷ [])) c flow.Continue =
       value_before-other Sink old (valuing old value.Unquoted (c ∷ [])) c [] (Ok flow.Continue) from (plain-space bits c refl refl refl refl lacks) (differs bits c 62 refl lacks) (differs bits c 34 refl lacks) (differs bits c 39 refl lacks) refl (each [] c lacks) in
       took-then Sink old (valuing old value.Unquoted (c ∷ [])) (valuing old value.Unquoted (c ∷ cs)) c cs (not-member bits c 10 refl lacks) first
-      (run-held Sink (valuing old value.Unquoted) bits refl (λ front. ok) (λ front. fits-at (valuing old value.Unquoted front) (state.AttributeValue value.Unquoted) (record { state = refl; fresh = from.fresh })) each (c ∷ []) cs (All-tail (λ c. has bits c ≡ false) c cs lacking))
+      (run-held Sink (valuing old value.Unquoted) (has bits) (set-unbroken bits refl) (λ front. ok) (λ front. fits-at (valuing old value.Unquoted front) (state.AttributeValue value.Unquoted) (record { state = refl; fresh = from.fresh })) each (c ∷ []) cs (All-tail (λ c. has bits c ≡ false) c cs lacking))
 
   pub plain-front : (old : Tokenizer K) (text taken rest made : List ℕ) → IsAt old state.BeforeAttributeValue → Sink.is_sound (Sink.view old.sink) → text ≡ taken ++ rest → IsUtf8 taken → IsFilled (chars taken) → Lacks plain_stops (chars taken) → made ≡ chars taken
       → TakesFront Sink old (valuing old value.Unquoted made) text rest

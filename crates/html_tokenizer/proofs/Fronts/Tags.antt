@@ -29,7 +29,7 @@ use Rattle.html_tokenizer.proofs.Tags.Opens.{end-letter, open-letter, open-slash
 use Rattle.html_tokenizer.proofs.Errors.Rises.{more-more, rises-same, rises-then}
 use Rattle.html_tokenizer_parts.proofs.Sets.{differs, not-member}
 use Rattle.html_tokenizer.proofs.Tags.States.{tag_name-more}
-use Rattle.html_tokenizer.proofs.Text.Runs.{lowered-same, run-held, took-then}
+use Rattle.html_tokenizer.proofs.Text.Runs.{lowered-same, run-held, set-unbroken, took-then}
 use Rattle.html_tokenizer.proofs.Text.States.{data-opened}
 
 -- CHARACTERS
@@ -130,7 +130,7 @@ module _ {K H : Type 0} (Sink : Ghosts K H) (laws : SinkLaws Sink.is_sound Sink.
   tag-run : (old : Tokenizer K) (kind : TagKind) (front run : List ℕ) → old.char_ref ≡ None → Sink.is_sound (Sink.view old.sink) → Lacks name_stops run → TookRun Sink (opened_tag old kind front) (opened_tag old kind (front ++ run)) run
   tag-run old kind front run fresh ok lacking =
       let bits = name_stops.bits in
-      run-held Sink (opened_tag old kind) bits refl (λ front. ok) (λ front. fits-at (opened_tag old kind front) state.TagName (record { state = refl; fresh = fresh }))
+      run-held Sink (opened_tag old kind) (has bits) (set-unbroken bits refl) (λ front. ok) (λ front. fits-at (opened_tag old kind front) state.TagName (record { state = refl; fresh = fresh }))
       (λ front c lacks. tag_name-more Sink (opened_tag old kind front) c (map to_ascii_lowercase (front ++ c ∷ [])) (record { state = refl; fresh = fresh }) ok (tag-goes_on c lacks) (differs bits c 47 refl lacks) (differs bits c 62 refl lacks) (lowered-more front c (not-member bits c 0 refl lacks)))
       front run lacking
 

@@ -1,6 +1,6 @@
 -- How the machine goes on after "&" and an unknown name.
-use Rattle.std.proofs.Common.{◌≡◌, ◌∙◌, ℕ, ◌+◌, Bool, true, false, nat_eq, List, [], ◌∷◌, Some, None, Result, Ok, Err, refl, sym, ap}
-use Rattle.std.specs.Prelude.{◌&&◌}
+use Rattle.std.proofs.Common.{◌≡◌, ◌∙◌, ℕ, ◌+◌, Bool, true, false, nat_eq, List, [], ◌∷◌, ◌++◌, Some, None, Result, Ok, Err, refl, sym, ap, subst}
+use Rattle.std.specs.Prelude.{◌&&◌, OnOk}
 use Rattle.markup.specs.declared.fault.ParseFault.{ParseFault}
 use Rattle.html_tokens.specs.declared.replies.ProcessResult.{ProcessResult}
 use Rattle.html_tokens.specs.declared.replies.ProcessResult.TheVariants as flow
@@ -10,11 +10,11 @@ use Rattle.html_tokens.specs.declared.sink.TokenSink.{Ghosts}
 use Rattle.html_tokens.specs.Item.{Slight, grave_if}
 use Rattle.html_tokens.specs.Notes.{Notes}
 use Rattle.html_tokens.specs.Reading.{line_break}
-use Rattle.html_tokenizer.specs.Calls.{at_end, Closes}
+use Rattle.html_tokenizer.specs.Calls.{at_end, Closes, KeepsRun, TookRun}
 use Rattle.html_tokenizer_parts.specs.CharRefs.{may_hold}
 use Rattle.html_tokenizer_parts.specs.declared.held_reference.Ampersand.TheVariants.{Held, Unknown}
 use Rattle.html_tokenizer.specs.declared.tokenizer.Tokenizer.{Tokenizer}
-use Rattle.html_tokenizer.specs.Steps.{Owed, and_heard, and_more, together, owed_for, IsAt, more, Erred, Emitted, Took, Keeps, now}
+use Rattle.html_tokenizer.specs.Steps.{Owed, and_heard, and_more, together, owed_for, IsAt, more, Erred, Emitted, FailsOver, Took, Keeps, now}
 use Rattle.html_tokenizer.proofs.Steps.Keeping.{Absorbs, fails-along, keeps-behind, keeps_erred, now-at, stays-same}
 use Rattle.html_tokenizer.proofs.HeldReferences.Holding.{Resolves, held-other_reference, now-resolved}
 use Rattle.html_tokenizer.proofs.Errors.Rises.{more-more, rises-slight, rises-then}
@@ -63,6 +63,47 @@ module _ {K H : Type 0} (Sink : Ghosts K H) where
     stays = h.stays;
     paused = tt;
   }
+
+  -- A run more of it was taken.
+  took-run_unknown : (old mid : Tokenizer K) (run : List ℕ) (st : State) → IsAt old st → IsAt mid st → may_hold st ≡ true
+      → TookRun Sink old mid run → TookRun Sink (record old { char_ref = Some Unknown }) (record mid { char_ref = Some Unknown }) run
+  took-run_unknown old mid run st from to fits h = record {
+    owed = h.owed;
+    rises = h.rises;
+    same = λ notes t.
+        now-unknown old old.stream.breaks (Sink.view old.sink, notes) (run ++ t) from.fresh (ap may_hold from.state ∙ fits)
+        ∙ h.same (more (owed_for (Some Slight)) notes) t
+        ∙ ap (λ n. now Sink mid old.stream.breaks (Sink.view mid.sink, n) t) (slight-behind h.owed notes)
+        ∙ sym (now-unknown mid old.stream.breaks (Sink.view mid.sink, more h.owed notes) t to.fresh (ap may_hold to.state ∙ fits));
+    stream = h.stream;
+    sound = h.sound;
+    fits = ap may_hold to.state ∙ fits;
+    stays = h.stays;
+    paused = tt;
+  }
+
+  -- the machine without the name before it
+  abbrev pub unnamed : Tokenizer K → Tokenizer K
+  unnamed k = record k { char_ref = None }
+
+  pub unnamed-at : (k : Tokenizer K) → IsAt (unnamed k) k.state
+  unnamed-at k = record { state = refl; fresh = refl }
+
+  named-again : (k : Tokenizer K) → k.char_ref ≡ Some Unknown → record (unnamed k) { char_ref = Some Unknown } ≡ k
+  named-again k e = ap (λ r. record k { char_ref = r }) (sym e)
+
+  -- A run is taken as where no name stands before it, and the name stands still.
+  pub run-kept_unknown : (old new : Tokenizer K) (run : List ℕ) (result : Result (Unit {0}) ParseFault) → old.char_ref ≡ Some Unknown → may_hold old.state ≡ true → OnOk result ((new.state ≡ old.state) × (new.char_ref ≡ Some Unknown))
+      → KeepsRun Sink (unnamed old) (unnamed new) run result → KeepsRun Sink old new run result
+  run-kept_unknown old new run (Ok x) e holds still h =
+      subst (λ k. TookRun Sink k new run) (named-again old e)
+      (subst (λ k. TookRun Sink (record (unnamed old) { char_ref = Some Unknown }) k run) (named-again new still.1)
+      (took-run_unknown (unnamed old) (unnamed new) run old.state (unnamed-at old) (record { state = still.0; fresh = refl }) holds h))
+  run-kept_unknown old new run (Err fault) e holds still h =
+      subst (λ k. FailsOver Sink run k new.sink fault) (named-again old e) (
+        h.0,
+        λ notes t. fails-along Sink old.sink new.sink _ _ fault (now-unknown (unnamed old) old.stream.breaks (Sink.view old.sink, notes) (run ++ t) refl holds) (h.1 (more (owed_for (Some Slight)) notes) t),
+      )
 
   -- what is slight before such a name changes nothing
   unknown-absorbs : (old : Tokenizer K) (c : ℕ) → old.char_ref ≡ None → may_hold old.state ≡ true → Absorbs Sink (record old { char_ref = Some Unknown }) c

@@ -32,7 +32,7 @@ use Rattle.html_tokenizer.proofs.RawText.States.{shown-says}
 use Rattle.html_tokenizer.proofs.Text.States.{data-char}
 
 -- a letter or a digit may be held, and is no dash, no quote and no end of a word
-named-held : (c : ℕ) → is_ascii_alphanumeric c ≡ true → is_held c ≡ true
+pub named-held : (c : ℕ) → is_ascii_alphanumeric c ≡ true → is_held c ≡ true
 named-held c h = rw h refl
 
 named-no_dash : (c : ℕ) → is_ascii_alphanumeric c ≡ true → nat_eq c 45 ≡ false
@@ -68,7 +68,7 @@ module _ {K H : Type 0} (Sink : Ghosts K H) where
   unknown-failed owed old new c st token result fault from fits ok is fails law =
       keeps-unknown Sink old new c result from.fresh (ap may_hold from.state ∙ fits) (failed Sink owed old new c st token result fault (λ b s t. at Sink st old (b + line_break (nat_eq c 10)) s t) from ok is fails law)
 
-  value-more : (kind : AttrValueKind) (old : Tokenizer K) (c : ℕ) (text : List ℕ) → IsAt old (state.AttributeValue kind) → Sink.is_sound (Sink.view old.sink) → is_ascii_alphanumeric c ≡ true → text ≡ old.attribute_value ++ c ∷ []
+  pub value-more : (kind : AttrValueKind) (old : Tokenizer K) (c : ℕ) (text : List ℕ) → IsAt old (state.AttributeValue kind) → Sink.is_sound (Sink.view old.sink) → is_ascii_alphanumeric c ≡ true → text ≡ old.attribute_value ++ c ∷ []
       → Took Sink old (record old { attribute_value = text }) c flow.Continue
   value-more value.Unquoted old c text from ok named is = unquoted-more Sink old c text from ok (named-no_end c named) (named-apart c 38 named refl) (value-named old.attribute_value text c named is)
   value-more value.SingleQuoted old c text from ok named is = quoted-more Sink old value.SingleQuoted 39 c text from ok refl (named-apart c 39 named refl) (named-apart c 38 named refl) (value-named old.attribute_value text c named is)

@@ -29,13 +29,13 @@ use Rattle.html_tokenizer.proofs.Steps.Lawful.{noting-lawful, erred-sound, erred
 use Rattle.html_tokenizer.specs.Listeners.{listening}
 
 module _ {K : Type 0} (k : Tokenizer K) where
-  data-reads : ReadsHeld (rows_of k) (standing k InData)
+  pub data-reads : ReadsHeld (rows_of k) (standing k InData)
   data-reads = record {
     reference = λ x t. refl;
     plain = λ x c t h. rw (held-no_open c h, held-no_reference c h, held-no_null c h) refl;
   }
 
-  rcdata-reads : ReadsHeld (rows_of k) (standing k (InRaw raw.Rcdata))
+  pub rcdata-reads : ReadsHeld (rows_of k) (standing k (InRaw raw.Rcdata))
   rcdata-reads = record {
     reference = λ x t. refl;
     plain = λ x c t h. rw (held-no_open c h, held-no_reference c h, held-no_null c h) refl;

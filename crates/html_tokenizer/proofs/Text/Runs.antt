@@ -53,6 +53,10 @@ use Rattle.html_tokenizer.specs.Listeners.{Listener, listening, emitted_text}
 pub lowered-same : (c : ℕ) → nat_eq c 0 ≡ false → lowered c ≡ to_ascii_lowercase c
 lowered-same c e = grind (arith, nat_tests, e)
 
+-- a set with the line feed has each line feed
+pub set-unbroken : (bits : ℕ) → has bits 10 ≡ true → (c : ℕ) → has bits c ≡ false → nat_eq c 10 ≡ false
+set-unbroken bits feed c lacks = not-member bits c 10 feed lacks
+
 -- what is not in the set ends no attribute's name
 pub name-goes_on : (c : ℕ) → has attribute_stops.bits c ≡ false → ends_attribute_name c ≡ false
 name-goes_on c lacks =
@@ -62,28 +66,28 @@ name-goes_on c lacks =
 -- READINGS
 
 module _ {T : Type 0} (sound : T → Type 0) (to : Listener T) (rows : List Row) (laws : Lawful sound to.step) where
-  -- Each character that is not in a set, which has the line feed, is read as itself.
-  module _ (bits : ℕ) (unbroken : has bits 10 ≡ true) (st : Stand) (plain : (c : ℕ) → has bits c ≡ false → (x : Bool) (t : List ℕ) → item rows x st c t ≡ character c st) where
-    one-told : (b : ℕ) (s : T) → sound s → (c : ℕ) (t : List ℕ) (l : ℕ) → has bits c ≡ false
+  -- Each character at which a run does not end is read as itself; at a line feed it ends.
+  module _ (ends : ℕ → Bool) (unbroken : (c : ℕ) → ends c ≡ false → nat_eq c 10 ≡ false) (st : Stand) (plain : (c : ℕ) → ends c ≡ false → (x : Bool) (t : List ℕ) → item rows x st c t ≡ character c st) where
+    one-told : (b : ℕ) (s : T) → sound s → (c : ℕ) (t : List ℕ) (l : ℕ) → ends c ≡ false
         → emitted_text to rows st b s (c ∷ t) ≡ (to.step s (CharacterTokens (c ∷ [])) l >>= λ p. emitted_text to rows st b p.0 t)
-    one-told b s h c t l lacks = reading-text sound to rows laws st st b s h c t l (not-member bits c 10 unbroken lacks) (plain c lacks (to.cdata s) t)
+    one-told b s h c t l lacks = reading-text sound to rows laws st st b s h c t l (unbroken c lacks) (plain c lacks (to.cdata s) t)
 
     -- text, and then a run more of it
-    run-more : (b : ℕ) (s : T) → sound s → (front run t : List ℕ) (l : ℕ) → All (λ c. has bits c ≡ false) run
+    run-more : (b : ℕ) (s : T) → sound s → (front run t : List ℕ) (l : ℕ) → All (λ c. ends c ≡ false) run
         → (to.step s (CharacterTokens front) l >>= λ p. emitted_text to rows st b p.0 (run ++ t)) ≡ (to.step s (CharacterTokens (front ++ run)) l >>= λ p. emitted_text to rows st b p.0 t)
     run-more b s h front [] t l lacking = ap (λ a. to.step s (CharacterTokens a) l >>= λ p. emitted_text to rows st b p.0 t) (sym (append-nil front))
     run-more b s h front (c ∷ run) t l lacking =
-        told-more sound to rows laws st st b s h front c (run ++ t) l (λ s h. one-told b s h c (run ++ t) l (All-head (λ c. has bits c ≡ false) c run lacking))
-        ∙ run-more b s h (front ++ c ∷ []) run t l (All-tail (λ c. has bits c ≡ false) c run lacking)
+        told-more sound to rows laws st st b s h front c (run ++ t) l (λ s h. one-told b s h c (run ++ t) l (All-head (λ c. ends c ≡ false) c run lacking))
+        ∙ run-more b s h (front ++ c ∷ []) run t l (All-tail (λ c. ends c ≡ false) c run lacking)
         ∙ ap (λ a. to.step s (CharacterTokens a) l >>= λ p. emitted_text to rows st b p.0 t) (append_assoc front (c ∷ []) run)
 
     -- a run is read as one text
-    pub run-told : (b : ℕ) (s : T) → sound s → (run t : List ℕ) (l : ℕ) → 0 < length run → All (λ c. has bits c ≡ false) run
+    pub run-told : (b : ℕ) (s : T) → sound s → (run t : List ℕ) (l : ℕ) → 0 < length run → All (λ c. ends c ≡ false) run
         → emitted_text to rows st b s (run ++ t) ≡ (to.step s (CharacterTokens run) l >>= λ p. emitted_text to rows st b p.0 t)
     run-told b s h [] t l filled lacking = absurd (omega arith)
     run-told b s h (c ∷ run) t l filled lacking =
-        one-told b s h c (run ++ t) l (All-head (λ c. has bits c ≡ false) c run lacking)
-        ∙ run-more b s h (c ∷ []) run t l (All-tail (λ c. has bits c ≡ false) c run lacking)
+        one-told b s h c (run ++ t) l (All-head (λ c. ends c ≡ false) c run lacking)
+        ∙ run-more b s h (c ∷ []) run t l (All-tail (λ c. ends c ≡ false) c run lacking)
 
 -- CHARACTERS
 
@@ -95,7 +99,7 @@ and-false true = refl
 and-false false = refl
 
 -- a character of raw text that stands for itself, and changes no kind
-raw-by : {K : Type 0} (k : Tokenizer K) (kind : RawKind) (x : Bool) (c : ℕ) (t : List ℕ) → nat_eq c 60 ≡ false → nat_eq c 0 ≡ false → (nat_eq c 38 && has_references kind) ≡ false → next_kind kind c t ≡ kind
+pub raw-by : {K : Type 0} (k : Tokenizer K) (kind : RawKind) (x : Bool) (c : ℕ) (t : List ℕ) → nat_eq c 60 ≡ false → nat_eq c 0 ≡ false → (nat_eq c 38 && has_references kind) ≡ false → next_kind kind c t ≡ kind
     → item (rows_of k) x (standing k (InRaw kind)) c t ≡ character c (standing k (InRaw kind))
 raw-by k kind x c t e z f same =
     raw-item k kind x c t (rw e refl) f
@@ -154,10 +158,10 @@ lacking-in a b run e lacking = rw (some-same a b e) lacking
 
 module _ {K H : Type 0} (Sink : Ghosts K H) where
   -- A run is told next, as one text.
-  abbrev RunSays : State → Tokenizer K → List ℕ → Type 0
+  abbrev pub RunSays : State → Tokenizer K → List ℕ → Type 0
   RunSays st old run = (b : ℕ) (s : Sink.State × Notes ℕ) → Sink.is_sound s.0 → (t : List ℕ) → at Sink st old b s (run ++ t) ≡ (noting Sink.step Sink.is_quiet s (CharacterTokens run) (line_number b) >>= λ p. at Sink st old b p.0 t)
 
-  run-kept : (old new : Tokenizer K) (run : List ℕ) (st : State) (result : Result (Unit {0}) ParseFault) → IsAt old st → Sink.is_sound (Sink.view old.sink) → Tells Sink nothing_owed (CharacterTokens run) old new result → RunSays st old run
+  pub run-kept : (old new : Tokenizer K) (run : List ℕ) (st : State) (result : Result (Unit {0}) ParseFault) → IsAt old st → Sink.is_sound (Sink.view old.sink) → Tells Sink nothing_owed (CharacterTokens run) old new result → RunSays st old run
       → KeepsRun Sink old new run result
   run-kept old new run st (Ok x) from ok told law = record {
     paused = tt;
@@ -211,34 +215,34 @@ module _ {K H : Type 0} (Sink : Ghosts K H) where
     stays = stays-then Sink old.sink mid.sink new.sink h.stays took.stays;
   }
 
-  -- A machine by what it holds of a text, where each character that is not in a set is held after the others, and is quiet only
+  -- A machine by what it holds of a text, where each character at which a run does not end is held after the others, and is quiet only
   -- where it is not odd.
-  module _ (machine : List ℕ → Tokenizer K) (bits : ℕ) (odd : ℕ → Bool) (unbroken : has bits 10 ≡ true) (ok : (front : List ℕ) → Sink.is_sound (Sink.view (machine front).sink)) (fits : (front : List ℕ) → fits_in (rows_of (machine front)) (machine front).char_ref (machine front).state ≡ true)
-      (each : (front : List ℕ) (c : ℕ) → has bits c ≡ false → (took : Took Sink (machine front) (machine (front ++ c ∷ [])) c flow.Continue) × (took.owed.is_quiet ≡ true → odd c ≡ false)) where
-    run-noted : (front run : List ℕ) → All (λ c. has bits c ≡ false) run → (took : TookRun Sink (machine front) (machine (front ++ run)) run) × (took.owed.is_quiet ≡ true → how_many odd run ≡ 0)
+  module _ (machine : List ℕ → Tokenizer K) (ends : ℕ → Bool) (odd : ℕ → Bool) (unbroken : (c : ℕ) → ends c ≡ false → nat_eq c 10 ≡ false) (ok : (front : List ℕ) → Sink.is_sound (Sink.view (machine front).sink)) (fits : (front : List ℕ) → fits_in (rows_of (machine front)) (machine front).char_ref (machine front).state ≡ true)
+      (each : (front : List ℕ) (c : ℕ) → ends c ≡ false → (took : Took Sink (machine front) (machine (front ++ c ∷ [])) c flow.Continue) × (took.owed.is_quiet ≡ true → odd c ≡ false)) where
+    run-noted : (front run : List ℕ) → All (λ c. ends c ≡ false) run → (took : TookRun Sink (machine front) (machine (front ++ run)) run) × (took.owed.is_quiet ≡ true → how_many odd run ≡ 0)
     unfolding took-then
     run-noted front [] lacking =
         let none : (took : TookRun Sink (machine front) (machine front) []) × (took.owed.is_quiet ≡ true → how_many odd [] ≡ 0) =
         (record { paused = tt; owed = nothing_owed; rises = rises-same Sink.errors (machine front).sink (machine front).sink refl; same = λ notes t. refl; stream = refl; sound = ok front; fits = fits front; stays = stays-same Sink (machine front).sink (machine front).sink refl }, λ h. refl) in
         rw (append-nil front) none
     run-noted front (c ∷ run) lacking =
-        let lacks = All-head (λ c. has bits c ≡ false) c run lacking in
+        let lacks = All-head (λ c. ends c ≡ false) c run lacking in
         let first = each front c lacks in
-        let rest = run-noted (front ++ c ∷ []) run (All-tail (λ c. has bits c ≡ false) c run lacking) in
+        let rest = run-noted (front ++ c ∷ []) run (All-tail (λ c. ends c ≡ false) c run lacking) in
         let both : (took : TookRun Sink (machine front) (machine ((front ++ c ∷ []) ++ run)) (c ∷ run)) × (took.owed.is_quiet ≡ true → how_many odd (c ∷ run) ≡ 0) = (
-          took-then (machine front) (machine (front ++ c ∷ [])) (machine ((front ++ c ∷ []) ++ run)) c run (not-member bits c 10 unbroken lacks) first.0 rest.0,
+          took-then (machine front) (machine (front ++ c ∷ [])) (machine ((front ++ c ∷ []) ++ run)) c run (unbroken c lacks) first.0 rest.0,
           λ h. none-odd odd c run (first.1 (and_parts rest.0.owed.is_quiet first.0.owed.is_quiet h).1) (rest.1 (and_parts rest.0.owed.is_quiet first.0.owed.is_quiet h).0),
         ) in
         rw (append_assoc front (c ∷ []) run) at both
 
   -- The same, where nothing is said of what is odd.
-  pub run-held : (machine : List ℕ → Tokenizer K) (bits : ℕ) → has bits 10 ≡ true → ((front : List ℕ) → Sink.is_sound (Sink.view (machine front).sink)) → ((front : List ℕ) → fits_in (rows_of (machine front)) (machine front).char_ref (machine front).state ≡ true)
-      → ((front : List ℕ) (c : ℕ) → has bits c ≡ false → Took Sink (machine front) (machine (front ++ c ∷ [])) c flow.Continue)
-      → (front run : List ℕ) → All (λ c. has bits c ≡ false) run → TookRun Sink (machine front) (machine (front ++ run)) run
-  run-held machine bits unbroken ok fits each front run lacking = (run-noted machine bits (λ c. false) unbroken ok fits (λ front c lacks. (each front c lacks, λ h. refl)) front run lacking).0
+  pub run-held : (machine : List ℕ → Tokenizer K) (ends : ℕ → Bool) → ((c : ℕ) → ends c ≡ false → nat_eq c 10 ≡ false) → ((front : List ℕ) → Sink.is_sound (Sink.view (machine front).sink)) → ((front : List ℕ) → fits_in (rows_of (machine front)) (machine front).char_ref (machine front).state ≡ true)
+      → ((front : List ℕ) (c : ℕ) → ends c ≡ false → Took Sink (machine front) (machine (front ++ c ∷ [])) c flow.Continue)
+      → (front run : List ℕ) → All (λ c. ends c ≡ false) run → TookRun Sink (machine front) (machine (front ++ run)) run
+  run-held machine ends unbroken ok fits each front run lacking = (run-noted machine ends (λ c. false) unbroken ok fits (λ front c lacks. (each front c lacks, λ h. refl)) front run lacking).0
 
   -- A run is held, if there is memory.
-  held-kept : (old : Tokenizer K) (machine : List ℕ → Tokenizer K) (front whole run : List ℕ) (result : Result (Unit {0}) ParseFault) → OnOk result (front ≡ whole) → IfErr result (λ fault. fault ≡ Memory) → Fell Sink old.sink (machine front).sink → TookRun Sink old (machine whole) run
+  pub held-kept : (old : Tokenizer K) (machine : List ℕ → Tokenizer K) (front whole run : List ℕ) (result : Result (Unit {0}) ParseFault) → OnOk result (front ≡ whole) → IfErr result (λ fault. fault ≡ Memory) → Fell Sink old.sink (machine front).sink → TookRun Sink old (machine whole) run
       → KeepsRun Sink old (machine front) run result
   held-kept old machine front whole run (Ok x) is fault fell took = rw is took
   held-kept old machine front whole run (Err e) is fault fell took = rw fault (fell, λ notes t. tt)
@@ -247,7 +251,7 @@ module _ {K H : Type 0} (Sink : Ghosts K H) where
       → has bits 0 ≡ true → has bits 10 ≡ true → has bits 38 ≡ true → has bits quote ≡ true → All (λ c. has bits c ≡ false) run
       → TookRun Sink old (record old { attribute_value = old.attribute_value ++ run }) run
   quoted-run old kind quote bits run from ok quoted null unbroken amp ended lacking =
-      run-held (λ front. record old { attribute_value = front }) bits unbroken (λ front. ok) (λ front. fits-at old (state.AttributeValue kind) from)
+      run-held (λ front. record old { attribute_value = front }) (has bits) (set-unbroken bits unbroken) (λ front. ok) (λ front. fits-at old (state.AttributeValue kind) from)
       (λ front c lacks. quoted-more Sink (record old { attribute_value = front }) kind quote c (front ++ c ∷ []) (record { state = from.state; fresh = from.fresh }) ok quoted (differs bits c quote ended lacks) (differs bits c 38 amp lacks) (ap (λ d. front ++ d ∷ []) (sym (shown-same c (not-member bits c 0 null lacks)))))
       old.attribute_value run lacking
 
@@ -272,7 +276,7 @@ module _ {K H : Type 0} (Sink : Ghosts K H) where
       let bits = attribute_stops.bits in
       let machine : List ℕ → Tokenizer K = λ front. record old { attribute_name = old.attribute_name ++ map to_ascii_lowercase front } in
       let whole : TookRun Sink (machine []) (machine run) run =
-      run-held machine bits refl (λ front. ok) (λ front. fits-at old state.AttributeName from)
+      run-held machine (has bits) (set-unbroken bits refl) (λ front. ok) (λ front. fits-at old state.AttributeName from)
       (λ front c lacks. name-more Sink (machine front) c (old.attribute_name ++ map to_ascii_lowercase (front ++ c ∷ [])) (record { state = from.state; fresh = from.fresh }) ok (name-goes_on c lacks) (lowered-run old.attribute_name front c (not-member bits c 0 refl lacks)))
       [] run lacking in
       subst (λ name. TookRun Sink (record old { attribute_name = name }) (machine run) run) (append-nil old.attribute_name) whole
@@ -300,7 +304,7 @@ module _ {K H : Type 0} (Sink : Ghosts K H) where
       → (took : TookRun Sink old (record old { attribute_value = old.attribute_value ++ run }) run) × (took.owed.is_quiet ≡ true → how_many is_odd_unquoted run ≡ 0)
   unquoted-run old run from ok lacking =
       let bits = (value_stops value.Unquoted).bits in
-      run-noted (λ front. record old { attribute_value = front }) bits is_odd_unquoted refl (λ front. ok) (λ front. fits-at old (state.AttributeValue value.Unquoted) from)
+      run-noted (λ front. record old { attribute_value = front }) (has bits) is_odd_unquoted (set-unbroken bits refl) (λ front. ok) (λ front. fits-at old (state.AttributeValue value.Unquoted) from)
       (λ front c lacks. rw (shown-same c (not-member bits c 0 refl lacks)) at (
       unquoted-held Sink (record old { attribute_value = front }) c (record { state = from.state; fresh = from.fresh }) ok (no-end c lacks) (not-member bits c 38 refl lacks)))
       old.attribute_value run lacking
@@ -322,12 +326,12 @@ module _ {K H : Type 0} (Sink : Ghosts K H) (laws : SinkLaws Sink.is_sound Sink.
       → TookRun Sink old (record old { comment = old.comment ++ run }) run
   comment-run old st run from (inl e) ok set are lacking =
       let bits = (with_breaks (62 ∷ [])).bits in
-      run-held Sink (λ front. record old { comment = front }) bits refl (λ front. ok) (λ front. fits-at old st from)
+      run-held Sink (λ front. record old { comment = front }) (has bits) (set-unbroken bits refl) (λ front. ok) (λ front. fits-at old st from)
       (λ front c lacks. bogus-push Sink laws (record old { comment = front }) c ok (front ++ c ∷ []) (record { state = from.state ∙ e; fresh = from.fresh }) (not-member bits c 62 refl lacks) (ap (λ d. front ++ d ∷ []) (sym (shown-same c (not-member bits c 0 refl lacks)))))
       old.comment run (lacking-in (with_breaks (62 ∷ [])) set run (rw e at are) lacking)
   comment-run old st run from (inr e) ok set are lacking =
       let bits = (with_breaks (45 ∷ [])).bits in
-      run-held Sink (λ front. record old { comment = front }) bits refl (λ front. ok) (λ front. fits-at old st from)
+      run-held Sink (λ front. record old { comment = front }) (has bits) (set-unbroken bits refl) (λ front. ok) (λ front. fits-at old st from)
       (λ front c lacks. comment-push Sink laws (record old { comment = front }) c ok (front ++ c ∷ []) (record { state = from.state ∙ e; fresh = from.fresh }) (not-member bits c 45 refl lacks) (ap (λ d. front ++ d ∷ []) (sym (shown-same c (not-member bits c 0 refl lacks)))))
       old.comment run (lacking-in (with_breaks (45 ∷ [])) set run (rw e at are) lacking)
 
@@ -341,22 +345,22 @@ module _ {K H : Type 0} (Sink : Ghosts K H) (laws : SinkLaws Sink.is_sound Sink.
       (comment-run old old.state run from.0 is ok runs.stops from.1 runs.lacking)
 
   -- A run of text is told as one.
-  place-says : (old : Tokenizer K) (place : TextPlace) (bits : ℕ) (run : List ℕ) → has bits 10 ≡ true → 0 < length run → All (λ c. has bits c ≡ false) run
-      → ((c : ℕ) → has bits c ≡ false → (x : Bool) (t : List ℕ) → item (rows_of old) x (standing old place) c t ≡ character c (standing old place))
+  pub place-says : (old : Tokenizer K) (place : TextPlace) (ends : ℕ → Bool) (run : List ℕ) → ((c : ℕ) → ends c ≡ false → nat_eq c 10 ≡ false) → 0 < length run → All (λ c. ends c ≡ false) run
+      → ((c : ℕ) → ends c ≡ false → (x : Bool) (t : List ℕ) → item (rows_of old) x (standing old place) c t ≡ character c (standing old place))
       → (b : ℕ) (s : Sink.State × Notes ℕ) → Sink.is_sound s.0 → (t : List ℕ)
       → reads Sink (rows_of old) (standing old place) b s (run ++ t) ≡ (noting Sink.step Sink.is_quiet s (CharacterTokens run) (line_number b) >>= λ p. reads Sink (rows_of old) (standing old place) b p.0 t)
-  place-says old place bits run unbroken filled lacking plain b s h t =
-      run-told (λ p. Sink.is_sound p.0) (listening Sink) (rows_of old) (noting-lawful Sink.is_sound Sink.step Sink.ended Sink.is_quiet laws) bits unbroken (standing old place) plain b s h run t (line_number b) filled lacking
+  place-says old place ends run unbroken filled lacking plain b s h t =
+      run-told (λ p. Sink.is_sound p.0) (listening Sink) (rows_of old) (noting-lawful Sink.is_sound Sink.step Sink.ended Sink.is_quiet laws) ends unbroken (standing old place) plain b s h run t (line_number b) filled lacking
 
   text-says : (old : Tokenizer K) (st : State) (set : SmallCharSet) (run : List ℕ) → state_stops st ≡ Some set → ((kind : AttrValueKind) → st ≢ state.AttributeValue kind) → st ≢ state.BogusComment → st ≢ state.Comment → st ≢ state.AttributeName
       → 0 < length run → All (λ c. has set.bits c ≡ false) run → RunSays Sink st old run
   unfolding held_at
   text-says old state.Data set run are e f g n filled lacking =
-      place-says old InData (with_breaks (38 ∷ 60 ∷ [])).bits run refl filled (lacking-in (with_breaks (38 ∷ 60 ∷ [])) set run are lacking) (data-plain old)
+      place-says old InData (has (with_breaks (38 ∷ 60 ∷ [])).bits) run (set-unbroken (with_breaks (38 ∷ 60 ∷ [])).bits refl) filled (lacking-in (with_breaks (38 ∷ 60 ∷ [])) set run are lacking) (data-plain old)
   text-says old state.Plaintext set run are e f g n filled lacking =
-      place-says old InPlaintext (with_breaks []).bits run refl filled (lacking-in (with_breaks []) set run are lacking) (plaintext-plain old)
+      place-says old InPlaintext (has (with_breaks []).bits) run (set-unbroken (with_breaks []).bits refl) filled (lacking-in (with_breaks []) set run are lacking) (plaintext-plain old)
   text-says old (state.RawData kind) set run are e f g n filled lacking =
-      place-says old (InRaw kind) (raw_stops kind).bits run (raw-unbroken kind) filled (lacking-in (raw_stops kind) set run are lacking) (raw-plain old kind)
+      place-says old (InRaw kind) (has (raw_stops kind).bits) run (set-unbroken (raw_stops kind).bits (raw-unbroken kind)) filled (lacking-in (raw_stops kind) set run are lacking) (raw-plain old kind)
   text-says old (state.AttributeValue kind) set run are e f g n filled lacking = absurd (e kind refl)
   text-says old state.BogusComment set run are e f g n filled lacking = absurd (f refl)
   text-says old state.Comment set run are e f g n filled lacking = absurd (g refl)
