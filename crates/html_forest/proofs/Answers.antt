@@ -7,7 +7,6 @@ use Rattle.std.proofs.lemmas.Bool.{cases_lt}
 use Rattle.markup.specs.Forest as tree
 use Rattle.markup.specs.Forest.{Forest, IsForest, IsPlace, NodeData, Place, add_attributes, children_of, data_of, last_of, node_count, parent_of, previous_at, text_of, those_before, with_attributes}
 use Rattle.markup.specs.Forest.Place.{Last, Before}
-use Rattle.markup.specs.declared.names.QualName.{QualName}
 use Rattle.markup.specs.declared.attributes.Attribute.{Attribute}
 use Rattle.markup.specs.declared.quirks.QuirksMode.{QuirksMode}
 use Rattle.markup.proofs.Parents.{data_of-past, is_among-parent}

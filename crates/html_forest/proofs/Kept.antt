@@ -1,10 +1,10 @@
 -- Each change leaves nodes that keep what they are and have in the forest that it makes.
-use Rattle.std.proofs.Common.{◌≡◌, ◌≢◌, ◌+◌, ◌<◌, ◌≤◌, ℕ, zero, suc, List, [], ◌∷◌, ◌++◌, Option, Some, None, Bool, true, false, cond, length, codes, sym, ap, ap₂, subst, ◌∙◌, refl, inl, inr, arith, get_or}
+use Rattle.std.proofs.Common.{◌≡◌, ◌≢◌, ◌<◌, ℕ, zero, suc, List, [], ◌∷◌, ◌++◌, Option, Some, None, Bool, true, false, length, codes, sym, ap, subst, ◌∙◌, refl, inl, inr, arith, get_or}
 use Rattle.std.proofs.lemmas.List.{length-set, get_or-set_same, get_or-set_other, get_or_append_left, get_or_push, get_or_past, length_push}
 use Rattle.std.proofs.lemmas.Bool.{cases_eq, cases_Bool, cases_lt}
 use Rattle.markup.specs.Names.{is_html_name}
 use Rattle.markup.specs.Named.{IsOrdinary}
-use Rattle.markup.specs.Forest.{Above, above_of, Forest, IsForest, IsLoose, IsPlace, NodeData, Place, add_attributes, children_of, contents_of, data_of, element_name, empty_forest, is_among, is_contents, last_of, children_with, node_count, parent_at, parent_of, previous_at, previous_in, put, remove, template_of, text_of, with_attributes, with_data, with_node, without}
+use Rattle.markup.specs.Forest.{Above, above_of, Forest, IsForest, IsLoose, IsPlace, NodeData, Place, add_attributes, children_of, data_of, element_name, empty_forest, is_among, is_contents, last_of, children_with, node_count, parent_at, parent_of, previous_at, previous_in, put, remove, template_of, text_of, with_attributes, with_data, with_node, without}
 use Rattle.markup.specs.Forest.Above.{here}
 use Rattle.markup.specs.Forest.NodeData.{Contents, Document, Element, Text}
 use Rattle.markup.specs.declared.names.QualName.{QualName}

@@ -1,5 +1,5 @@
 -- Lists of what nodes are and have, after a change of one of them.
-use Rattle.std.proofs.Common.{◌≡◌, ◌==◌, ◌<◌, ℕ, List, Option, cond, length, map, sym, ap, ◌∙◌, refl, inl, inr, arith, get_or, set}
+use Rattle.std.proofs.Common.{◌≡◌, ◌==◌, ◌<◌, ℕ, List, cond, length, map, sym, ap, ◌∙◌, refl, inl, inr, arith, get_or, set}
 use Rattle.std.proofs.lemmas.List.{map-set, set-get_or, get_or-set_same, get_or-set_other, get_or-map, length-map}
 use Rattle.std.proofs.lemmas.Bool.{cases_eq, eq-eqb, ne_eqb}
 use Rattle.html_forest.specs.declared.node.Node.{Node}

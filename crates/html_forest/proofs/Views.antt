@@ -5,7 +5,7 @@ use Rattle.markup.specs.Forest as tree
 use Rattle.markup.specs.Forest.{Forest, IsDistinct, IsForest, children_of, is_among, no_node, node_count, without}
 use Rattle.markup.proofs.Children.{IsDistinct-without, is_among-append_right, is_among-without_same, is_among-without_other, without-absent}
 use Rattle.html_forest.specs.Links.{Follows, Links, after_in, first_of, link_at, links_at, next_under}
-use Rattle.html_forest.specs.Views.{IsHeld, IsKept, about_at, following, forest_of, nodes_from}
+use Rattle.html_forest.specs.Views.{IsKept, about_at, following, forest_of, nodes_from}
 use Rattle.html_forest.proofs.Neighbours.{after-here}
 
 -- distinct numbers below a bound are no more than the bound

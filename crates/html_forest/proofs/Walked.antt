@@ -1,5 +1,5 @@
 -- Turns of the walk of a node.
-use Rattle.std.proofs.Common.{◌≡◌, ◌≢◌, ◌∙◌, ◌==◌, ℕ, zero, suc, ◌+◌, ◌-◌, ◌<◌, ◌≤◌, Bool, true, false, cond, ◌&&◌, is_none, List, [], ◌∷◌, ◌++◌, Option, Some, None, Result, Ok, Err, inl, inr, refl, sym, ap, add-one, arith, append_assoc, IfSome}
+use Rattle.std.proofs.Common.{◌≡◌, ◌∙◌, ◌==◌, ℕ, zero, suc, ◌+◌, ◌-◌, ◌<◌, Bool, true, false, cond, ◌&&◌, is_none, List, [], ◌∷◌, ◌++◌, Option, Some, None, Result, Ok, Err, inl, inr, refl, sym, ap, arith, append_assoc, IfSome}
 use Rattle.std.proofs.lemmas.Bool.{cases_Bool, eq-eqb, eqb-true, ne_eqb}
 use Rattle.std.proofs.lemmas.List.{append-nil}
 use Rattle.std.proofs.lemmas.Result.{err_from_is_err_and}
@@ -16,7 +16,7 @@ use Rattle.markup.specs.declared.serializer.SerializeFault.{SerializeFault}
 use Rattle.markup.proofs.WalkCalls.{leaf-calls, node-calls, weight-first}
 use Rattle.markup.proofs.WholeTrees.{Within, among-first, among-later, inner-within, trees-first, trees-none}
 use Rattle.html_forest.specs.Links.{after_in, first_of, next_under}
-use Rattle.html_forest.specs.Walk.{Advances, IsAhead, IsBelow, IsEnded, IsSpot, Meets, behind, after_under, calls_above, calls_left, from, is_end, size_above, size_left, stands_under, those_after, up_of}
+use Rattle.html_forest.specs.Walk.{Advances, IsAhead, IsBelow, IsEnded, IsSpot, Meets, behind, after_under, calls_above, calls_left, from, is_end, size_above, stands_under, those_after, up_of}
 use Rattle.html_forest.specs.declared.walk.Spot.{Spot}
 
 -- LISTS

@@ -1,5 +1,5 @@
 -- What is kept of what nodes are: entries, and a store of names, attributes and characters.
-use Rattle.std.specs.Prelude.{ℕ, ◌≡◌, ◌+◌, ◌≤◌, ◌<◌, Bool, true, false, List, [], ◌++◌, None, length, slice_index_or, slice_range}
+use Rattle.std.specs.Prelude.{ℕ, ◌≡◌, ◌+◌, ◌≤◌, ◌<◌, Bool, false, List, [], ◌++◌, None, length, slice_index_or, slice_range}
 use Rattle.std.specs.Str.{IsCharBoundary, chars}
 use Rattle.std.specs.String.{string_bytes}
 use Rattle.markup.specs.Forest as tree

@@ -11,8 +11,8 @@ use crate::nodes::{add_node, link_between, links, move_children, unlink};
 use crate::plain;
 use crate::store::Store;
 use markup::{
-    Attribute, Attributes, ElementFlags, NodeOrText, ParseFault, QualName, QuirksMode, Text,
-    TreeSink,
+    Attribute, Attributes, ElementFlags, KnownNamespace, LocalName, Namespace, NodeOrText,
+    ParseFault, QualName, QuirksMode, Text, TreeSink,
 };
 use std::alloc::Global;
 use std::borrow::CowStr;
@@ -40,7 +40,7 @@ impl Model for Forest {
 }
 
 impl Forest {
-    ghost use Rattle.markup.specs.Names.{is_html_name};
+    ghost use Rattle.markup.specs.Names.{html_name, is_html_name};
     ghost use Rattle.html_plain.specs.Grammar.{is_plain_forest};
     ghost use Rattle.markup.specs.Named.{HasContents, IsOrdinary};
     ghost use Rattle.markup.specs.Forest.NodeData.{Contents, Doctype, Element, Text as TextNode};
@@ -236,6 +236,26 @@ impl Forest {
         let made = NodeId::new(self.nodes.len());
         self.nodes.reserve(1)?;
         let entry = self.store.element(name, attrs, flags)?;
+        add_node(&mut self.nodes, entry);
+        Ok(made)
+    }
+
+    /// Makes an element of HTML that is no template.
+    fn create_html(
+        &mut self,
+        name: LocalName,
+        attrs: Attributes,
+        flags: ElementFlags,
+    ) -> Result<NodeId, ParseFault>
+        requires { IsOrdinary (Element (html_name name) attrs flags.template flags.mathml_annotation_xml_integration_point) }
+        ensures named { IfOk result (λ made. made ≡ node_count self.old) }
+        ensures ok { OnOk result (self.new ≡ with_node self.old (Element (html_name name) attrs flags.template flags.mathml_annotation_xml_integration_point)) }
+        ensures err { OnErr result (self.new ≡ self.old) }
+        ensures fault { IfErr result (λ fault. fault ≡ Memory) }
+    {
+        let made = NodeId::new(self.nodes.len());
+        self.nodes.reserve(1)?;
+        let entry = self.store.html_element(name, attrs, flags)?;
         add_node(&mut self.nodes, entry);
         Ok(made)
     }
@@ -460,6 +480,20 @@ impl TreeSink for Forest {
             self.create_template(name, attributes, flags)
         } else {
             self.create_ordinary(name, attributes, flags)
+        }
+    }
+
+    fn create_html_element(
+        &mut self,
+        name: LocalName,
+        attributes: Attributes,
+        flags: ElementFlags,
+    ) -> Result<NodeId, ParseFault> {
+        if flags.template {
+            let html = Namespace::from_known(KnownNamespace::Html);
+            self.create_template(QualName::new(None, html, name), attributes, flags)
+        } else {
+            self.create_html(name, attributes, flags)
         }
     }
 

@@ -1,17 +1,21 @@
 //! The names, the attributes and the characters of nodes, those of each kind end to end.
-ghost use Rattle.std.specs.Prelude.{◌≡◌, ◌≤◌, ◌<◌, ◌+◌, ◌++◌, ◌^◌, IfOk, IfErr, cond, Some, None, length, vec_len, slice_range};
+ghost use Rattle.std.specs.Prelude.{◌≡◌, ◌≤◌, ◌<◌, ◌+◌, ◌++◌, ◌^◌, IfOk, IfErr, IfSome, cond, Some, None, length, vec_len, slice_range};
 ghost use Rattle.std.specs.Str.{chars};
 ghost use Rattle.std.specs.String.{string_bytes};
 ghost use Rattle.markup.specs.Forest.{template_of, with_missing};
 ghost use Rattle.markup.specs.Forest.NodeData.{Comment, Doctype as DoctypeNode, Element, ProcessingInstruction, Text as TextNode};
+ghost use Rattle.markup.specs.Names.{html_name};
 ghost use Rattle.markup.specs.declared.fault.ParseFault.TheVariants.{Memory};
-ghost use Rattle.html_forest.specs.Entries.{IsGrown, IsMade, IsRange, IsStored, attributes_in, data_in, name_in, text_in};
+ghost use Rattle.html_forest.specs.Entries.{IsGrown, IsMade, IsNameAt, IsRange, IsStored, attributes_in, data_in, name_in, text_in};
 ghost use Rattle.html_forest.specs.Views.{attributes, characters, contents_in, data_view};
 
 use crate::entry::{Doctype, Entry, Instruction, OwnElement};
 use crate::names;
 use crate::node::{AttributesRef, NodeData, NodeId, TextRef};
-use markup::{Attribute, Attributes, ElementFlags, ParseFault, QualName, Text};
+use markup::{
+    Attribute, Attributes, ElementFlags, KnownNamespace, LocalName, Namespace, ParseFault,
+    QualName, Text,
+};
 use std::alloc::Global;
 
 // So many attributes are found without an index, and lie in the store.
@@ -298,6 +302,55 @@ impl Store {
                 self.named_element(place, attrs, flags)
             }
         }
+    }
+
+    /// The place of the name of an HTML element, if it is a known name and came before.
+    fn find_html(&self, name: &LocalName) -> Option<u32>
+        ensures { IfSome result (λ place. IsNameAt self.now.names.items place (html_name name.now)) }
+    {
+        let slot = names::html_slot(name)?;
+        names::find_html(&self.names, &self.recent, name, slot)
+    }
+
+    /// The entry of an element of HTML.
+    pub(crate) fn html_element(
+        &mut self,
+        name: LocalName,
+        attrs: Attributes,
+        flags: ElementFlags,
+    ) -> Result<Entry, ParseFault>
+        ensures grown { IsGrown self.old self.new }
+        ensures made { IfOk result (λ entry. IsMade self.new entry (Element (html_name name) attrs flags.template flags.mathml_annotation_xml_integration_point)) }
+        ensures fault { IfErr result (λ fault. fault ≡ Memory) }
+    {
+        if attrs.len() <= FEW {
+            if let Some(place) = self.find_html(&name) {
+                return self.named_element(place, attrs, flags);
+            }
+        }
+        self.new_html_element(name, attrs, flags)
+    }
+
+    /// The entry of an element of HTML whose name is looked for among all.
+    #[inline(never)]
+    #[tactic(auto, unfolding(markup::specs::Names::html_namespace, markup::specs::Namespaces::name_of))]
+    fn new_html_element(
+        &mut self,
+        name: LocalName,
+        attrs: Attributes,
+        flags: ElementFlags,
+    ) -> Result<Entry, ParseFault>
+        ensures grown { IsGrown self.old self.new }
+        ensures made { IfOk result (λ entry. IsMade self.new entry (Element (html_name name) attrs flags.template flags.mathml_annotation_xml_integration_point)) }
+        ensures fault { IfErr result (λ fault. fault ≡ Memory) }
+    {
+        let slot = names::html_slot(&name);
+        let html = Namespace::from_known(KnownNamespace::Html);
+        let entry = self.element(QualName::new(None, html, name), attrs, flags)?;
+        if let (Some(slot), Some(place)) = (slot, entry.name()) {
+            names::note_html(&mut self.recent, slot, place);
+        }
+        Ok(entry)
     }
 
     /// The entry of a text with more at its end: where it is if it is the last, and else for itself.

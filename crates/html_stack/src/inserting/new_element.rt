@@ -7,7 +7,7 @@ ghost use Rattle.html_rules.specs.Names.{Html, namespace_of};
 ghost use Rattle.html_stack.specs.Inserting.{IsFor, IsNew, with_made};
 
 use crate::inserting::creating;
-use html_names::{ElementClass, ElementName};
+use html_names::{ElementClass, ElementName, ElementNamespace};
 use html_tokens::Tag;
 use markup::{Attributes, KnownNamespace, LocalName, Namespace, ParseFault, QualName, TreeSink};
 use std::alloc::Global;
@@ -100,6 +100,9 @@ impl NewElement {
             ..
         } = self;
         let flags = creating::flags_of(class, attrs.as_slice(), had_duplicate_attributes);
-        sink.create_element(QualName::new(None, namespace, name), attrs, flags)
+        match class.namespace {
+            ElementNamespace::Html => sink.create_html_element(name, attrs, flags),
+            _ => sink.create_element(QualName::new(None, namespace, name), attrs, flags),
+        }
     }
 }

@@ -1,4 +1,4 @@
-use Rattle.std.proofs.Common.{◌≡◌, ◌∙◌, ◌<◌, ap, arith, get_or, length, refl}
+use Rattle.std.proofs.Common.{◌≡◌, ◌<◌, arith, get_or, length, refl}
 use Rattle.markup.specs.Forest.{NodeData, with_attributes}
 use Rattle.html_forest.specs.declared.node.Node.{Node}
 use Rattle.html_forest.proofs.Changed.{either-stored, err-shown, ok-shown, stored-node}

@@ -1,5 +1,4 @@
-use Rattle.std.proofs.Common.{◌≡◌, ◌∙◌, ◌<◌, ap, arith, get_or, length, is_some, refl, sym}
-use Rattle.markup.specs.Forest.{NodeData, text_of}
+use Rattle.std.proofs.Common.{◌≡◌, ◌<◌, arith, get_or, length, refl}
 use Rattle.html_forest.specs.declared.node.Node.{Node}
 use Rattle.html_forest.proofs.Changed.{either-stored, err-shown, ok-joined, stored-node}
 use Rattle.html_forest.proofs.Lists.{about_at-node, map-set_unseen}

@@ -1,6 +1,6 @@
-use Rattle.std.proofs.Common.{◌≡◌, ◌∙◌, ◌<◌, ap, length, sym}
+use Rattle.std.proofs.Common.{◌∙◌, ◌<◌, ap, length, sym}
 use Rattle.std.proofs.lemmas.Bool.{ltb-true}
-use Rattle.markup.specs.Forest.{data_of, is_contents}
+use Rattle.markup.specs.Forest.{is_contents}
 use Rattle.html_forest.specs.Entries.{data_in}
 use Rattle.html_forest.specs.Views.{forest_view}
 use Rattle.html_forest.proofs.Answers.{about-here, other-than-contents}

@@ -1,4 +1,4 @@
-use Rattle.std.proofs.Common.{◌≡◌, Some, ap, arith, sym}
+use Rattle.std.proofs.Common.{◌≡◌, Some, arith, sym}
 use Rattle.markup.specs.Forest.{data_of, previous_at}
 use Rattle.markup.proofs.PutTexts.{previous-IsNode}
 use Rattle.html_forest.specs.Views.{about_at, abouts_of, forest_view, place_view}

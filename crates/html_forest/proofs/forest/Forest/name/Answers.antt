@@ -1,9 +1,8 @@
-use Rattle.std.proofs.Common.{◌≡◌, ◌<◌, ◌∙◌, Some, ap, arith, length, sym}
+use Rattle.std.proofs.Common.{◌<◌, ◌∙◌, Some, ap, arith, length, sym}
 use Rattle.std.proofs.lemmas.Bool.{ltb-true}
 use Rattle.markup.specs.Forest.{element_name}
 use Rattle.markup.specs.declared.names.QualName.{QualName}
 use Rattle.html_forest.specs.Entries.{data_in}
-use Rattle.html_forest.specs.Views.{forest_view}
 use Rattle.html_forest.specs.declared.entry.OwnElement.{OwnElement as Own}
 use Rattle.html_forest.proofs.Changed.{stored-node}
 use Rattle.html_forest.proofs.Answers.{about-here, unnamed}

@@ -1,8 +1,4 @@
 use Rattle.markup.specs.Forest.{empty_forest}
-use Rattle.std.proofs.Common.{ℕ, zero, suc}
-use Rattle.html_forest.specs.Entries.{AreStored}
-use Rattle.html_forest.specs.declared.entry.Entry.TheVariants.{Document}
-use Rattle.html_forest.specs.declared.store.Store.{Store}
 use Rattle.html_forest.proofs.Kept.{IsKept-empty}
 use Rattle.html_forest.proofs.Stored.{AreStored-document}
 use Rattle.html_forest.proofs.Views.{IsKept-shown, shown}

@@ -1,4 +1,4 @@
-use Rattle.std.proofs.Common.{◌≡◌, ◌∙◌, ◌+◌, ◌++◌, ap, arith, length, subst}
+use Rattle.std.proofs.Common.{◌≡◌, ◌+◌, ◌++◌, ap, arith, length, subst}
 use Rattle.std.specs.String.{string_bytes}
 use Rattle.markup.specs.Forest.NodeData.{Text as TextNode}
 use Rattle.html_forest.specs.Entries.{IsMade, text_in}

@@ -1,4 +1,4 @@
-use Rattle.std.proofs.Common.{◌∙◌, ap, length}
+use Rattle.std.proofs.Common.{ap, length}
 use Rattle.html_forest.proofs.Stored.{range-behind}
 use Rattle.html_forest.proofs.store.Store.put_characters.Goals as goal
 
