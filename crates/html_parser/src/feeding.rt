@@ -48,7 +48,7 @@ pub(crate) fn feed_all<Sink: TokenSink>(
 }
 
 /// Has a tokenizer take what waits, and then a text, past every pause. Where memory is wanting for the text all has failed.
-pub(crate) fn take_text<Sink: TokenSink>(
+pub(crate) fn consume_text<Sink: TokenSink>(
     tokenizer: &mut Tokenizer<Sink>,
     input: &mut BufferQueue,
     has_failed: &mut bool,

@@ -6,7 +6,7 @@ ghost use Rattle.html_tokenizer.specs.Calls.{IsReadyIf, refusal_of};
 ghost use Rattle.html_parser.specs.Documents.{Finishes, TellsError, builder};
 ghost use Rattle.html_parser.specs.Read.{TakesText, stopped_by};
 
-use crate::feeding::{end_all, take_text};
+use crate::feeding::{consume_text, end_all};
 use html_tokenizer::{BufferQueue, Tokenizer};
 use html_tree_builder::TreeBuilder;
 use markup::{ParseFault, TreeSink};
@@ -36,7 +36,7 @@ impl<Sink: TreeSink> Parser<Sink> {
         ensures ready { IsReadyIf (builder Sink.TreeSink) (stopped_by self.new.has_failed (refusal_of self.new.tokenizer)) self.new.tokenizer }
         ensures same_failed { IfSome (stopped_by self.old.has_failed (refusal_of self.old.tokenizer)) (λ _. self.new.has_failed ≡ self.old.has_failed) }
     {
-        take_text(
+        consume_text(
             &mut self.tokenizer,
             &mut self.input_buffer,
             &mut self.has_failed,

@@ -4,7 +4,7 @@ use Rattle.std.specs.String.{string_bytes}
 use Rattle.html_queue.specs.Queue.{Queue}
 use Rattle.html_tokenizer.specs.Calls.{refusal_of}
 use Rattle.html_parser.proofs.Feeds.{not-failed, text-taken}
-use Rattle.html_parser.proofs.feeding.take_text.Goals as goal
+use Rattle.html_parser.proofs.feeding.consume_text.Goals as goal
 
 pub returns-clause-gives : goal.returns-clause-gives
 returns-clause-gives g c =
