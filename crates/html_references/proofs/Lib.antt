@@ -4,6 +4,7 @@ pub mod Faults
 pub mod Fronts
 pub mod Longest
 pub mod Matches
+pub mod NamedRows
 pub mod Names
 pub mod Orders
 mod Repeats

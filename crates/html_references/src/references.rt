@@ -1,5 +1,5 @@
 //! Tables of named character references (HTML Standard, section 13.5).
-ghost use Rattle.std.specs.Prelude.{◌≡◌, ◌≢◌, ◌++◌, ◌∷◌, [], None, Some, IfOk, IfErr, OnOk, IsTrue};
+ghost use Rattle.std.specs.Prelude.{◌≡◌, ◌≢◌, ◌++◌, ◌∷◌, [], None, Some, true, IfOk, IfErr, IfSome, OnOk, IsTrue};
 ghost use Rattle.std.specs.Option.{option_copied};
 ghost use Rattle.std.specs.Str.{chars};
 ghost use Rattle.markup.specs.Plain.{is_plain};
@@ -163,6 +163,19 @@ impl References {
         ensures { result ≡ is_front self.now (chars held.now) }
     {
         order::is_front(&self.rows, &self.order, &self.hints, held.as_bytes())
+    }
+
+    /// The row of this name, if the table has it.
+    pub fn named(&self, name: &str) -> Option<&ReferenceRow>
+        ensures row { IfSome result (λ row. longest self.now (chars name.now) ≡ Some row.now) }
+        ensures name { IfSome result (λ row. row.now.name ≡ chars name.now) }
+        ensures front { IfSome result (λ row. is_front self.now (chars name.now) ≡ true) }
+        ensures longest { IfSome result (λ row. MatchesLongest self.now (chars name.now) (Some row.now)) }
+    {
+        match order::find_hinted(&self.rows, &self.order, &self.hints, name.as_bytes()) {
+            None => None,
+            Some(place) => Some(&self.rows[place]),
+        }
     }
 
     /// The row with the longest name that a text begins with (HTML Standard, section 13.2.5.73).

@@ -43,6 +43,11 @@ paused_with number pauses Done = pauses
 paused_with number pauses (Script handle) = pauses ++ reply.Script (number handle) ∷ []
 paused_with number pauses (EncodingIndicator label) = pauses ++ reply.EncodingIndicator label ∷ []
 
+-- what a step gave that left its answer at a place of its own
+abbrev pub answered : {H : Type 0} → ProcessResult H → Result (Unit {0}) ParseFault → Result (ProcessResult H) ParseFault
+answered answer (Ok x) = Ok answer
+answered answer (Err fault) = Err fault
+
 -- what was noted, with what is owed after it and that pause
 abbrev pub noted_with : {H : Type 0} → (H → ℕ) → Owed → Notes ℕ → TokenizerResult H → Notes ℕ
 noted_with number owed notes result = record (more owed notes) { pauses = paused_with number notes.pauses result }
@@ -108,12 +113,6 @@ module _ {K H : Type 0} (Sink : Ghosts K H) where
   abbrev pub KeepsRun : Tokenizer K → Tokenizer K → List ℕ → Result (Unit {0}) ParseFault → Type 0
   KeepsRun old new run (Ok x) = TookRun old new run
   KeepsRun old new run (Err fault) = FailsOver Sink run old new.sink fault
-
-  -- The same of a call that then goes on.
-  abbrev pub KeepsText : Tokenizer K → Tokenizer K → List ℕ → Result (ProcessResult H) ParseFault → Type 0
-  KeepsText old new run (Ok flow.Continue) = TookRun old new run
-  KeepsText old new run (Ok _) = ⊥
-  KeepsText old new run (Err fault) = KeepsRun old new run (Err fault)
 
   -- All that was held is told, which owed this: what the end of the input makes of the sink is the end alone.
   pub record Closed (old new : Tokenizer K) : Type 0 where

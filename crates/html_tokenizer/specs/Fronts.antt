@@ -18,7 +18,8 @@ use Rattle.html_tokenizer.specs.Calls.{TookRun}
 use Rattle.html_references.specs.References.{IsCheckedTable}
 use Rattle.html_tokens.specs.Reference.{reference_at}
 use Rattle.html_tokens.specs.Table.{Row}
-use Rattle.html_tokenizer_parts.specs.CharRefs.{is_held, is_held_front, may_go_on}
+use Rattle.html_tokenizer_parts.specs.CharRefs.{IsWhole, ends_in_semicolon, is_held, is_held_front, may_go_on}
+use Rattle.html_tokenizer_parts.specs.declared.numbers.Found.{Found}
 use Rattle.html_tokenizer.specs.declared.tokenizer.Tokenizer.{Tokenizer}
 use Rattle.html_tokenizer.specs.Steps.{FailsOver, IsAt, Read}
 use Rattle.html_tokenizer.specs.Stops.{with_breaks}
@@ -81,10 +82,11 @@ pub record IsNameAt (name rest text : List ℕ) : Type 0 where
   pub filled : IsFilled (chars name)
   pub lacking : Lacks attribute_stops (chars name)
 
--- the bytes of a text are those of "&", a name, ";", and what follows them
+-- the bytes of a text are those of "&", a name with ";" at its end, and what follows them
 pub record IsReferenceAt (name rest text : List ℕ) : Type 0 where
-  pub whole : text ≡ 38 ∷ (name ++ 59 ∷ rest)
+  pub whole : text ≡ 38 ∷ (name ++ rest)
   pub utf8 : IsUtf8 name
+  pub ends : ends_in_semicolon (chars name) ≡ true
 
 -- a name of the table with its ";": a reference that no character after it lengthens
 pub record IsWholeName (rows : List Row) (cs : List ℕ) : Type 0 where
@@ -93,6 +95,12 @@ pub record IsWholeName (rows : List Row) (cs : List ℕ) : Type 0 where
   pub held : list_all is_held cs ≡ true
   pub ends : (c : ℕ) → may_go_on rows cs c ≡ false
   pub same : (t : List ℕ) → reference_at true rows (cs ++ t) ≡ reference_at true rows cs
+
+-- the same, and what it stands for
+pub record StandsFor (rows : List Row) (cs : List ℕ) (found : Found) : Type 0 where
+  pub name : IsWholeName rows cs
+  pub is : IsWhole rows cs found
+  pub ends : ends_in_semicolon cs ≡ true
 
 -- the machine in a tag of this name
 abbrev pub opened_tag : {K : Type 0} → Tokenizer K → TagKind → List ℕ → Tokenizer K

@@ -1,7 +1,8 @@
 //! One character of the input, with its line and its own errors.
 ghost use Rattle.std.specs.Prelude.{◌≡◌, ◌≢◌, ◌∷◌, [], true, false};
+ghost use Rattle.html_tokens.specs.declared.replies.ProcessResult.TheVariants as flow;
 ghost use Rattle.html_tokens.specs.declared.states.State.TheVariants as state;
-ghost use Rattle.html_tokenizer.specs.Calls.{Passes, owed_for_text};
+ghost use Rattle.html_tokenizer.specs.Calls.{Passes, answered, owed_for_text};
 ghost use Rattle.html_tokenizer.specs.Going.{KeepsOn, PassesOn};
 ghost use Rattle.html_tokenizer.specs.Rest.{rows_of};
 ghost use Rattle.html_tokenizer_parts.specs.CharRefs.{fits_in};
@@ -97,17 +98,22 @@ impl<Sink: TokenSink> Tokenizer<Sink> {
         Ok(result)
     }
 
-    /// Takes a character, and counts its line.
+    /// Takes a character, and counts its line. Where it ends a tag, the answer is left in its place.
     #[inline(always)]
-    pub(crate) fn take(&mut self, c: char) -> Result<ProcessResult<Sink::Handle>, ParseFault>
+    pub(crate) fn take(
+        &mut self,
+        c: char,
+        answer: &mut ProcessResult<Sink::Handle>,
+    ) -> Result<(), ParseFault>
+        requires goes_on { answer.old ≡ flow.Continue }
         requires sound { Sink.is_sound (Sink.view self.old.sink) }
         requires fits { fits_in (rows_of self.old) self.old.char_ref self.old.state ≡ true }
-        ensures { Passes Sink.TokenSink self.old self.new c result }
+        ensures { Passes Sink.TokenSink self.old self.new c (answered answer.new result) }
     {
         if c == '>' {
-            return self.consume_close(c);
+            *answer = self.consume_close(c)?;
+            return Ok(());
         }
-        self.consume_on(c)?;
-        Ok(ProcessResult::Continue)
+        self.consume_on(c)
     }
 }

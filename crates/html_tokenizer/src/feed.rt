@@ -1,9 +1,10 @@
 //! The input, taken piece by piece.
 ghost use Rattle.std.specs.Prelude.{◌≡◌, false};
-ghost use Rattle.html_tokenizer.specs.Calls.{IsReady, KeepsText, Moves, Runs};
+ghost use Rattle.html_tokenizer.specs.Calls.{IsReady, Moves, Runs, answered};
 ghost use Rattle.html_tokenizer.specs.Fronts.{IsInTag, ReadsAhead, ReadsTags};
+ghost use Rattle.html_tokens.specs.declared.replies.ProcessResult.TheVariants as flow;
 ghost use Rattle.html_tokens.specs.declared.states.State.TheVariants as state;
-ghost use Rattle.html_tokenizer.specs.Stops.{IsRunAt, IsStoppedBy};
+ghost use Rattle.html_tokenizer.specs.Stops.{IsStoppedBy};
 
 use crate::front_lines::after_lines;
 use crate::front_references::reference_of;
@@ -17,29 +18,23 @@ use html_tokens::states::AttrValueKind;
 use markup::{ParseFault, Text, TokenizerResult};
 
 impl<Sink: TokenSink> Tokenizer<Sink> {
-    /// Takes a run of text, and goes on.
-    #[inline(always)]
-    fn consume_text(&mut self, run: Text) -> Result<ProcessResult<Sink::Handle>, ParseFault>
-        requires run { IsRunAt self.old run }
-        requires sound { Sink.is_sound (Sink.view self.old.sink) }
-        ensures { KeepsText Sink.TokenSink self.old self.new run result }
-    {
-        self.consume_run(run)?;
-        Ok(ProcessResult::Continue)
-    }
-
     /// Takes the next character of the input.
     #[inline(always)]
     fn move_by_one(
         &mut self,
         input: &mut BufferQueue,
-    ) -> Result<ProcessResult<Sink::Handle>, ParseFault>
+        answer: &mut ProcessResult<Sink::Handle>,
+    ) -> Result<(), ParseFault>
         requires ready { IsReady Sink.TokenSink self.old }
-        ensures { Moves Sink.TokenSink self.old self.new input.old input.new result }
+        requires goes_on { answer.old ≡ flow.Continue }
+        ensures { Moves Sink.TokenSink self.old self.new input.old input.new (answered answer.new result) }
     {
         match self.stream.next_char(input) {
-            Some(c) => self.take(c),
-            None => Ok(ProcessResult::Suspend),
+            Some(c) => self.take(c, answer),
+            None => {
+                *answer = ProcessResult::Suspend;
+                Ok(())
+            }
         }
     }
 
@@ -49,21 +44,23 @@ impl<Sink: TokenSink> Tokenizer<Sink> {
         &mut self,
         stops: SmallCharSet,
         input: &mut BufferQueue,
-    ) -> Result<ProcessResult<Sink::Handle>, ParseFault>
+        answer: &mut ProcessResult<Sink::Handle>,
+    ) -> Result<(), ParseFault>
         requires ready { IsReady Sink.TokenSink self.old }
+        requires goes_on { answer.old ≡ flow.Continue }
         requires stops { IsStoppedBy stops self.old }
         requires unmarked { self.old.stream.discard_bom ≡ false }
-        ensures { Moves Sink.TokenSink self.old self.new input.old input.new result }
+        ensures { Moves Sink.TokenSink self.old self.new input.old input.new (answered answer.new result) }
     {
         let (run, _rest) = stops.split(input.as_str());
         if run.is_empty() {
-            return self.move_by_one(input);
+            return self.move_by_one(input, answer);
         }
         let width = run.len();
         let made = Text::from_str(self.stream.alloc, run)?;
         self.stream.ignore_lf = false;
         input.skip(width);
-        self.consume_text(made)
+        self.consume_run(made)
     }
 
     /// Takes what comes next of the input: a run of text where runs are read, or else a character.
@@ -71,16 +68,18 @@ impl<Sink: TokenSink> Tokenizer<Sink> {
     fn move_by_piece(
         &mut self,
         input: &mut BufferQueue,
-    ) -> Result<ProcessResult<Sink::Handle>, ParseFault>
+        answer: &mut ProcessResult<Sink::Handle>,
+    ) -> Result<(), ParseFault>
         requires ready { IsReady Sink.TokenSink self.old }
-        ensures { Moves Sink.TokenSink self.old self.new input.old input.new result }
+        requires goes_on { answer.old ≡ flow.Continue }
+        ensures { Moves Sink.TokenSink self.old self.new input.old input.new (answered answer.new result) }
     {
         if self.stream.discard_bom {
-            return self.move_by_one(input);
+            return self.move_by_one(input, answer);
         }
         match self.stops() {
-            Some(stops) => self.move_by_run(stops, input),
-            None => self.move_by_one(input),
+            Some(stops) => self.move_by_run(stops, input, answer),
+            None => self.move_by_one(input, answer),
         }
     }
 
@@ -88,19 +87,20 @@ impl<Sink: TokenSink> Tokenizer<Sink> {
     fn move_ahead(
         &mut self,
         input: &mut BufferQueue,
-    ) -> Result<ProcessResult<Sink::Handle>, ParseFault>
+        answer: &mut ProcessResult<Sink::Handle>,
+    ) -> Result<(), ParseFault>
         requires ready { IsReady Sink.TokenSink self.old }
-        ensures { Moves Sink.TokenSink self.old self.new input.old input.new result }
+        requires goes_on { answer.old ≡ flow.Continue }
+        ensures { Moves Sink.TokenSink self.old self.new input.old input.new (answered answer.new result) }
     {
         let Some((kind, run)) = self.run_ahead(input.as_str()) else {
-            return self.move_by_piece(input);
+            return self.move_by_piece(input, answer);
         };
         let width = run.len();
         let copied = Text::from_str(self.stream.alloc, run)?;
         self.stream.ignore_lf = false;
         input.skip(width);
-        self.consume_ahead(kind, copied)?;
-        Ok(ProcessResult::Continue)
+        self.consume_ahead(kind, copied)
     }
 
     /// Takes the lines of data at the front of the input, or else the next character.
@@ -108,48 +108,51 @@ impl<Sink: TokenSink> Tokenizer<Sink> {
     fn move_by_lines(
         &mut self,
         input: &mut BufferQueue,
-    ) -> Result<ProcessResult<Sink::Handle>, ParseFault>
+        answer: &mut ProcessResult<Sink::Handle>,
+    ) -> Result<(), ParseFault>
         requires ready { IsReady Sink.TokenSink self.old }
+        requires goes_on { answer.old ≡ flow.Continue }
         requires tags { ReadsTags self.old }
-        ensures { Moves Sink.TokenSink self.old self.new input.old input.new result }
+        ensures { Moves Sink.TokenSink self.old self.new input.old input.new (answered answer.new result) }
     {
         if self.stream.ignore_lf {
-            return self.move_by_run(data_stops(), input);
+            return self.move_by_run(data_stops(), input, answer);
         }
         let text = input.as_str();
         let (rest, breaks) = after_lines(text, self.stream.breaks);
         let width = text.len() - rest.len();
         if width == 0 {
-            return self.move_by_one(input);
+            return self.move_by_one(input, answer);
         }
         let lines = Text::from_str(self.stream.alloc, &text[..width])?;
         input.skip(width);
         self.emit_lines(lines, breaks)?;
-        Ok(ProcessResult::Continue)
+        Ok(())
     }
 
     /// Hands out what a whole name of a reference at the front of the input stands for, or else takes what comes next.
     fn move_by_reference(
         &mut self,
         input: &mut BufferQueue,
-    ) -> Result<ProcessResult<Sink::Handle>, ParseFault>
+        answer: &mut ProcessResult<Sink::Handle>,
+    ) -> Result<(), ParseFault>
         requires ready { IsReady Sink.TokenSink self.old }
+        requires goes_on { answer.old ≡ flow.Continue }
         requires tags { ReadsTags self.old }
-        ensures { Moves Sink.TokenSink self.old self.new input.old input.new result }
+        ensures { Moves Sink.TokenSink self.old self.new input.old input.new (answered answer.new result) }
     {
         let text = input.as_str();
         let Some((name, rest)) = reference_of(text) else {
-            return self.move_by_lines(input);
+            return self.move_by_lines(input, answer);
         };
-        let whole = self.whole_name(name)?;
-        let Some(held) = whole else {
-            return self.move_by_piece(input);
+        let Some(found) = self.whole_name(name) else {
+            return self.move_by_piece(input, answer);
         };
         let width = text.len() - rest.len();
         self.stream.ignore_lf = false;
         input.skip(width);
-        self.emit_whole_name(&held)?;
-        Ok(ProcessResult::Continue)
+        self.emit_whole_name(found)?;
+        Ok(())
     }
 
     /// Puts what a whole name of a reference at the front of the input stands for after a value, or else takes what comes next.
@@ -157,24 +160,25 @@ impl<Sink: TokenSink> Tokenizer<Sink> {
         &mut self,
         kind: AttrValueKind,
         input: &mut BufferQueue,
-    ) -> Result<ProcessResult<Sink::Handle>, ParseFault>
+        answer: &mut ProcessResult<Sink::Handle>,
+    ) -> Result<(), ParseFault>
         requires ready { IsReady Sink.TokenSink self.old }
+        requires goes_on { answer.old ≡ flow.Continue }
         requires value { ReadsAhead self.old (state.AttributeValue kind) }
-        ensures { Moves Sink.TokenSink self.old self.new input.old input.new result }
+        ensures { Moves Sink.TokenSink self.old self.new input.old input.new (answered answer.new result) }
     {
         let text = input.as_str();
         let Some((name, rest)) = reference_of(text) else {
-            return self.move_by_piece(input);
+            return self.move_by_piece(input, answer);
         };
-        let named = self.whole_name(name)?;
-        let Some(held) = named else {
-            return self.move_by_piece(input);
+        let Some(found) = self.whole_name(name) else {
+            return self.move_by_piece(input, answer);
         };
         let width = text.len() - rest.len();
         self.stream.ignore_lf = false;
         input.skip(width);
-        self.consume_whole_name(kind, &held)?;
-        Ok(ProcessResult::Continue)
+        self.consume_whole_name(kind, found)?;
+        Ok(())
     }
 
     /// Takes the beginning of a tag from the front of the input at once, or else what comes next.
@@ -182,20 +186,22 @@ impl<Sink: TokenSink> Tokenizer<Sink> {
     fn move_by_tag(
         &mut self,
         input: &mut BufferQueue,
-    ) -> Result<ProcessResult<Sink::Handle>, ParseFault>
+        answer: &mut ProcessResult<Sink::Handle>,
+    ) -> Result<(), ParseFault>
         requires ready { IsReady Sink.TokenSink self.old }
+        requires goes_on { answer.old ≡ flow.Continue }
         requires tags { ReadsTags self.old }
-        ensures { Moves Sink.TokenSink self.old self.new input.old input.new result }
+        ensures { Moves Sink.TokenSink self.old self.new input.old input.new (answered answer.new result) }
     {
         let text = input.as_str();
         let Some(opening) = opening_of(text) else {
-            return self.move_by_reference(input);
+            return self.move_by_reference(input, answer);
         };
         self.stream.ignore_lf = false;
         let rest = self.consume_opening(opening)?;
         let width = text.len() - rest.len();
         input.skip(width);
-        Ok(ProcessResult::Continue)
+        Ok(())
     }
 
     /// Takes what comes next of the input in a tag where `>` ends it.
@@ -203,38 +209,43 @@ impl<Sink: TokenSink> Tokenizer<Sink> {
     fn move_in_tag(
         &mut self,
         input: &mut BufferQueue,
-    ) -> Result<ProcessResult<Sink::Handle>, ParseFault>
+        answer: &mut ProcessResult<Sink::Handle>,
+    ) -> Result<(), ParseFault>
         requires ready { IsReady Sink.TokenSink self.old }
+        requires goes_on { answer.old ≡ flow.Continue }
         requires at { IsInTag self.old }
-        ensures { Moves Sink.TokenSink self.old self.new input.old input.new result }
+        ensures { Moves Sink.TokenSink self.old self.new input.old input.new (answered answer.new result) }
     {
         let Some(c) = self.stream.next_char(input) else {
-            return Ok(ProcessResult::Suspend);
+            *answer = ProcessResult::Suspend;
+            return Ok(());
         };
         if c == '>' {
-            return self.close_tag();
+            return self.close_tag(answer);
         }
-        self.take(c)
+        self.take(c, answer)
     }
 
     /// Takes an attribute at the front of the input in a tag at once, or else what comes next.
     fn move_by_attribute(
         &mut self,
         input: &mut BufferQueue,
-    ) -> Result<ProcessResult<Sink::Handle>, ParseFault>
+        answer: &mut ProcessResult<Sink::Handle>,
+    ) -> Result<(), ParseFault>
         requires ready { IsReady Sink.TokenSink self.old }
-        ensures { Moves Sink.TokenSink self.old self.new input.old input.new result }
+        requires goes_on { answer.old ≡ flow.Continue }
+        ensures { Moves Sink.TokenSink self.old self.new input.old input.new (answered answer.new result) }
     {
         let text = input.as_str();
         let Some((name, after)) = self.name_ahead(text) else {
-            return self.move_by_piece(input);
+            return self.move_by_piece(input, answer);
         };
         self.stream.ignore_lf = false;
         self.begin_attribute(name)?;
         let rest = self.consume_equals(after)?;
         let width = text.len() - rest.len();
         input.skip(width);
-        Ok(ProcessResult::Continue)
+        Ok(())
     }
 
     /// Takes what comes next of the input.
@@ -242,23 +253,25 @@ impl<Sink: TokenSink> Tokenizer<Sink> {
     fn move_on(
         &mut self,
         input: &mut BufferQueue,
-    ) -> Result<ProcessResult<Sink::Handle>, ParseFault>
+        answer: &mut ProcessResult<Sink::Handle>,
+    ) -> Result<(), ParseFault>
         requires ready { IsReady Sink.TokenSink self.old }
-        ensures { Moves Sink.TokenSink self.old self.new input.old input.new result }
+        requires goes_on { answer.old ≡ flow.Continue }
+        ensures { Moves Sink.TokenSink self.old self.new input.old input.new (answered answer.new result) }
     {
         if self.reads_tags() {
-            return self.move_by_tag(input);
+            return self.move_by_tag(input, answer);
         }
         if self.is_in_tag() {
             match input.peek() {
-                Some('>') => return self.move_in_tag(input),
-                Some(' ') => return self.move_by_attribute(input),
+                Some('>') => return self.move_in_tag(input, answer),
+                Some(' ') => return self.move_by_attribute(input, answer),
                 _ => {}
             }
         }
         match self.value_read() {
-            Some(kind) => self.move_in_value(kind, input),
-            None => self.move_ahead(input),
+            Some(kind) => self.move_in_value(kind, input, answer),
+            None => self.move_ahead(input, answer),
         }
     }
 
@@ -271,7 +284,9 @@ impl<Sink: TokenSink> Tokenizer<Sink> {
         ensures { Runs Sink.TokenSink self.old self.new input.old input.new result }
     {
         loop {
-            match self.move_on(input)? {
+            let mut answer = ProcessResult::Continue;
+            self.move_on(input, &mut answer)?;
+            match answer {
                 ProcessResult::Continue => {}
                 ProcessResult::Suspend => {
                     // What is held says of itself what it begins.

@@ -4,6 +4,7 @@ ghost use Rattle.std.specs.Prelude.{◌≡◌, ◌<◌, ◌∷◌, true, false, 
 ghost use Rattle.std.specs.Str.{IsUtf8, chars};
 ghost use Rattle.html_tokens.specs.declared.states.State.TheVariants as state;
 ghost use Rattle.markup.specs.declared.fault.ParseFault.TheVariants.{Memory};
+ghost use Rattle.html_tokenizer.specs.Calls.{answered};
 ghost use Rattle.html_tokenizer.specs.Fronts;
 ghost use Rattle.html_tokenizer.specs.Fronts.{IsFilled, IsInTag, IsNameAt, TakesFront, ended, naming};
 ghost use Rattle.html_tokenizer.specs.Quotes.{quote_of};
@@ -94,15 +95,19 @@ impl<Sink: TokenSink> Tokenizer<Sink> {
         }
     }
 
-    /// Ends the tag at its `>`.
+    /// Ends the tag at its `>`, and leaves the answer in its place.
     #[inline(always)]
-    pub(crate) fn close_tag(&mut self) -> Result<ProcessResult<Sink::Handle>, ParseFault>
+    pub(crate) fn close_tag(
+        &mut self,
+        answer: &mut ProcessResult<Sink::Handle>,
+    ) -> Result<(), ParseFault>
         requires at { IsInTag self.old }
         requires sound { Sink.is_sound (Sink.view self.old.sink) }
-        ensures { Keeps Sink.TokenSink self.old self.new 62 result }
+        ensures { Keeps Sink.TokenSink self.old self.new 62 (answered answer.new result) }
     {
         self.end_attribute()?;
-        self.emit_tag()
+        *answer = self.emit_tag()?;
+        Ok(())
     }
 
     /// Begins an attribute of this name.

@@ -1,20 +1,21 @@
 //! References at the front of the input, whose name is read at once up to its `;` (HTML Standard, sections 13.2.5.72 and 13.2.5.73).
-ghost use Rattle.std.specs.Prelude.{◌≡◌, ◌∷◌, [], ◌++◌, IfErr, IfOk, IfSome};
+ghost use Rattle.std.specs.Prelude.{◌≡◌, ◌∷◌, ℕ, List, true, IfSome};
 ghost use Rattle.std.specs.Str.{chars};
-ghost use Rattle.markup.specs.declared.fault.ParseFault.TheVariants.{Memory};
 ghost use Rattle.html_tokenizer.specs.Fronts;
-ghost use Rattle.html_tokenizer.specs.Fronts.{IsReferenceAt, IsWholeName, ReadsAhead};
+ghost use Rattle.html_tokenizer.specs.Fronts.{IsReferenceAt, ReadsAhead, StandsFor};
 ghost use Rattle.html_tokenizer.specs.Calls.{KeepsRun};
 ghost use Rattle.html_tokenizer.specs.Rest.{rows_of};
 ghost use Rattle.html_tokenizer.specs.Steps.{IsAt};
+ghost use Rattle.html_tokenizer_parts.specs.CharRefs.{ends_in_semicolon};
 ghost use Rattle.html_tokens.specs.declared.states.State.TheVariants as state;
 
 use crate::char_bits::{AMPERSAND, BREAKS, FORM_FEED, LESS_THAN, SEMICOLON, SPACE, TAB};
 use crate::front_tags::behind;
 use crate::tokenizer::Tokenizer;
 use html_queue::SmallCharSet;
-use html_tokenizer_parts::held_reference::HeldReference;
-use html_tokenizer_parts::references::{decided, push_resolved};
+use html_tokenizer_parts::numbers::Found;
+use html_tokenizer_parts::references::{push_found, whole};
+use html_tokens::Token;
 use html_tokens::sink::TokenSink;
 use html_tokens::states::{AttrValueKind, State};
 use markup::{ParseFault, Text};
@@ -28,7 +29,7 @@ fn reference_stops() -> SmallCharSet
     }
 }
 
-/// What stands between `&` at the front of a text and a `;`, and what follows that.
+/// A name with its `;` after an `&` at the front of a text, and what follows it.
 pub(crate) fn reference_of(text: &str) -> Option<(&str, &str)>
     ensures { IfSome result (λ r. IsReferenceAt r.0.now r.1.now text.now) }
 {
@@ -39,48 +40,44 @@ pub(crate) fn reference_of(text: &str) -> Option<(&str, &str)>
     let Some(rest) = behind(after, b';') else {
         return None;
     };
-    Some((name, rest))
+    Some((&inner[..name.len() + 1], rest))
 }
 
 impl<Sink: TokenSink> Tokenizer<Sink> {
-    /// A text and `;` as a reference, if they are a name of the table.
-    pub(crate) fn whole_name(&self, name: &str) -> Result<Option<HeldReference>, ParseFault>
-        ensures ok { IfOk result (λ whole. IfSome whole (λ held. (held ≡ chars name.now ++ 59 ∷ []) × IsWholeName (rows_of self.now) held)) }
-        ensures fault { IfErr result (λ fault. fault ≡ Memory) }
+    /// What a name with its `;` stands for, if it is one of the table.
+    #[inline(always)]
+    pub(crate) fn whole_name(&self, name: &str) -> Option<Found>
+        requires { ends_in_semicolon (chars name.now) ≡ true }
+        ensures { IfSome result (StandsFor (rows_of self.now) (chars name.now)) }
     {
         let _rows = self.stream.table.rows();
-        let mut text = Text::from_str(self.stream.alloc, name)?;
-        text.push(';')?;
-        if !self.stream.table.is_front(text.as_str()) {
-            return Ok(None);
-        }
-        Ok(Some(HeldReference::of_name(text)))
+        let found = whole(&self.stream.table, name)?;
+        Some(found)
     }
 
     /// Hands out what a whole name stands for in data.
-    pub(crate) fn emit_whole_name(&mut self, held: &HeldReference) -> Result<(), ParseFault>
+    pub(crate) fn emit_whole_name(&mut self, found: Found) -> Result<(), ParseFault>
         requires at { IsAt self.old state.Data }
-        requires whole { IsWholeName (rows_of self.old) held.now }
         requires sound { Sink.is_sound (Sink.view self.old.sink) }
-        ensures { KeepsRun Sink.TokenSink self.old self.new (38 ∷ held.now) result }
+        ensures { (cs : List ℕ) → StandsFor (rows_of self.old) cs found → KeepsRun Sink.TokenSink self.old self.new (38 ∷ cs) result }
     {
-        self.emit_reference(held)
+        let mut text = Text::empty(self.stream.alloc);
+        push_found(&mut text, found)?;
+        self.emit(Token::CharacterTokens(text))
     }
 
     /// Puts what a whole name stands for after an attribute's value.
     pub(crate) fn consume_whole_name(
         &mut self,
         kind: AttrValueKind,
-        held: &HeldReference,
+        found: Found,
     ) -> Result<(), ParseFault>
         requires at { IsAt self.old (state.AttributeValue kind) }
-        requires whole { IsWholeName (rows_of self.old) held.now }
         requires sound { Sink.is_sound (Sink.view self.old.sink) }
-        ensures { KeepsRun Sink.TokenSink self.old self.new (38 ∷ held.now) result }
+        ensures { (cs : List ℕ) → StandsFor (rows_of self.old) cs found → KeepsRun Sink.TokenSink self.old self.new (38 ∷ cs) result }
     {
         let _kind = kind;
-        let decision = decided(&self.stream.table, true, held, false);
-        push_resolved(&mut self.attribute_value, decision.found, held)
+        push_found(&mut self.attribute_value, found)
     }
 
     /// The kind of the value in which a whole name may be read at once: where errors of single characters are not told.

@@ -10,4 +10,5 @@ pub mod Keywords
 pub mod NamedRows
 pub mod RawKinds
 pub mod Sets
+pub mod WholeNames
 pub mod Words

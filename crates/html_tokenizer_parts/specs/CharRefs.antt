@@ -137,6 +137,13 @@ is_unknown rows (h ∷ hs) c = not (nat_eq h 35) && (not (ends_in_semicolon (h �
 abbrev pub has_fault : ReferenceFaults → Bool
 has_fault f = f.lacks_semicolon || is_some f.fault
 
+-- a text is a name of the table, and this is what it stands for, with no error where it ends in ";"
+pub record IsWhole (rows : List Row) (cs : List ℕ) (found : Found) : Type 0 where
+  pub front : is_front rows cs ≡ true
+  pub stands : (in_value : Bool) → Some (reference_of found) ≡ decided in_value rows cs false
+  pub faultless : ends_in_semicolon cs ≡ true → is_faulty false rows cs false ≡ false
+  pub len : found.len ≡ length cs
+
 -- a reference that is decided before c, whatever follows
 pub record IsDecided (rows : List Row) (cs : List ℕ) (c : ℕ) : Type 0 where
   pub checked : IsCheckedTable rows

@@ -46,14 +46,6 @@ impl HeldReference {
         }
     }
 
-    /// What was read of a name.
-    pub fn of_name(text: Text) -> HeldReference
-        requires { list_all is_held text ≡ true }
-        ensures { result ≡ text }
-    {
-        HeldReference { text }
-    }
-
     /// Puts a character at the end.
     pub fn push(&mut self, c: char) -> Result<(), ParseFault>
         requires { is_held c ≡ true }

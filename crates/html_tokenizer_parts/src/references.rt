@@ -125,6 +125,15 @@ fn row_found(row: &ReferenceRow) -> Found
     }
 }
 
+/// The reference that a text is, if it is a name of the table.
+pub fn whole(table: &References, name: &str) -> Option<Found>
+    ensures { IfSome result (CharRefs.IsWhole table.now (chars name.now)) }
+{
+    let _rows = table.rows();
+    let row = table.named(name)?;
+    Some(row_found(row))
+}
+
 /// What was decided of a reference that was held.
 #[derive(Clone, Copy)]
 pub struct Decision {
@@ -222,6 +231,18 @@ pub fn is_unknown(table: &References, held: &HeldReference, c: char) -> bool
     }
 }
 
+/// Adds the characters of a reference to a text.
+pub fn push_found(text: &mut Text, found: Found) -> Result<(), ParseFault>
+    ensures ok { OnOk result (text.new ≡ text.old ++ (CharRefs.reference_of found).chars) }
+    ensures fault { IfErr result (λ fault. fault ≡ Memory) }
+{
+    text.push(found.first)?;
+    match found.second {
+        Some(second) => text.push(second),
+        None => Ok(()),
+    }
+}
+
 /// Adds what `&` and the characters that were held stand for to a text.
 pub fn push_resolved(
     text: &mut Text,
@@ -236,9 +257,6 @@ pub fn push_resolved(
         text.push('&')?;
         return text.push_str(held.as_str());
     };
-    text.push(found.first)?;
-    if let Some(second) = found.second {
-        text.push(second)?;
-    }
+    push_found(text, found)?;
     text.push_str(held.behind(found.len))
 }

@@ -101,7 +101,12 @@ fn hinted(rows: &[ReferenceRow], order: &[usize], hints: &Hints, name: &[u8]) ->
 }
 
 // The place of the row of a name, by the hints or else by a search.
-fn find_hinted(rows: &[ReferenceRow], order: &[usize], hints: &Hints, name: &[u8]) -> Option<usize>
+pub fn find_hinted(
+    rows: &[ReferenceRow],
+    order: &[usize],
+    hints: &Hints,
+    name: &[u8],
+) -> Option<usize>
     requires { IsOrder rows.now order.now }
     ensures found { IfSome result (λ place. (place < length rows.now) × (name_at rows.now place ≡ name.now)) }
     ensures absent { IfNone result (is_named rows.now name.now ≡ false) }

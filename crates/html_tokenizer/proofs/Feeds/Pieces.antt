@@ -12,7 +12,7 @@ use Rattle.html_tokens.specs.Notes.{Notes, noting_error}
 use Rattle.html_tokens.specs.Reading.{erred_by}
 use Rattle.html_tokens.specs.Sink.{Reply}
 use Rattle.html_tokenizer_parts.specs.CharRefs.{fits_in}
-use Rattle.html_tokenizer.specs.Calls.{ComesAsRunAt, to_come, paused_with, IsReady, Passes, KeepsRun, KeepsText, Leaves, HasMoved, Moved, Moves, Fed, Runs, Rests, owed_for_text}
+use Rattle.html_tokenizer.specs.Calls.{ComesAsRunAt, to_come, paused_with, IsReady, Passes, KeepsRun, answered, Leaves, HasMoved, Moved, Moves, Fed, Runs, Rests, owed_for_text}
 use Rattle.html_tokenizer_parts.specs.Input.{coming_in, newline_for, last_of, ComesAs, Vanishes}
 use Rattle.html_tokenizer_parts.specs.Keywords.{IsPart}
 use Rattle.html_tokenizer_parts.specs.declared.stream.Stream.{Stream}
@@ -226,9 +226,9 @@ module _ {K H : Type 0} (Sink : Ghosts K H) where
       }
 
   -- a front was taken as a run, where control characters and noncharacters are not told
-  pub moved-plain : (old mid new : Tokenizer K) (from to : Queue) (run : List ℕ) (result : Result (ProcessResult H) ParseFault) → mid ≡ record old { stream = mid.stream } → IsOther old.stream mid.stream → old.stream.exact_errors ≡ false
-      → Takes run from to → ((t : List ℕ) → coming_in old.stream (run ++ t) ≡ run ++ coming_in mid.stream t) → 0 < length run → KeepsText Sink mid new run result → Moves Sink old new from to result
-  moved-plain old mid new from to run (Ok flow.Continue) is other plain takes front filled p = record {
+  pub moved-plain : (old mid new : Tokenizer K) (from to : Queue) (run : List ℕ) (result : Result (Unit {0}) ParseFault) → mid ≡ record old { stream = mid.stream } → IsOther old.stream mid.stream → old.stream.exact_errors ≡ false
+      → Takes run from to → ((t : List ℕ) → coming_in old.stream (run ++ t) ≡ run ++ coming_in mid.stream t) → 0 < length run → KeepsRun Sink mid new run result → Moves Sink old new from to (answered flow.Continue result)
+  moved-plain old mid new from to run (Ok x) is other plain takes front filled p = record {
     taken = run;
     takes = takes;
     came = run;
@@ -248,9 +248,6 @@ module _ {K H : Type 0} (Sink : Ghosts K H) where
     exact = ap (λ s. s.exact_errors) p.stream ∙ ap (λ s. s.exact_errors) other;
     left = filled;
   }
-  moved-plain old mid new from to run (Ok flow.Suspend) is other plain takes front filled p = absurd p
-  moved-plain old mid new from to run (Ok (flow.Script handle)) is other plain takes front filled p = absurd p
-  moved-plain old mid new from to run (Ok (flow.EncodingIndicator label)) is other plain takes front filled p = absurd p
   moved-plain old mid new from to run (Err fault) is other plain takes front filled p =
       let stays : Stays Sink old.sink mid.sink = stays-same Sink old.sink mid.sink (ap (λ (k : Tokenizer K). k.sink) is) in
       record {
@@ -262,14 +259,7 @@ module _ {K H : Type 0} (Sink : Ghosts K H) where
             (fails-before Sink old.sink mid.sink new.sink _ fault stays (p.1 notes (coming_in mid.stream t)));
       }
 
-  pub moved-run : (old mid new : Tokenizer K) (from to : Queue) (run : List ℕ) (result : Result (ProcessResult H) ParseFault) → mid ≡ record old { stream = mid.stream } → ComesAsRunAt old mid.stream from to run
-      → KeepsText Sink mid new run result → Moves Sink old new from to result
+  pub moved-run : (old mid new : Tokenizer K) (from to : Queue) (run : List ℕ) (result : Result (Unit {0}) ParseFault) → mid ≡ record old { stream = mid.stream } → ComesAsRunAt old mid.stream from to run
+      → KeepsRun Sink mid new run result → Moves Sink old new from to (answered flow.Continue result)
   moved-run old mid new from to run result is h p =
       moved-plain old mid new from to run result is h.comes.changed (run-plain old.stream.exact_errors old.char_ref old.state h.stops h.are) h.comes.takes h.comes.front h.comes.filled p
-
-  -- The run could not be taken.
-  pub not-taken : (old new : Tokenizer K) (run : List ℕ) (fault : ParseFault) (result : Result (ProcessResult H) ParseFault) → KeepsRun Sink old new run (Err fault) → IsErrAnd result (λ y. y ≡ fault)
-      → KeepsText Sink old new run result
-  not-taken old new run fault result h is =
-      let p = err_from_is_err_and result is in
-      rw (p.1, p.2) h

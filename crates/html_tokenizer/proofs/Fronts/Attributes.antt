@@ -1,5 +1,7 @@
 -- Attributes that are taken from the front of a text at once: what is taken is what the states would have taken, character by character.
 use Rattle.std.proofs.Common.{◌≡◌, ◌≢◌, ℕ, ◌<◌, true, false, nat_eq, List, [], ◌∷◌, ◌++◌, length, Some, None, Result, Ok, Err, refl, sym, ap, subst, arith, length-append}
+use Rattle.std.specs.Result.{IsErrAnd}
+use Rattle.std.proofs.lemmas.Result.{err_from_is_err_and}
 use Rattle.std.specs.Prelude.{map}
 use Rattle.std.specs.Char.{to_ascii_lowercase}
 use Rattle.std.specs.Str.{IsUtf8, chars}
@@ -15,7 +17,7 @@ use Rattle.html_tokens.specs.declared.states.AttrValueKind.TheVariants as value
 use Rattle.html_tokens.specs.declared.states.State.{State}
 use Rattle.html_tokens.specs.declared.states.State.TheVariants as state
 use Rattle.html_tokens.specs.Characters.{ends_word}
-use Rattle.html_tokenizer.specs.Calls.{TookRun}
+use Rattle.html_tokenizer.specs.Calls.{TookRun, answered}
 use Rattle.html_tokenizer_parts.specs.CharRefs.{fits_in}
 use Rattle.html_tokenizer.specs.declared.tokenizer.Tokenizer.{Tokenizer}
 use Rattle.html_tokenizer.specs.Fronts.{IsFilled, IsInTag, IsNameAt, Lacks, ReadsAhead, TakesFront, after_name, after_value, attribute_stops, ended, ended_in, in_name, in_value, naming, plain_stops, with_value}
@@ -131,6 +133,12 @@ module _ {K H : Type 0} (Sink : Ghosts K H) where
   tag-closes old new result (in_value from) ok h =
       let ends : EndsTag Sink (with_value old old.attribute_value) new result = subst (λ st. EndsTag Sink (ended_in st old) new result) from.state h in
       unquoted-end Sink old (with_value old old.attribute_value) new 62 result from refl refl (before-closes (with_value old old.attribute_value) new result from.fresh ok ends)
+
+  -- the tag could not be ended
+  pub tag-unclosed : (old new : Tokenizer K) (fault : ParseFault) (answer : ProcessResult H) (result : Result (Unit {0}) ParseFault) → IsInTag old → Sink.is_sound (Sink.view old.sink) → EndsTag Sink (ended old) new (Err fault) → IsErrAnd result (λ y. y ≡ fault) → Keeps Sink old new 62 (answered answer result)
+  tag-unclosed old new fault answer result at ok h is =
+      let p = err_from_is_err_and result is in
+      rw (p.1, p.2) (tag-closes old new (Err fault) at ok h)
 
   -- NAMES
 

@@ -30,7 +30,7 @@ use Rattle.html_tokenizer_parts.specs.Input.{coming_in, counted}
 use Rattle.html_tokenizer_parts.specs.declared.stream.Stream.{Stream}
 use Rattle.html_tokenizer_parts.proofs.InputRuns.{without_none}
 use Rattle.html_tokenizer_parts.proofs.Sets.{not-member}
-use Rattle.html_tokenizer.specs.Calls.{Moves, owed_for_text}
+use Rattle.html_tokenizer.specs.Calls.{Moves, answered, owed_for_text}
 use Rattle.html_tokenizer.specs.declared.tokenizer.Tokenizer.{Tokenizer}
 use Rattle.html_tokenizer.specs.Fronts.{AreLines, HasLines, IsOfLine, KeepsLines, Lacks, ReadsTags, counted_all}
 use Rattle.html_tokenizer.specs.Listeners.{Listener, listening, emitted_text}
@@ -127,7 +127,7 @@ lines-filled text rest width b m is some lines =
     let bytes : width ≡ length lines.front = is ∙ lines-width text rest b m lines in
     filled (chars lines.front) lines.front (encodes-chars lines.front lines.utf8) (subst (λ n. 0 < n) bytes (more-than-none width some))
 
-from-front : (text : List ℕ) (width : ℕ) → slice_range text 0 width ≡ take width text
+pub from-front : (text : List ℕ) (width : ℕ) → slice_range text 0 width ≡ take width text
 from-front text width = ap (λ n. take n text) (less-none width)
 
 -- A text was made of them, and the queue lost them.
@@ -261,9 +261,9 @@ module _ {K H : Type 0} (Sink : Ghosts K H) where
       }
 
   -- The input stays stuck where they could not be told.
-  pub lines-stuck : (old new : Tokenizer K) (run : List ℕ) (from to : Queue) (fault : ParseFault) (result : Result (ProcessResult H) ParseFault) → ReadsTags old → old.stream.ignore_lf ≡ false → AreLines run → Takes run from to → KeepsLines Sink old new run (Err fault)
-      → IsErrAnd result (λ y. y ≡ fault) → Moves Sink old new from to result
-  lines-stuck old new run from to fault result reads heeded lines takes fails e =
+  pub lines-stuck : (old new : Tokenizer K) (run : List ℕ) (from to : Queue) (fault : ParseFault) (answer : ProcessResult H) (result : Result (Unit {0}) ParseFault) → ReadsTags old → old.stream.ignore_lf ≡ false → AreLines run → Takes run from to → KeepsLines Sink old new run (Err fault)
+      → IsErrAnd result (λ y. y ≡ fault) → Moves Sink old new from to (answered answer result)
+  lines-stuck old new run from to fault answer result reads heeded lines takes fails e =
       let p = err_from_is_err_and result e in
       let comes : (t : List ℕ) → coming_in old.stream (run ++ t) ≡ run ++ coming_in old.stream t = λ t. lines-front old.stream run t reads.unmarked heeded lines in
       rw (p.1, p.2) (record {

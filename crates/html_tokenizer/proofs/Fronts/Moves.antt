@@ -13,7 +13,7 @@ use Rattle.html_tokens.specs.declared.replies.ProcessResult.{ProcessResult}
 use Rattle.html_tokens.specs.declared.replies.ProcessResult.TheVariants as flow
 use Rattle.html_tokens.specs.declared.sink.TokenSink.{Ghosts}
 use Rattle.html_tokens.specs.declared.states.State.{State}
-use Rattle.html_tokenizer.specs.Calls.{IsReady, Moves, owed_for_text}
+use Rattle.html_tokenizer.specs.Calls.{IsReady, Moves, answered, owed_for_text}
 use Rattle.html_tokenizer.specs.Fronts.{ReadsAhead, TakesFront}
 use Rattle.html_tokenizer_parts.specs.Input.{coming_in}
 use Rattle.html_tokenizer.specs.declared.tokenizer.Tokenizer.{Tokenizer}
@@ -43,6 +43,10 @@ module _ {K H : Type 0} (Sink : Ghosts K H) where
   -- the machine without a line feed to be left out
   abbrev pub heeding : Tokenizer K → Tokenizer K
   heeding k = record k { stream = record k.stream { ignore_lf = false } }
+
+  -- a step goes on
+  pub goes-on_by : (old new : Tokenizer K) (from to : Queue) (answer : ProcessResult H) → answer ≡ flow.Continue → Moves Sink old new from to (Ok flow.Continue) → Moves Sink old new from to (Ok answer)
+  goes-on_by old new from to answer e h = rw e h
 
   -- what was taken is what the queue lost
   pub moved-front : (st : State) (old new : Tokenizer K) (from to : Queue) (text spelled rest : List ℕ) (width : ℕ) → ReadsAhead old st → text ≡ spelled → width ≡ length text - length rest → length rest < length text → TakesFront Sink (heeding old) new text rest
@@ -74,8 +78,8 @@ module _ {K H : Type 0} (Sink : Ghosts K H) where
       }
 
   -- no memory was left for it
-  pub not-fronted : (old new : Tokenizer K) (from : Queue) (fault : ParseFault) (result : Result (ProcessResult H) ParseFault) → new.sink ≡ old.sink → fault ≡ Memory → IsReady Sink old → IsErrAnd result (λ y. y ≡ fault) → Moves Sink old new from from result
-  not-fronted old new from fault result same memory ready e =
+  pub not-fronted : (old new : Tokenizer K) (from : Queue) (fault : ParseFault) (answer : ProcessResult H) (result : Result (Unit {0}) ParseFault) → new.sink ≡ old.sink → fault ≡ Memory → IsReady Sink old → IsErrAnd result (λ y. y ≡ fault) → Moves Sink old new from from (answered answer result)
+  not-fronted old new from fault answer result same memory ready e =
       let p = err_from_is_err_and result e in
       rw (p.1, p.2, memory) (record {
         lost = [];

@@ -1,6 +1,6 @@
 -- References by name that are read from the front of a text at once.
-use Rattle.std.proofs.Common.{◌≡◌, ◌∙◌, ℕ, ◌-◌, ◌<◌, true, false, nat_eq, Bool, List, [], ◌∷◌, ◌++◌, length, take, Option, Result, Ok, Err, refl, sym, ap, subst, arith, append_assoc, append-nil, length-append}
-use Rattle.std.specs.List.{ends_with, list_all}
+use Rattle.std.proofs.Common.{◌≡◌, ◌∙◌, ℕ, ◌-◌, ◌<◌, true, false, nat_eq, Bool, List, [], ◌∷◌, ◌++◌, length, take, drop, ◌+◌, Some, Option, Result, Ok, Err, refl, sym, ap, subst, arith, append_assoc, append-nil, length-append}
+use Rattle.std.specs.List.{ends_with, list_all, slice_range}
 use Rattle.std.specs.Result.{IsErrAnd}
 use Rattle.std.specs.Prelude.{IfErr, OnOk, is_some}
 use Rattle.std.specs.Str.{IsCharBoundary, IsUtf8, chars}
@@ -10,7 +10,7 @@ use Rattle.std.proofs.lemmas.List.Elements.{All-cons, All-nil}
 use Rattle.std.proofs.lemmas.Result.{err_from_is_err_and}
 use Rattle.std.proofs.lemmas.Slice.Eq.{ends_is}
 use Rattle.std.proofs.lemmas.Str.{chars-append, IsCharBoundary-from_take, IsUtf8-append, IsUtf8-from_ascii, chars-IsAscii}
-use Rattle.std.proofs.Math.Seq.{take-append_seam}
+use Rattle.std.proofs.Math.Seq.{drop-length, take-append_seam}
 use Rattle.markup.specs.declared.fault.ParseFault.{ParseFault}
 use Rattle.markup.specs.declared.fault.ParseFault.TheVariants.{Memory}
 use Rattle.html_queue.specs.Queue.{Queue, Takes}
@@ -28,21 +28,24 @@ use Rattle.html_tokens.specs.Reading.{◌>>=◌, line_number}
 use Rattle.html_tokens.specs.Item.{slight_if}
 use Rattle.html_tokens.specs.Reference.{Reference, fault_of_reference, reference_at}
 use Rattle.html_tokens.specs.Sink.{SinkLaws}
-use Rattle.html_tokenizer.specs.Calls.{KeepsRun, Moves, TookRun}
-use Rattle.html_tokenizer_parts.specs.CharRefs.{decided, fits_in, is_front_by, is_held, resolved, resolved_by}
+use Rattle.html_tokenizer.specs.Calls.{KeepsRun, Moves, TookRun, answered}
+use Rattle.html_tokenizer_parts.specs.CharRefs.{decided, fits_in, is_front_by, is_held, reference_of, resolved, resolved_by}
+use Rattle.html_tokenizer_parts.specs.declared.numbers.Found.{Found}
+use Rattle.html_tokens.specs.Table.{Row}
 use Rattle.html_tokenizer_parts.proofs.CharRefs.{fault-decided, reference-end}
 use Rattle.html_tokenizer_parts.proofs.HeldFronts.{front-held, hash-unnamed}
 use Rattle.html_tokenizer_parts.proofs.InputRuns.{front-comes}
-use Rattle.html_tokenizer.specs.Fronts.{IsReferenceAt, IsWholeName, ReadsAhead, TakesFront}
+use Rattle.html_tokenizer.specs.Fronts.{IsReferenceAt, IsWholeName, ReadsAhead, StandsFor, TakesFront}
 use Rattle.html_tokenizer_parts.specs.Input.{IsUnbroken, coming_in}
 use Rattle.html_tokenizer.specs.Rest.{rows_of}
-use Rattle.html_tokenizer.specs.Steps.{IsAt, Tells, and_heard, more, now, owed_for}
+use Rattle.html_tokenizer.specs.Steps.{IsAt, Tells, and_heard, more, nothing_owed, now, owed_for}
 use Rattle.html_tokenizer.specs.declared.tokenizer.Tokenizer.{Tokenizer}
 use Rattle.html_tokenizer.proofs.Feeds.Pieces.{comes-to}
 use Rattle.html_tokenizer.proofs.Fronts.Texts.{ascii-one, chars-cons, utf8-cons}
+use Rattle.html_tokenizer.proofs.Fronts.Lines.{from-front}
 use Rattle.html_tokenizer.proofs.Fronts.Moves.{heeding}
 use Rattle.html_tokenizer.proofs.Errors.Rises.{rises-slight}
-use Rattle.html_tokenizer.proofs.HeldReferences.InText.{data-at_end, data-resolves}
+use Rattle.html_tokenizer.proofs.HeldReferences.InText.{data-at_end, data-resolves, reference-told}
 use Rattle.html_tokenizer.proofs.HeldReferences.InValues.{value-at_end, value-resolves, wronged_by}
 use Rattle.html_tokenizer.proofs.Steps.Keeping.{at, fails-along, fell-same, fits-at, now-at, now-target, stays-same, told-next, token-fails}
 
@@ -55,12 +58,6 @@ held-whole [] h = All-nil (λ c. (nat_eq c 10 ≡ false) × (nat_eq c 13 ≡ fal
 held-whole (c ∷ cs) h =
     let p = and_parts (is_held c) (list_all is_held cs) h in
     All-cons (λ c. (nat_eq c 10 ≡ false) × (nat_eq c 13 ≡ false)) c cs (held-no_break c p.0) (held-whole cs p.1)
-
--- the characters of "&", a name and ";"
-spelled : (name : List ℕ) → IsUtf8 name → chars (38 ∷ (name ++ 59 ∷ [])) ≡ 38 ∷ (chars name ++ 59 ∷ [])
-spelled name utf8 =
-    chars-cons 38 (name ++ 59 ∷ []) (omega arith)
-    ∙ ap (λ u. 38 ∷ u) (chars-append name (59 ∷ []) utf8 ∙ ap (λ u. chars name ++ u) (chars-IsAscii (59 ∷ []) (ascii-one 59 (omega arith))))
 
 -- what begins a name of the table and ends in ";" is a whole name
 pub whole-name : (rows : List ReferenceRow) → IsCheckedTable rows → (cs : List ℕ) → is_front rows cs ≡ true → ends_with nat_eq cs (59 ∷ []) ≡ true → IsWholeName rows cs
@@ -83,9 +80,36 @@ whole-name rows checked (h ∷ hs) f e =
 semicolon-ends : (cs : List ℕ) → ends_with nat_eq (cs ++ 59 ∷ []) (59 ∷ []) ≡ true
 semicolon-ends cs = (ends_is Decides-eqb (cs ++ 59 ∷ []) (59 ∷ []) _ refl).1 cs refl
 
--- the same of a text that was found to be such a front
-pub whole-found : (rows : List ReferenceRow) → IsCheckedTable rows → (cs text : List ℕ) (found : Bool) → found ≡ is_front rows text → text ≡ cs ++ 59 ∷ [] → found ≡ true → IsWholeName rows (cs ++ 59 ∷ [])
-whole-found rows checked cs text found e is h = whole-name rows checked (cs ++ 59 ∷ []) (ap (is_front rows) (sym is) ∙ (sym e ∙ h)) (semicolon-ends cs)
+-- "&", a name and ";" stand at the front of a text
+front-of_reference : (inner name after rest : List ℕ) → inner ≡ name ++ after → after ≡ 59 ∷ rest → inner ≡ (name ++ 59 ∷ []) ++ rest
+front-of_reference inner name after rest e f = e ∙ ap (λ u. name ++ u) f ∙ sym (append_assoc name (59 ∷ []) rest)
+
+name-utf8 : (name : List ℕ) → IsUtf8 name → IsUtf8 (name ++ 59 ∷ [])
+name-utf8 name utf8 = IsUtf8-append name (59 ∷ []) utf8 (IsUtf8-from_ascii (59 ∷ []) (ascii-one 59 (omega arith)))
+
+name-width : (name : List ℕ) → length name + 1 ≡ length (name ++ 59 ∷ [])
+name-width name = omega (arith, length-append name (59 ∷ []))
+
+name-taken : (inner name after rest : List ℕ) → inner ≡ name ++ after → after ≡ 59 ∷ rest → take (length name + 1) inner ≡ name ++ 59 ∷ []
+name-taken inner name after rest e f = ap (λ n. take n inner) (name-width name) ∙ ap (take (length (name ++ 59 ∷ []))) (front-of_reference inner name after rest e f) ∙ take-append_seam (name ++ 59 ∷ []) rest
+
+pub name-cut : (inner name after rest : List ℕ) → inner ≡ name ++ after → after ≡ 59 ∷ rest → IsUtf8 inner → IsUtf8 name → IsCharBoundary inner (length name + 1)
+name-cut inner name after rest e f utf8 cut =
+    IsCharBoundary-from_take inner (length name + 1) utf8 (omega (arith, ap length (front-of_reference inner name after rest e f), length-append (name ++ 59 ∷ []) rest, name-width name))
+    (subst IsUtf8 (sym (name-taken inner name after rest e f)) (name-utf8 name cut))
+
+pub reference-found : (text inner name after rest slice : List ℕ) → text ≡ 38 ∷ inner → inner ≡ name ++ after → after ≡ 59 ∷ rest → IsUtf8 name → slice ≡ slice_range inner 0 (length name + 1) → IsReferenceAt slice rest text
+reference-found text inner name after rest slice is e f cut lent =
+    let same : slice ≡ name ++ 59 ∷ [] = lent ∙ from-front inner (length name + 1) ∙ name-taken inner name after rest e f in
+    rw same (record {
+      whole = is ∙ ap (λ u. 38 ∷ u) (front-of_reference inner name after rest e f);
+      utf8 = name-utf8 name cut;
+      ends = ap (λ cs. ends_with nat_eq cs (59 ∷ [])) (chars-append name (59 ∷ []) cut ∙ ap (λ u. chars name ++ u) (chars-IsAscii (59 ∷ []) (ascii-one 59 (omega arith)))) ∙ semicolon-ends (chars name);
+    })
+
+-- nothing stands after the name in what is held
+stands-resolved : (rows : List Row) (cs : List ℕ) (found : Found) → StandsFor rows cs found → resolved_by (Some (reference_of found)) cs ≡ (reference_of found).chars
+stands-resolved rows cs found whole = ap (λ n. (reference_of found).chars ++ drop n cs) whole.is.len ∙ ap (λ u. (reference_of found).chars ++ u) (drop-length cs) ∙ append-nil ((reference_of found).chars)
 
 module _ {K H : Type 0} (Sink : Ghosts K H) (laws : SinkLaws Sink.is_sound Sink.step Sink.ended Sink.is_quiet) where
   -- a whole name is told in data as what it stands for, whatever follows
@@ -122,6 +146,19 @@ module _ {K H : Type 0} (Sink : Ghosts K H) (laws : SinkLaws Sink.is_sound Sink.
         (now-at Sink old state.Data old.stream.breaks (Sink.view old.sink, notes) ((38 ∷ cs) ++ t) from ∙ whole-says old cs whole old.stream.breaks (Sink.view old.sink, notes) ok t),
   )
 
+  -- what it stands for was told
+  pub whole-emitted : (old new : Tokenizer K) (cs front text : List ℕ) (found : Found) (result : Result (Unit {0}) ParseFault) → IsAt old state.Data → Sink.is_sound (Sink.view old.sink) → StandsFor (rows_of old) cs found → text ≡ front ++ (reference_of found).chars → front ≡ []
+      → Tells Sink nothing_owed (CharacterTokens text) old new result → KeepsRun Sink old new (38 ∷ cs) result
+  whole-emitted old new cs front text found result from ok whole pushed none tells =
+      whole-told old new cs result from ok whole.name
+      (reference-told Sink laws false false old new cs front text (Some (reference_of found)) result refl (sym (whole.is.faultless whole.ends)) (pushed ∙ ap (λ u. front ++ u) (sym (stands-resolved (rows_of old) cs found whole))) none (whole.is.stands false) tells)
+
+  -- no memory was left for it
+  pub whole-unmade : (old : Tokenizer K) (cs : List ℕ) (fault : ParseFault) (result : Result (Unit {0}) ParseFault) → Sink.is_sound (Sink.view old.sink) → fault ≡ Memory → IsErrAnd result (λ y. y ≡ fault) → KeepsRun Sink old old (38 ∷ cs) result
+  whole-unmade old cs fault result ok memory e =
+      let p = err_from_is_err_and result e in
+      rw (p.1, p.2, memory) (fell-same Sink old.sink old.sink refl ok, λ notes t. tt)
+
 module _ {K H : Type 0} (Sink : Ghosts K H) where
   -- the machine with what a whole name stands for after its value
   abbrev with_whole : Tokenizer K → List ℕ → Tokenizer K
@@ -154,29 +191,40 @@ module _ {K H : Type 0} (Sink : Ghosts K H) where
         stays = stays-same Sink old.sink old.sink refl;
       })
 
-  pub whole-taken : (kind : AttrValueKind) (old : Tokenizer K) (cs text : List ℕ) (found : Option Reference) (result : Result (Unit {0}) ParseFault) → IsAt old (state.AttributeValue kind) → Sink.is_sound (Sink.view old.sink) → IsWholeName (rows_of old) cs
+  whole-taken : (kind : AttrValueKind) (old : Tokenizer K) (cs text : List ℕ) (found : Option Reference) (result : Result (Unit {0}) ParseFault) → IsAt old (state.AttributeValue kind) → Sink.is_sound (Sink.view old.sink) → IsWholeName (rows_of old) cs
       → OnOk result (text ≡ old.attribute_value ++ resolved_by found cs) → IfErr result (λ fault. fault ≡ Memory) → found ≡ decided true (rows_of old) cs false → KeepsRun Sink old (record old { attribute_value = text }) (38 ∷ cs) result
   whole-taken kind old cs text found (Ok x) from ok whole pushed memory is = whole-pushed kind old cs text found from ok whole pushed is
   whole-taken kind old cs text found (Err fault) from ok whole pushed memory is = rw memory (fell-same Sink old.sink old.sink refl ok, λ notes t. tt)
 
-module _ {K H : Type 0} (Sink : Ghosts K H) where
-  -- the bytes of "&", a name and ";" stand at the front of the text, and spell these characters
-  pub record Spells (name rest text : List ℕ) (cs : List ℕ) : Type 0 where
-    pub whole : text ≡ (38 ∷ (name ++ 59 ∷ [])) ++ rest
-    pub utf8 : IsUtf8 (38 ∷ (name ++ 59 ∷ []))
-    pub spelled : chars (38 ∷ (name ++ 59 ∷ [])) ≡ 38 ∷ cs
+  valued : (rows : List Row) (cs front text : List ℕ) (found : Found) (result : Result (Unit {0}) ParseFault) → StandsFor rows cs found → OnOk result (text ≡ front ++ (reference_of found).chars) → OnOk result (text ≡ front ++ resolved_by (Some (reference_of found)) cs)
+  valued rows cs front text found (Ok x) whole pushed =
+      pushed ∙ ap (λ u. front ++ u) (sym (stands-resolved rows cs found whole))
+  valued rows cs front text found (Err fault) whole pushed = tt
 
-  pub reference-spells : (name rest text cs : List ℕ) → IsReferenceAt name rest text → cs ≡ chars name ++ 59 ∷ [] → Spells name rest text cs
-  reference-spells name rest text cs at e = record {
-    whole = at.whole ∙ ap (λ u. 38 ∷ u) (sym (append_assoc name (59 ∷ []) rest));
-    utf8 = utf8-cons 38 (name ++ 59 ∷ []) (omega arith) (IsUtf8-append name (59 ∷ []) at.utf8 (IsUtf8-from_ascii (59 ∷ []) (ascii-one 59 (omega arith))));
-    spelled = spelled name at.utf8 ∙ ap (λ u. 38 ∷ u) (sym e);
+  -- what it stands for was put after a value
+  pub whole-valued : (kind : AttrValueKind) (old : Tokenizer K) (cs text : List ℕ) (found : Found) (result : Result (Unit {0}) ParseFault) → IsAt old (state.AttributeValue kind) → Sink.is_sound (Sink.view old.sink) → StandsFor (rows_of old) cs found
+      → OnOk result (text ≡ old.attribute_value ++ (reference_of found).chars) → IfErr result (λ fault. fault ≡ Memory) → KeepsRun Sink old (record old { attribute_value = text }) (38 ∷ cs) result
+  whole-valued kind old cs text found result from ok whole pushed memory =
+      whole-taken kind old cs text (Some (reference_of found)) result from ok whole.name (valued (rows_of old) cs old.attribute_value text found result whole pushed) memory (whole.is.stands true)
+
+module _ {K H : Type 0} (Sink : Ghosts K H) where
+  -- the bytes of "&" and a name stand at the front of the text, and spell these characters
+  pub record Spells (name rest text : List ℕ) (cs : List ℕ) : Type 0 where
+    pub whole : text ≡ (38 ∷ name) ++ rest
+    pub utf8 : IsUtf8 (38 ∷ name)
+    pub spelled : chars (38 ∷ name) ≡ 38 ∷ cs
+
+  pub reference-spells : (name rest text : List ℕ) → IsReferenceAt name rest text → Spells name rest text (chars name)
+  reference-spells name rest text at = record {
+    whole = at.whole;
+    utf8 = utf8-cons 38 name (omega arith) at.utf8;
+    spelled = chars-cons 38 name (omega arith);
   }
 
   -- the text may be cut after them
   pub reference-cut : (name rest text read : List ℕ) (cs : List ℕ) (width : ℕ) → IsUtf8 text → text ≡ read → width ≡ length text - length rest → Spells name rest text cs → IsCharBoundary read width
   reference-cut name rest text read cs width utf8 e is at =
-      let front = 38 ∷ (name ++ 59 ∷ []) in
+      let front = 38 ∷ name in
       let n : width ≡ length front = omega (arith, is, ap length at.whole, length-append front rest) in
       let taken : take (length front) text ≡ front = ap (take (length front)) at.whole ∙ take-append_seam front rest in
       subst (λ u. IsCharBoundary u width) e
@@ -188,7 +236,7 @@ module _ {K H : Type 0} (Sink : Ghosts K H) where
 
   pub reference-taken : (old new : Tokenizer K) (name rest text cs : List ℕ) → Spells name rest text cs → list_all is_held cs ≡ true → KeepsRun Sink old new (38 ∷ cs) (Ok tt) → TakesFront Sink old new text rest
   reference-taken old new name rest text cs at held p = record {
-    front = 38 ∷ (name ++ 59 ∷ []);
+    front = 38 ∷ name;
     whole = at.whole;
     utf8 = at.utf8;
     unbroken = subst IsUnbroken (sym at.spelled) (front-unbroken cs held);
@@ -196,11 +244,11 @@ module _ {K H : Type 0} (Sink : Ghosts K H) where
   }
 
   -- the input stays stuck where what it stands for could not be told
-  pub reference-stuck : (st : State) (old new : Tokenizer K) (from to : Queue) (name rest text read cs : List ℕ) (width : ℕ) (fault : ParseFault) (result : Result (ProcessResult H) ParseFault) → ReadsAhead old st → text ≡ read → width ≡ length text - length rest → Spells name rest text cs → list_all is_held cs ≡ true
-      → Takes (chars (take width read)) from to → KeepsRun Sink (heeding Sink old) new (38 ∷ cs) (Err fault) → IsErrAnd result (λ y. y ≡ fault) → Moves Sink old new from to result
-  reference-stuck st old new from to name rest text read cs width fault result reads e is at held takes fails wrong =
+  pub reference-stuck : (st : State) (old new : Tokenizer K) (from to : Queue) (name rest text read cs : List ℕ) (width : ℕ) (fault : ParseFault) (answer : ProcessResult H) (result : Result (Unit {0}) ParseFault) → ReadsAhead old st → text ≡ read → width ≡ length text - length rest → Spells name rest text cs → list_all is_held cs ≡ true
+      → Takes (chars (take width read)) from to → KeepsRun Sink (heeding Sink old) new (38 ∷ cs) (Err fault) → IsErrAnd result (λ y. y ≡ fault) → Moves Sink old new from to (answered answer result)
+  reference-stuck st old new from to name rest text read cs width fault answer result reads e is at held takes fails wrong =
       let p = err_from_is_err_and result wrong in
-      let front = 38 ∷ (name ++ 59 ∷ []) in
+      let front = 38 ∷ name in
       let run = 38 ∷ cs in
       let n : width ≡ length front = omega (arith, is, ap length at.whole, length-append front rest) in
       let taken : chars (take width read) ≡ run = ap (λ u. chars (take width u)) (sym e) ∙ ap (λ k. chars (take k text)) n ∙ ap chars (ap (take (length front)) at.whole ∙ take-append_seam front rest) ∙ at.spelled in
@@ -214,4 +262,4 @@ module _ {K H : Type 0} (Sink : Ghosts K H) where
 
   -- less is left than there was
   pub reference-shorter : (name rest text : List ℕ) → IsReferenceAt name rest text → length rest < length text
-  reference-shorter name rest text at = omega (arith, ap length at.whole, length-append name (59 ∷ rest))
+  reference-shorter name rest text at = omega (arith, ap length at.whole, length-append name rest)

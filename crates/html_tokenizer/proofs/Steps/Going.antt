@@ -1,12 +1,12 @@
 -- A character that is not ">" ends no tag, so no pause follows it.
-use Rattle.std.proofs.Common.{◌≡◌, ◌≢◌, ℕ, Bool, false, [], ◌∷◌, Result, Err, refl}
+use Rattle.std.proofs.Common.{◌≡◌, ◌≢◌, ℕ, Bool, false, [], ◌∷◌, Result, Ok, Err, refl}
 use Rattle.std.specs.Result.{IsErrAnd}
 use Rattle.std.proofs.lemmas.Result.{err_from_is_err_and}
 use Rattle.markup.specs.declared.fault.ParseFault.{ParseFault}
 use Rattle.html_tokens.specs.declared.replies.ProcessResult.{ProcessResult}
 use Rattle.html_tokens.specs.declared.replies.ProcessResult.TheVariants as flow
 use Rattle.html_tokens.specs.declared.sink.TokenSink.{Ghosts}
-use Rattle.html_tokenizer.specs.Calls.{Passed, Passes, owed_for_text}
+use Rattle.html_tokenizer.specs.Calls.{Passed, Passes, answered, owed_for_text}
 use Rattle.html_tokenizer_parts.specs.Input.{counted}
 use Rattle.html_tokenizer.specs.Going.{KeepsOn, PassesOn}
 use Rattle.html_tokenizer_parts.specs.declared.stream.Stream.{Stream}
@@ -43,8 +43,16 @@ module _ {K H : Type 0} (Sink : Ghosts K H) where
       rw (p.1, p.2) fails
 
   -- no pause followed
-  pub on-failed : (old new : Tokenizer K) (c : ℕ) (fault : ParseFault) (result : Result (ProcessResult H) ParseFault) → PassesOn Sink old new c (Err fault) → IsErrAnd result (λ y. y ≡ fault) → Passes Sink old new c result
-  on-failed old new c fault result h is =
+  on-passed : (old new : Tokenizer K) (c : ℕ) (result : Result (Unit {0}) ParseFault) → PassesOn Sink old new c result → Passes Sink old new c (answered flow.Continue result)
+  on-passed old new c (Ok x) h = h
+  on-passed old new c (Err fault) h = h
+
+  pub on-answered : (old new : Tokenizer K) (c : ℕ) (answer : ProcessResult H) (result : Result (Unit {0}) ParseFault) → answer ≡ flow.Continue → PassesOn Sink old new c result → Passes Sink old new c (answered answer result)
+  on-answered old new c answer result e h = rw e (on-passed old new c result h)
+
+  -- the character could not be taken
+  pub close-failed : (old new : Tokenizer K) (c : ℕ) (fault : ParseFault) (answer : ProcessResult H) (result : Result (Unit {0}) ParseFault) → Passes Sink old new c (Err fault) → IsErrAnd result (λ y. y ≡ fault) → Passes Sink old new c (answered answer result)
+  close-failed old new c fault answer result h is =
       let p = err_from_is_err_and result is in
       rw (p.1, p.2) h
 

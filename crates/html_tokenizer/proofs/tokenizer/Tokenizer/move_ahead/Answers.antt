@@ -1,6 +1,5 @@
-use Rattle.std.proofs.Common.{Ok, refl}
-use Rattle.html_tokens.specs.declared.replies.ProcessResult.TheVariants as flow
-use Rattle.html_tokenizer.proofs.Feeds.Pieces.{moved-plain, not-taken}
+use Rattle.std.proofs.Common.{refl}
+use Rattle.html_tokenizer.proofs.Feeds.Pieces.{moved-plain}
 use Rattle.html_tokenizer.proofs.Fronts.Ahead.{comes-ahead}
 use Rattle.html_tokenizer.proofs.Fronts.Moves.{heeding}
 use Rattle.html_tokenizer.proofs.Fronts.Runs.{run-cut}
@@ -18,12 +17,4 @@ returns g c =
     let m = g.Sink.TokenSink in
     let old = c.args.self.now in
     let comes = comes-ahead old c.in-Some.kind c.as_str.result.now _ c.in-Some.run'.now c.in_ok-copied.copied c.args.input.now c.skip.new.self c.in-Some.ensures.reads c.as_str.ensures c.in-Some.ensures.front c.in-Some.ensures.utf8 c.in-Some.ensures.filled c.in_ok-copied.ensures.ok c.in-Some.ensures.lacking c.skip.ensures in
-    moved-plain m old (heeding m old) c.consume_ahead.new.self c.args.input.now c.skip.new.self c.in_ok-copied.copied (Ok flow.Continue) refl refl c.in-Some.ensures.reads.plain comes.takes comes.front comes.run.filled c.in_ok-consume_ahead.ensures
-
-pub returns-in_err-consume_ahead : goal.returns-in_err-consume_ahead
-returns-in_err-consume_ahead g c =
-    let m = g.Sink.TokenSink in
-    let old = c.args.self.now in
-    let comes = comes-ahead old c.in-Some.kind c.as_str.result.now _ c.in-Some.run'.now c.in_ok-copied.copied c.args.input.now c.skip.new.self c.in-Some.ensures.reads c.as_str.ensures c.in-Some.ensures.front c.in-Some.ensures.utf8 c.in-Some.ensures.filled c.in_ok-copied.ensures.ok c.in-Some.ensures.lacking c.skip.ensures in
-    moved-plain m old (heeding m old) c.consume_ahead.new.self c.args.input.now c.skip.new.self c.in_ok-copied.copied _ refl refl c.in-Some.ensures.reads.plain comes.takes comes.front comes.run.filled
-    (not-taken m _ _ _ _ _ c.in_err-consume_ahead.ensures c.from_residual-in_err-consume_ahead.ensures.1)
+    rw c.requires.goes_on (moved-plain m old (heeding m old) c.consume_ahead.new.self c.args.input.now c.skip.new.self c.in_ok-copied.copied c.consume_ahead.result refl refl c.in-Some.ensures.reads.plain comes.takes comes.front comes.run.filled c.consume_ahead.ensures)
