@@ -6,8 +6,8 @@ use Rattle.html_tree_builder.specs.Acting.{MayAct}
 use Rattle.html_tree_builder.specs.States.{Stands, built}
 use Rattle.html_tree_builder.proofs.construction.Construction.act_on_tag.Given as goal
 
-abbrev pub invariant-loop-first : goal.invariant-loop-first
-invariant-loop-first g l =
+abbrev pub invariant-loop-rest : goal.invariant-loop-rest
+invariant-loop-rest g l =
     let sink = g.Sink.TreeSink in
     let t = TagToken l.fn.tag in
     let s = built sink l.self (sink.forest l.sink) in
