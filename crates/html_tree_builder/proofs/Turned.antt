@@ -7,9 +7,9 @@ use Rattle.html_rules.specs.ForeignContent.{is_foreign}
 use Rattle.html_rules.specs.Modes.Foreign.{in_foreign_content}
 use Rattle.html_rules.specs.Rules.{Finished, Turn, concluded, first_fit, most_modes, rows, turn, turn_by_row, turn_of, using_rules_for}
 use Rattle.html_rules.specs.State.{State, current_number}
-use Rattle.html_rules.specs.Table.{Row}
+use Rattle.html_rules.specs.Table.{Row, Nothing, Done, Acknowledged, Using}
 use Rattle.html_rules.specs.declared.insertion_mode.InsertionMode.{InsertionMode}
-use Rattle.html_tree_builder.specs.Turning.{MayTakeRow, MayUse}
+use Rattle.html_tree_builder.specs.Turning.{MayConclude, MayTakeRow, MayUse}
 
 -- no mode's rules are left
 pub used-none : (n : ℕ) (m : InsertionMode) (t : Token) (s : State) → n ≡ 0 → turn_of s (Finished false) ≡ using_rules_for n m t s
@@ -47,3 +47,19 @@ turned-foreign t s r f is = rw (is, ← f) refl
 pub turned-mode : (t : Token) (s : State) → false ≡ is_foreign s t → using_rules_for most_modes s.mode t s ≡ turn t s
 unfolding turn
 turned-mode t s f = rw (← f) refl
+
+-- a row that only uses the rules of another mode
+pub used-rest : (n : ℕ) (m : InsertionMode) (t : Token) (s : State) (r : Row) → r.does ≡ Nothing → r.ends ≡ Using m → using_rules_for n m t s ≡ turn_by_row (using_rules_for n) r t s
+used-rest n m t s r does ends = rw (does, ends) refl
+
+pub may-use-rest : (n : ℕ) (m : InsertionMode) (t : Token) (s : State) (r : Row) → r.does ≡ Nothing → r.ends ≡ Using m → MayTakeRow (MayUse n) (using_rules_for n) r t s → MayUse n m t s
+may-use-rest n m t s r does ends may =
+    let ended = subst (λ ends. MayConclude (MayUse n) (using_rules_for n) ends t (act r.does t s)) ends may.1 in
+    subst (λ does. MayUse n m t (act does t s)) does ended
+
+-- a row that ends the token
+pub done-turn : (using : InsertionMode → Token → State → Turn) (r : Row) (t : Token) (s u : State) → r.ends ≡ Done → u ≡ act r.does t s → turn_of u (Finished false) ≡ turn_by_row using r t s
+done-turn using r t s u ends acted = rw ends (ap (λ u. turn_of u (Finished false)) acted)
+
+pub acknowledged-turn : (using : InsertionMode → Token → State → Turn) (r : Row) (t : Token) (s u : State) → r.ends ≡ Acknowledged → u ≡ act r.does t s → turn_of u (Finished true) ≡ turn_by_row using r t s
+acknowledged-turn using r t s u ends acted = rw ends (ap (λ u. turn_of u (Finished true)) acted)

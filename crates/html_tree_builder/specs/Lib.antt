@@ -1,6 +1,7 @@
 pub mod Told
 pub mod States
 pub mod Acting
+pub mod Inserting
 pub mod Rows
 pub mod Turning
 pub mod Running

@@ -4,6 +4,7 @@ mod elements;
 mod foreign;
 mod formatting;
 mod implied;
+mod insertions;
 mod leaving;
 mod modes;
 mod pending;

@@ -16,6 +16,7 @@ mod rows;
 mod runs;
 mod settling;
 mod sink;
+mod tag_turns;
 mod taking;
 mod texts;
 mod told;

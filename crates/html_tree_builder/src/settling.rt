@@ -2,6 +2,8 @@
 ghost use Rattle.std.specs.Prelude.{◌≡◌, ◌≤◌, ◌+◌, true, IfErr, IfOk, OnOk};
 ghost use Rattle.markup.specs.declared.fault.ParseFault.TheVariants.{Memory};
 ghost use Rattle.html_tokens.specs.Sink.{numbered};
+ghost use Rattle.html_tokens.specs.declared.token.Token.{Token};
+ghost use Rattle.html_tokens.specs.declared.token.Token.TheVariants.{TagToken};
 ghost use Rattle.html_rules.specs.Rules.{check_acknowledged, is_self_closing, settle};
 ghost use Rattle.html_rules_laws.specs.Upright.{MayCome};
 ghost use Rattle.html_tree_builder.specs.States.{Stands, built, Performs};
@@ -11,9 +13,16 @@ use crate::conclusions::Ending;
 use crate::construction::Construction;
 use crate::errors;
 use crate::told::{Content, NamedToken};
-use html_tokens::{TagKind, TokenSinkResult};
+use html_tokens::{Tag, TagKind, TokenSinkResult};
 use markup::count::Count;
 use markup::{ParseFault, TreeSink};
+
+/// Whether a tag is a start tag that closes itself.
+pub(crate) fn is_self_closing(tag: &Tag) -> bool
+    ensures { result ≡ is_self_closing (TagToken tag.now) }
+{
+    tag.kind == TagKind::StartTag && tag.self_closing
+}
 
 impl NamedToken<'_> {
     /// Whether it is a start tag that closes itself.
@@ -21,7 +30,7 @@ impl NamedToken<'_> {
         ensures { result ≡ is_self_closing (token_of self.now.content) }
     {
         match self.content {
-            Content::Tag(tag) => tag.kind == TagKind::StartTag && tag.self_closing,
+            Content::Tag(tag) => is_self_closing(tag),
             _ => false,
         }
     }
@@ -30,11 +39,11 @@ impl NamedToken<'_> {
 impl<Sink: TreeSink> Construction<Sink> {
     /// A self-closing flag that was not acknowledged is an error.
     #[tactic(auto, unfolding(html_rules::specs::Stack::parse_error))]
-    fn check_acknowledged(&self, sink: &mut Sink, acknowledged: bool, told: &NamedToken<'_>)
-        ensures state { Performs (check_acknowledged acknowledged (token_of told.now.content)) self.now self.now (Sink.forest sink.old) (Sink.forest sink.new) }
+    pub(crate) fn check_acknowledged(&self, sink: &mut Sink, acknowledged: bool, closes: bool)
+        ensures state { (t : Token) → closes ≡ is_self_closing t → Performs (check_acknowledged acknowledged t) self.now self.now (Sink.forest sink.old) (Sink.forest sink.new) }
         ensures stands { Stands (Sink.forest sink.old) self.now → Stands (Sink.forest sink.new) self.now }
     {
-        if !acknowledged && told.is_self_closing() {
+        if !acknowledged && closes {
             sink.parse_error(errors::not_acknowledged());
         }
     }
@@ -62,7 +71,7 @@ impl<Sink: TreeSink> Construction<Sink> {
             match self.turn(sink, told)? {
                 Ending::Again => {}
                 Ending::Finished(acknowledged) => {
-                    self.check_acknowledged(sink, acknowledged, told);
+                    self.check_acknowledged(sink, acknowledged, told.is_self_closing());
                     return Ok(TokenSinkResult::Continue);
                 }
                 Ending::Replied(reply) => return Ok(reply),

@@ -30,15 +30,19 @@ use std::borrow::CowStr;
 use std::mem;
 
 impl<'a> NamedToken<'a> {
-    /// A tag.
-    fn of_tag(tag: &'a Tag) -> NamedToken<'a>
+    ghost use Rattle.html_names.specs.Classes.{IsClassOf};
+    ghost use Rattle.html_rules.specs.Names.{Html};
+
+    /// A tag whose name has this class.
+    pub(crate) fn of_class(tag: &'a Tag, class: ElementClass) -> NamedToken<'a>
+        requires { IsClassOf Html tag.now.name class }
         ensures told { IsTold result }
         ensures content { token_of result.content ≡ TagToken tag.now }
     {
         NamedToken {
             content: Content::Tag(tag),
             name: &tag.name,
-            class: ElementClass::html(&tag.name),
+            class,
         }
     }
 
@@ -232,23 +236,25 @@ impl<Sink: TreeSink> Construction<Sink> {
         self.settle_named(sink, told, turns)
     }
 
-    /// Takes a tag.
+    /// Takes a tag, which may be moved to its element.
     #[inline(never)]
     pub(crate) fn process_tag(
         &mut self,
         sink: &mut Sink,
-        tag: &Tag,
+        tag: &mut Tag,
         turns: &mut Count,
     ) -> Result<TokenSinkResult<Sink::Handle>, ParseFault>
         requires usable { Usable (built Sink.TreeSink self.old (Sink.forest sink.old)) }
         requires going { self.old.has_ended ≡ false }
-        ensures state { OnOk result (built Sink.TreeSink self.new (Sink.forest sink.new) ≡ (settle (TagToken tag.now) (set_ignore_lf false (built Sink.TreeSink self.old (Sink.forest sink.old)))).state) }
-        ensures reply { IfOk result (λ reply. numbered Sink.node reply ≡ (settle (TagToken tag.now) (set_ignore_lf false (built Sink.TreeSink self.old (Sink.forest sink.old)))).reply) }
-        ensures counted { OnOk result (turns.new.count ≡ turns.old.count + (settle (TagToken tag.now) (set_ignore_lf false (built Sink.TreeSink self.old (Sink.forest sink.old)))).turns) }
+        ensures state { OnOk result (built Sink.TreeSink self.new (Sink.forest sink.new) ≡ (settle (TagToken tag.old) (set_ignore_lf false (built Sink.TreeSink self.old (Sink.forest sink.old)))).state) }
+        ensures reply { IfOk result (λ reply. numbered Sink.node reply ≡ (settle (TagToken tag.old) (set_ignore_lf false (built Sink.TreeSink self.old (Sink.forest sink.old)))).reply) }
+        ensures counted { OnOk result (turns.new.count ≡ turns.old.count + (settle (TagToken tag.old) (set_ignore_lf false (built Sink.TreeSink self.old (Sink.forest sink.old)))).turns) }
         ensures most { turns.new.count ≤ turns.old.count + most_turns self.old.stack.open_elems }
         ensures fault { IfErr result (λ fault. fault ≡ Memory) }
     {
-        self.process_named(sink, &NamedToken::of_tag(tag), turns)
+        self.set_ignore_lf(false);
+        let class = ElementClass::html(&tag.name);
+        self.settle_tag(sink, tag, class, turns)
     }
 
     /// Takes a token, of which an error's message is taken out, and a doctype where it belongs. An error is told on, and an empty text

@@ -16,7 +16,7 @@ use html_rules::InsertionMode;
 use markup::{ParseFault, TreeSink};
 
 /// No mode uses the rules of a mode that uses the rules of a mode that uses the rules of a mode that uses others.
-const MOST_MODES: u8 = 4;
+pub(crate) const MOST_MODES: u8 = 4;
 
 impl<Sink: TreeSink> Construction<Sink> {
     /// What the rules of a mode make of a token, where at most so many modes use one another's rules.
@@ -44,7 +44,7 @@ impl<Sink: TreeSink> Construction<Sink> {
 
     /// What a row makes of a token, where the rules of that many other modes may be used.
     #[cycle(chain)]
-    fn apply_row(
+    pub(crate) fn apply_row(
         &mut self,
         sink: &mut Sink,
         row: &'static Row,

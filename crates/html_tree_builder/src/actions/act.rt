@@ -9,6 +9,7 @@ ghost use Rattle.html_tree_builder.specs.Acting.{MayAct, is_alone};
 ghost use Rattle.html_tree_builder.specs.States.{Stands, built, Performs};
 ghost use Rattle.html_tree_builder.specs.Told.{IsTold, token_of};
 
+use crate::actions::insertions::Insertion;
 use crate::construction::Construction;
 use crate::errors;
 use crate::told::NamedToken;
@@ -47,8 +48,8 @@ impl<Sink: TreeSink> Construction<Sink> {
                 self.report_unexpected(sink, told);
                 Ok(())
             }
-            Action::InsertElement => self.insert_element_or_script(sink, told),
-            Action::InsertVoid => self.insert_void(sink, told),
+            Action::InsertElement => self.insert_copy(sink, Insertion::Element, told),
+            Action::InsertVoid => self.insert_copy(sink, Insertion::Void, told),
             Action::InsertVoidAs(name) => self.insert_void_as(sink, *name, told),
             Action::InsertFormVoid => self.insert_form_void(sink, told),
             Action::InsertNew(name) => self.insert_new(sink, *name),
@@ -141,7 +142,7 @@ impl<Sink: TreeSink> Construction<Sink> {
                 Ok(())
             }
             Action::Reconstruct => self.reconstruct(sink),
-            Action::InsertFormatting => self.insert_formatting(sink, told),
+            Action::InsertFormatting => self.insert_copy(sink, Insertion::Formatting, told),
             Action::InsertMarker => self.push_marker(),
             Action::ClearToMarker => {
                 self.clear_to_marker();
@@ -199,7 +200,7 @@ impl<Sink: TreeSink> Construction<Sink> {
             Action::KeepText => self.keep_text(told.text()),
             Action::InsertPendingText => self.insert_pending_text(sink),
             Action::EnterForeign(namespace) => self.enter_foreign(sink, *namespace, told),
-            Action::InsertForeign => self.insert_foreign(sink, told),
+            Action::InsertForeign => self.insert_copy(sink, Insertion::Foreign, told),
             Action::PopForeign => {
                 self.pop_foreign(sink);
                 Ok(())

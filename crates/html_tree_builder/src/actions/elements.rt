@@ -8,16 +8,16 @@ ghost use Rattle.html_rules.specs.Stack.{add_attributes_to_body, add_attributes_
 ghost use Rattle.html_rules.specs.Places.{append_comment, append_comment_to_doc, append_comment_to_html, append_text, create_root, insert_and_pop_element_for, insert_element_for, insert_phantom};
 ghost use Rattle.html_modes.specs.Tables.{spelled};
 ghost use Rattle.html_stack.specs.Wanted.{IsOfHtml};
-ghost use Rattle.html_rules.specs.Actions.{for_tag};
 ghost use Rattle.html_rules.specs.Tokens.{attributes_of};
 ghost use Rattle.html_tree_builder.specs.States.{Stands, Performs};
-ghost use Rattle.html_tree_builder.specs.Told.{IsTold, token_of};
+ghost use Rattle.html_tree_builder.specs.Told.{token_of};
 
 use crate::construction::Construction;
-use crate::told::{Content, NamedToken};
+use crate::told::NamedToken;
 use html_modes::Implied;
 use html_names::ElementClass;
 use html_rules::TagSet;
+use html_tokens::Tag;
 use markup::{Attributes, LocalName, ParseFault, Text, TreeSink};
 
 impl<Sink: TreeSink> Construction<Sink> {
@@ -29,24 +29,16 @@ impl<Sink: TreeSink> Construction<Sink> {
     pub(crate) fn insert_element(
         &mut self,
         sink: &mut Sink,
-        told: &NamedToken<'_>,
+        class: ElementClass,
+        tag: Tag,
     ) -> Result<(), ParseFault>
-        requires told { IsTold told.now }
+        requires class { IsClassOf Html tag.name class }
         requires stands { Stands (Sink.forest sink.old) self.old }
-        ensures ok { OnOk result (Performs (for_tag insert_element_for (token_of told.now.content)) self.old self.new (Sink.forest sink.old) (Sink.forest sink.new)) }
+        ensures ok { OnOk result (Performs (insert_element_for tag) self.old self.new (Sink.forest sink.old) (Sink.forest sink.new)) }
         ensures fault { IfErr result (λ fault. fault ≡ Memory) }
     {
-        let Content::Tag(tag) = told.content else {
-            return Ok(());
-        };
-        let tag = tag.copy(self.alloc)?;
-        self.stack.insert_element_for(
-            sink,
-            told.class,
-            tag,
-            self.foster_parenting,
-            self.form_elem,
-        )?;
+        self.stack
+            .insert_element_for(sink, class, tag, self.foster_parenting, self.form_elem)?;
         Ok(())
     }
 
@@ -55,24 +47,16 @@ impl<Sink: TreeSink> Construction<Sink> {
     pub(crate) fn insert_void(
         &mut self,
         sink: &mut Sink,
-        told: &NamedToken<'_>,
+        class: ElementClass,
+        tag: Tag,
     ) -> Result<(), ParseFault>
-        requires told { IsTold told.now }
+        requires class { IsClassOf Html tag.name class }
         requires stands { Stands (Sink.forest sink.old) self.old }
-        ensures ok { OnOk result (Performs (for_tag insert_and_pop_element_for (token_of told.now.content)) self.old self.new (Sink.forest sink.old) (Sink.forest sink.new)) }
+        ensures ok { OnOk result (Performs (insert_and_pop_element_for tag) self.old self.new (Sink.forest sink.old) (Sink.forest sink.new)) }
         ensures fault { IfErr result (λ fault. fault ≡ Memory) }
     {
-        let Content::Tag(tag) = told.content else {
-            return Ok(());
-        };
-        let tag = tag.copy(self.alloc)?;
-        self.stack.insert_and_pop_element_for(
-            sink,
-            told.class,
-            tag,
-            self.foster_parenting,
-            self.form_elem,
-        )?;
+        self.stack
+            .insert_and_pop_element_for(sink, class, tag, self.foster_parenting, self.form_elem)?;
         Ok(())
     }
 
@@ -81,19 +65,16 @@ impl<Sink: TreeSink> Construction<Sink> {
     pub(crate) fn insert_formatting(
         &mut self,
         sink: &mut Sink,
-        told: &NamedToken<'_>,
+        class: ElementClass,
+        tag: Tag,
     ) -> Result<(), ParseFault>
-        requires told { IsTold told.now }
+        requires class { IsClassOf Html tag.name class }
         requires stands { Stands (Sink.forest sink.old) self.old }
-        ensures ok { OnOk result (Performs (for_tag create_formatting_element_for (token_of told.now.content)) self.old self.new (Sink.forest sink.old) (Sink.forest sink.new)) }
+        ensures ok { OnOk result (Performs (create_formatting_element_for tag) self.old self.new (Sink.forest sink.old) (Sink.forest sink.new)) }
         ensures fault { IfErr result (λ fault. fault ≡ Memory) }
     {
-        let Content::Tag(tag) = told.content else {
-            return Ok(());
-        };
-        let tag = tag.copy(self.alloc)?;
         self.stack
-            .create_formatting_element_for(sink, told.class, tag, self.foster_parenting)?;
+            .create_formatting_element_for(sink, class, tag, self.foster_parenting)?;
         Ok(())
     }
 

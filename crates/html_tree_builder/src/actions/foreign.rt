@@ -16,7 +16,7 @@ use crate::construction::{Construction, lent};
 use crate::told::{Content, NamedToken};
 use html_modes::Foreign;
 use html_stack::TokenShape;
-use html_tokens::TagKind;
+use html_tokens::{Tag, TagKind};
 use markup::{KnownNamespace, LocalName, Namespace, ParseFault, TreeSink};
 
 /// The namespace.
@@ -123,19 +123,11 @@ impl<Sink: TreeSink> Construction<Sink> {
 
     /// An element is inserted in the namespace of the adjusted current node.
     #[inline(never)]
-    pub(crate) fn insert_foreign(
-        &mut self,
-        sink: &mut Sink,
-        told: &NamedToken<'_>,
-    ) -> Result<(), ParseFault>
+    pub(crate) fn insert_foreign(&mut self, sink: &mut Sink, tag: Tag) -> Result<(), ParseFault>
         requires stands { Stands (Sink.forest sink.old) self.old }
-        ensures ok { OnOk result (Performs (for_tag foreign_start (token_of told.now.content)) self.old self.new (Sink.forest sink.old) (Sink.forest sink.new)) }
+        ensures ok { OnOk result (Performs (foreign_start tag) self.old self.new (Sink.forest sink.old) (Sink.forest sink.new)) }
         ensures fault { IfErr result (λ fault. fault ≡ Memory) }
     {
-        let Content::Tag(tag) = told.content else {
-            return Ok(());
-        };
-        let tag = tag.copy(self.alloc)?;
         self.stack.foreign_start(
             sink,
             lent(&self.context_elem),

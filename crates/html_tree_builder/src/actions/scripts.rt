@@ -1,36 +1,37 @@
 //! Scripts that are never run: those of fragments, and one that the end of the input cuts off (HTML Standard, sections 13.2.6.4.4 and 13.2.6.4.8).
 ghost use Rattle.std.specs.Prelude.{◌≡◌, OnOk, IfErr};
 ghost use Rattle.markup.specs.declared.fault.ParseFault.TheVariants.{Memory};
-ghost use Rattle.html_rules.specs.Actions.{for_tag};
 ghost use Rattle.html_rules.specs.Places.{insert_element_for};
 ghost use Rattle.html_rules.specs.Stack.{pop_but_root};
 ghost use Rattle.html_tree_builder.specs.States.{Stands, Performs};
-ghost use Rattle.html_tree_builder.specs.Told.{IsTold, cuts_off_text, token_of};
+ghost use Rattle.html_tree_builder.specs.Told.{cuts_off_text, token_of};
 
 use crate::construction::Construction;
 use crate::told::{Content, NamedToken};
+use html_names::ElementClass;
 use html_rules::{InsertionMode, TagSet};
+use html_tokens::Tag;
 use markup::{ParseFault, TreeSink};
 
 impl<Sink: TreeSink> Construction<Sink> {
+    ghost use Rattle.html_names.specs.Classes.{IsClassOf};
+    ghost use Rattle.html_rules.specs.Names.{Html};
+
     /// The script of a tag is inserted, and the sink is told before that it has started.
     #[inline(never)]
     fn insert_started_script(
         &mut self,
         sink: &mut Sink,
-        told: &NamedToken<'_>,
+        class: ElementClass,
+        tag: Tag,
     ) -> Result<(), ParseFault>
-        requires told { IsTold told.now }
+        requires class { IsClassOf Html tag.name class }
         requires stands { Stands (Sink.forest sink.old) self.old }
-        ensures ok { OnOk result (Performs (for_tag insert_element_for (token_of told.now.content)) self.old self.new (Sink.forest sink.old) (Sink.forest sink.new)) }
+        ensures ok { OnOk result (Performs (insert_element_for tag) self.old self.new (Sink.forest sink.old) (Sink.forest sink.new)) }
         ensures fault { IfErr result (λ fault. fault ≡ Memory) }
     {
-        let Content::Tag(tag) = told.content else {
-            return Ok(());
-        };
-        let tag = tag.copy(self.alloc)?;
         self.stack
-            .insert_started_script(sink, told.class, tag, self.foster_parenting)?;
+            .insert_started_script(sink, class, tag, self.foster_parenting)?;
         Ok(())
     }
 
@@ -38,17 +39,18 @@ impl<Sink: TreeSink> Construction<Sink> {
     pub(crate) fn insert_element_or_script(
         &mut self,
         sink: &mut Sink,
-        told: &NamedToken<'_>,
+        class: ElementClass,
+        tag: Tag,
     ) -> Result<(), ParseFault>
-        requires told { IsTold told.now }
+        requires class { IsClassOf Html tag.name class }
         requires stands { Stands (Sink.forest sink.old) self.old }
-        ensures ok { OnOk result (Performs (for_tag insert_element_for (token_of told.now.content)) self.old self.new (Sink.forest sink.old) (Sink.forest sink.new)) }
+        ensures ok { OnOk result (Performs (insert_element_for tag) self.old self.new (Sink.forest sink.old) (Sink.forest sink.new)) }
         ensures fault { IfErr result (λ fault. fault ≡ Memory) }
     {
-        if told.class.is_in(TagSet::Script) && self.is_fragment() {
-            return self.insert_started_script(sink, told);
+        if class.is_in(TagSet::Script) && self.is_fragment() {
+            return self.insert_started_script(sink, class, tag);
         }
-        self.insert_element(sink, told)
+        self.insert_element(sink, class, tag)
     }
 
     /// Whether the input ends within the text of an element.

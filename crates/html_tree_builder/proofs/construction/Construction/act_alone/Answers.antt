@@ -3,10 +3,10 @@ use Rattle.html_tree_builder.proofs.Acted.{acted-as, its_answers}
 use Rattle.html_tree_builder.proofs.construction.Construction.act_alone.Goals as goal
 
 pub returns-in-InsertElement-clause-ok : goal.returns-in-InsertElement-clause-ok
-returns-in-InsertElement-clause-ok g c = ok-on c.insert_element_or_script.result (λ acted. acted-as _ _ _ _ _ c.in-InsertElement.is (acted (its_answers g.Sink.TreeSink))) c.insert_element_or_script.ensures.ok
+returns-in-InsertElement-clause-ok g c = ok-on c.insert_copy.result (λ acted. acted-as _ _ _ _ _ c.in-InsertElement.is (acted (its_answers g.Sink.TreeSink))) c.insert_copy.ensures.ok
 
 pub returns-in-InsertVoid-clause-ok : goal.returns-in-InsertVoid-clause-ok
-returns-in-InsertVoid-clause-ok g c = ok-on c.insert_void.result (λ acted. acted-as _ _ _ _ _ c.in-InsertVoid.is (acted (its_answers g.Sink.TreeSink))) c.insert_void.ensures.ok
+returns-in-InsertVoid-clause-ok g c = ok-on c.insert_copy-in-InsertVoid.result (λ acted. acted-as _ _ _ _ _ c.in-InsertVoid.is (acted (its_answers g.Sink.TreeSink))) c.insert_copy-in-InsertVoid.ensures.ok
 
 pub returns-in-InsertVoidAs-clause-ok : goal.returns-in-InsertVoidAs-clause-ok
 returns-in-InsertVoidAs-clause-ok g c = ok-on c.insert_void_as.result (λ acted. acted-as _ _ _ _ _ c.in-InsertVoidAs.is (acted (its_answers g.Sink.TreeSink))) c.insert_void_as.ensures.ok
@@ -39,7 +39,7 @@ pub returns-in-Reconstruct-clause-ok : goal.returns-in-Reconstruct-clause-ok
 returns-in-Reconstruct-clause-ok g c = ok-on c.reconstruct.result (λ acted. acted-as _ _ _ _ _ c.in-Reconstruct.is (acted (its_answers g.Sink.TreeSink))) c.reconstruct.ensures.ok
 
 pub returns-in-InsertFormatting-clause-ok : goal.returns-in-InsertFormatting-clause-ok
-returns-in-InsertFormatting-clause-ok g c = ok-on c.insert_formatting.result (λ acted. acted-as _ _ _ _ _ c.in-InsertFormatting.is (acted (its_answers g.Sink.TreeSink))) c.insert_formatting.ensures.ok
+returns-in-InsertFormatting-clause-ok g c = ok-on c.insert_copy-in-InsertFormatting.result (λ acted. acted-as _ _ _ _ _ c.in-InsertFormatting.is (acted (its_answers g.Sink.TreeSink))) c.insert_copy-in-InsertFormatting.ensures.ok
 
 pub returns-in-AdoptNobr-clause-ok : goal.returns-in-AdoptNobr-clause-ok
 returns-in-AdoptNobr-clause-ok g c = ok-on c.adopt_nobr.result (λ acted. acted-as _ _ _ _ _ c.in-AdoptNobr.is (acted (its_answers g.Sink.TreeSink))) c.adopt_nobr.ensures.ok
@@ -54,7 +54,7 @@ pub returns-in-EnterForeign-clause-ok : goal.returns-in-EnterForeign-clause-ok
 returns-in-EnterForeign-clause-ok g c = ok-on c.enter_foreign.result (λ acted. acted-as _ _ _ _ _ c.in-EnterForeign.is (acted (its_answers g.Sink.TreeSink))) c.enter_foreign.ensures.ok
 
 pub returns-in-InsertForeign-clause-ok : goal.returns-in-InsertForeign-clause-ok
-returns-in-InsertForeign-clause-ok g c = ok-on c.insert_foreign.result (λ acted. acted-as _ _ _ _ _ c.in-InsertForeign.is (acted (its_answers g.Sink.TreeSink))) c.insert_foreign.ensures.ok
+returns-in-InsertForeign-clause-ok g c = ok-on c.insert_copy-in-InsertForeign.result (λ acted. acted-as _ _ _ _ _ c.in-InsertForeign.is (acted (its_answers g.Sink.TreeSink))) c.insert_copy-in-InsertForeign.ensures.ok
 
 pub returns-in-PushHeadElem-clause-ok : goal.returns-in-PushHeadElem-clause-ok
 returns-in-PushHeadElem-clause-ok g c = ok-on c.push_head_elem.result (λ acted. acted-as _ _ _ _ _ c.in-PushHeadElem.is (acted (its_answers g.Sink.TreeSink) (g.Sink.TreeSink.forest c.args.sink.now))) c.push_head_elem.ensures.ok

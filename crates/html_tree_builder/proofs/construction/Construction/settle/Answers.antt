@@ -55,7 +55,7 @@ returns-in-Finished-clause-state g c =
     let s = built sink c.loop-acknowledged.self (sink.forest c.loop-acknowledged.sink) in
     let r = built sink c.turn.new.self (sink.forest c.turn.new.sink) in
     let made : turn_of r (Finished c.in-Finished.acknowledged) ≡ turn t s = subst (λ e. turn_of r (ending_of sink.node e) ≡ turn t s) c.in-Finished.is c.in_ok-turn.ensures.ok in
-    let checked = c.check_acknowledged.ensures.state (its_answers sink) in
+    let checked = c.check_acknowledged.ensures.state t c.is_self_closing.ensures (its_answers sink) in
     (finishes (all_turns c.args.self.now.stack.open_elems) t (settle t (built sink c.args.self.now (sink.forest c.args.sink.now))) s r (built sink c.turn.new.self (sink.forest c.check_acknowledged.new.sink)) c.in-Finished.acknowledged c.loop-acknowledged.invariant.on made checked).0
 
 pub returns-in-Finished-clause-reply : goal.returns-in-Finished-clause-reply
@@ -65,7 +65,7 @@ returns-in-Finished-clause-reply g c =
     let s = built sink c.loop-acknowledged.self (sink.forest c.loop-acknowledged.sink) in
     let r = built sink c.turn.new.self (sink.forest c.turn.new.sink) in
     let made : turn_of r (Finished c.in-Finished.acknowledged) ≡ turn t s = subst (λ e. turn_of r (ending_of sink.node e) ≡ turn t s) c.in-Finished.is c.in_ok-turn.ensures.ok in
-    let checked = c.check_acknowledged.ensures.state (its_answers sink) in
+    let checked = c.check_acknowledged.ensures.state t c.is_self_closing.ensures (its_answers sink) in
     (finishes (all_turns c.args.self.now.stack.open_elems) t (settle t (built sink c.args.self.now (sink.forest c.args.sink.now))) s r (built sink c.turn.new.self (sink.forest c.check_acknowledged.new.sink)) c.in-Finished.acknowledged c.loop-acknowledged.invariant.on made checked).1
 
 pub returns-in-Replied-clause-state : goal.returns-in-Replied-clause-state
