@@ -13,5 +13,5 @@ mod walk;
 pub use alike::are_told_alike;
 pub use element::{attribute_of, attributes_of, element_name, has_class, is_html};
 pub use queries::{Query, fits, select};
-pub use text::text_content;
+pub use text::{push_text, text_content};
 pub use walk::{Descendants, nodes_below};

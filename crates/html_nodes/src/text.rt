@@ -11,8 +11,8 @@ use html_forest::{Forest, NodeData, NodeId};
 use markup::{ParseFault, Text};
 use std::alloc::Global;
 
-// Adds the text of a node that is one.
-fn push_text(forest: &Forest, id: NodeId, text: &mut Text) -> Result<(), ParseFault>
+/// Adds the text of a node to a text, if the node is one.
+pub fn push_text(forest: &Forest, id: NodeId, text: &mut Text) -> Result<(), ParseFault>
     ensures ok { OnOk result (text.new ≡ text.old ++ text_in forest.now id) }
     ensures fault { IfErr result (λ fault. fault ≡ Memory) }
 {

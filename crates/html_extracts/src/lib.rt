@@ -1,0 +1,13 @@
+//! What is read out of a tree: where it leads, the text that it shows, and the tree itself line by line.
+//!
+//! Tests: `pages_tests`.
+#![tactic(auto)]
+
+mod lines;
+mod links;
+mod shown;
+mod tree;
+
+pub use links::{link_of, links_below};
+pub use shown::{is_shown, shown_text};
+pub use tree::write_tree;
