@@ -6,6 +6,7 @@ mod faults;
 mod jobs;
 mod pages;
 
+use clap::Error;
 use command::{command_line, read_matches};
 use faults::{PageFault, Verdict, tell};
 use jobs::run;
@@ -24,22 +25,27 @@ fn words(rt: &HostRuntime) -> Result<Vec<String>, PageFault> {
     }
 }
 
+/// Tells what is wrong with the words, or the help that was asked for.
+fn tell_words(rt: &HostRuntime, error: &Error) -> Verdict {
+    let _ = error.print(rt);
+    if error.exit_code() == 0 {
+        Verdict::Fine
+    } else {
+        Verdict::Fault
+    }
+}
+
 /// Does what the words ask for.
 fn obey(rt: &HostRuntime, words: &[String]) -> Result<Verdict, PageFault> {
-    match command_line(rt.alloc())?.try_get_matches_from(words) {
-        Ok(matches) => match read_matches(&matches) {
-            Some(asked) => run(rt, &asked),
-            None => Err(PageFault::Memory),
-        },
-        Err(error) => {
-            let _ = error.print(rt);
-            if error.exit_code() == 0 {
-                Ok(Verdict::Fine)
-            } else {
-                Ok(Verdict::Fault)
-            }
-        }
-    }
+    let command = command_line(rt.alloc())?;
+    let matches = match command.try_get_matches_from(words) {
+        Ok(matches) => matches,
+        Err(error) => return Ok(tell_words(rt, &error)),
+    };
+    let Some(asked) = read_matches(&matches) else {
+        return Err(PageFault::Memory);
+    };
+    run(rt, &asked)
 }
 
 /// Does what the program was started for.
