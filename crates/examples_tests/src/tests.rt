@@ -75,7 +75,7 @@ fn nodes_are_walked(rt: HostRuntime) -> Result<(), Fail> {
     let Some(title) = title(alloc, &forest)? else {
         return Err(Fail::from("no title"));
     };
-    assert!(rt; title.as_str() == "A page");
+    assert!(rt; title.as_str() == "A café");
     let Some(body) = body(&forest) else {
         return Err(Fail::from("no body"));
     };

@@ -4,8 +4,7 @@
 #![tactic(auto)]
 
 pub use devices::{
-    DeviceFault, MemReader, MemWriter, Source, StdSource, StdTarget, Target, VecWriter,
-    write_whole,
+    DeviceFault, MemReader, MemWriter, Source, StdSource, StdTarget, Target, VecWriter, write_whole,
 };
 pub use html_extracts::{is_shown, link_of, links_below, shown_text, write_tree};
 pub use html_forest::{AttributesRef, Children, Forest, ForestNode, NodeData, NodeId, TextRef};
