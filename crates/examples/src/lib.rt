@@ -5,6 +5,7 @@
 
 pub mod documents;
 pub mod links;
+pub mod nodes;
 pub mod outlines;
 pub mod tags;
 pub mod texts;

@@ -1,11 +1,16 @@
 //! Each example once, on one page.
 use examples::documents::normal;
 use examples::links::links;
+use examples::nodes::{count_children, title};
 use examples::outlines::outline;
 use examples::tags::tags;
 use examples::texts::text;
 use examples::tokens::tokens;
-use figpliers::{MemWriter, QuirksMode, References, Report, Token, standard};
+use examples::trees::tree;
+use figpliers::{
+    Forest, MemWriter, NodeId, QuirksMode, References, Report, Token, is_html, nodes_below,
+    standard,
+};
 use std::alloc::Global;
 use std::test::Fail;
 
@@ -55,6 +60,27 @@ fn a_page_is_looked_through(rt: HostRuntime) -> Result<(), Fail> {
     assert!(rt; headings.len() == 2);
     let shown = text(alloc, table(alloc)?, page(alloc)?)?;
     assert!(rt; shown.as_str() == "A caféOne andSee two or three, none.End");
+    Ok(())
+}
+
+/// The body of a page.
+fn body(forest: &Forest) -> Option<NodeId> {
+    nodes_below(forest, forest.document()).find(|id| is_html(forest, *id, "body"))
+}
+
+#[test]
+fn nodes_are_walked(rt: HostRuntime) -> Result<(), Fail> {
+    let alloc = rt.alloc();
+    let forest = tree(alloc, table(alloc)?, page(alloc)?)?;
+    let Some(title) = title(alloc, &forest)? else {
+        return Err(Fail::from("no title"));
+    };
+    assert!(rt; title.as_str() == "A café");
+    let Some(body) = body(&forest) else {
+        return Err(Fail::from("no body"));
+    };
+    assert!(rt; count_children(&forest, body, "h2") == 1);
+    assert!(rt; count_children(&forest, body, "a") == 0);
     Ok(())
 }
 

@@ -19,6 +19,7 @@ pub use Rattle.markup.specs.Trees
 pub use Rattle.markup.specs.declared.attributes.Attribute
 pub use Rattle.markup.specs.declared.fault.ParseFault
 pub use Rattle.markup.specs.declared.names.QualName
+pub use Rattle.markup.specs.declared.namespaces.KnownNamespace
 pub use Rattle.markup.specs.declared.quirks.QuirksMode
 pub use Rattle.markup.specs.declared.serializer.SerializeFault
 pub use Rattle.markup.specs.declared.serializer.TraversalScope
@@ -26,6 +27,7 @@ pub use Rattle.markup.specs.declared.tokenizer_result.TokenizerResult
 pub use Rattle.markup.specs.declared.tree_sink.TreeSink
 pub use Rattle.html_forest.specs.Links
 pub use Rattle.html_forest.specs.Views
+pub use Rattle.html_forest.specs.Walk
 pub use Rattle.html_forest.specs.declared.node.NodeId
 pub use Rattle.html_plain.specs.Grammar
 pub use Rattle.html_serialize.specs.Puts
@@ -55,5 +57,8 @@ pub use Rattle.html_normal.specs.declared.report.Report
 pub use Rattle.html_nodes.specs.Below
 pub use Rattle.html_nodes.specs.Laws as NodeLaws
 pub use Rattle.html_nodes.specs.Looks
+pub use Rattle.html_extracts.specs.Lines
+pub use Rattle.html_extracts.specs.Links as PageLinks
+pub use Rattle.html_extracts.specs.Shown
 pub use Rattle.html_pages.specs.Pages
 pub use Rattle.html_pages.specs.ReadBack

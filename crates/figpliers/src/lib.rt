@@ -4,13 +4,14 @@
 #![tactic(auto)]
 
 pub use devices::{
-    DeviceFault, MemReader, MemWriter, Source, StdSource, StdTarget, Target, VecWriter,
+    DeviceFault, MemReader, MemWriter, Source, StdSource, StdTarget, Target, VecWriter, write_whole,
 };
+pub use html_extracts::{is_shown, link_of, links_below, shown_text, write_tree};
 pub use html_forest::{AttributesRef, Children, Forest, ForestNode, NodeData, NodeId, TextRef};
 pub use html_input::{TextFault, read_text};
 pub use html_nodes::{
     Descendants, Query, are_told_alike, attribute_of, attributes_of, element_name, fits, has_class,
-    is_html, nodes_below, select, text_content,
+    is_html, nodes_below, push_text, select, text_content,
 };
 pub use html_normal::{
     Exact, NormalFault, Report, TableFileFault, normalise, read_document, read_table,

@@ -5,8 +5,8 @@ ghost use Rattle.markup.specs.declared.fault.ParseFault.TheVariants.{Memory};
 
 use html_forest::{Forest, NodeId};
 use markup::{
-    Attribute, Attributes, ElementFlags, NodeOrText, ParseFault, QualName, QuirksMode, Text,
-    TreeSink,
+    Attribute, Attributes, ElementFlags, LocalName, NodeOrText, ParseFault, QualName, QuirksMode,
+    Text, TreeSink,
 };
 use std::alloc::Global;
 use std::borrow::CowStr;
@@ -100,6 +100,15 @@ impl TreeSink for NotedForest {
         flags: ElementFlags,
     ) -> Result<NodeId, ParseFault> {
         self.forest.create_element(name, attributes, flags)
+    }
+
+    fn create_html_element(
+        &mut self,
+        name: LocalName,
+        attributes: Attributes,
+        flags: ElementFlags,
+    ) -> Result<NodeId, ParseFault> {
+        self.forest.create_html_element(name, attributes, flags)
     }
 
     fn create_comment(&mut self, text: Text) -> Result<NodeId, ParseFault> {

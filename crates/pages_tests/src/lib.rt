@@ -6,6 +6,8 @@ mod errors;
 #[cfg(test)]
 mod events;
 #[cfg(test)]
+mod extracts;
+#[cfg(test)]
 mod nodes;
 #[cfg(test)]
 mod pages;
