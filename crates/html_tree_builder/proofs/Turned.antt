@@ -30,6 +30,15 @@ may-use-row n m t s r some is may =
     let row : MayUse (suc (n - 1)) m t s = subst (λ n. MayUse n m t s) (sym (one-less n some)) may in
     subst (λ r. MayTakeRow (MayUse (n - 1)) (using_rules_for (n - 1)) r t s) (sym is) row
 
+-- the same, where one mode more is left than a number says
+pub used-at : (n : ℕ) (m : InsertionMode) (t : Token) (s : State) (r : Row) → r ≡ first_fit (rows m) t s → turn_by_row (using_rules_for n) r t s ≡ using_rules_for (suc n) m t s
+unfolding using_rules_for
+used-at n m t s r is = ap (λ r. turn_by_row (using_rules_for n) r t s) is
+
+pub may-use-at : (n : ℕ) (m : InsertionMode) (t : Token) (s : State) (r : Row) → r ≡ first_fit (rows m) t s → MayUse (suc n) m t s → MayTakeRow (MayUse n) (using_rules_for n) r t s
+unfolding MayUse
+may-use-at n m t s r is may = subst (λ r. MayTakeRow (MayUse n) (using_rules_for n) r t s) (sym is) may
+
 -- what a row makes of a token, where its actions and its end are done one by one
 pub turned-row : (n : ℕ) (r : Row) (t : Token) (s u : State) (script : ℕ) (x : Turn) → script ≡ current_number s.open_elems → u ≡ act r.does t s → concluded (using_rules_for n) r.ends t script u ≡ x → x ≡ turn_by_row (using_rules_for n) r t s
 turned-row n r t s u script x number acted is = sym is ∙ (ap (λ number. concluded (using_rules_for n) r.ends t number u) number ∙ ap (concluded (using_rules_for n) r.ends t (current_number s.open_elems)) acted)

@@ -6,11 +6,11 @@ use Rattle.html_tree_builder.specs.States.{state_of}
 use Rattle.html_tree_builder.proofs.Acted.{acted-stands, no_answers}
 use Rattle.html_tree_builder.proofs.construction.Construction.check_acknowledged.Goals as goal
 
-pub returns-then-is_self_closing-clause-stands : goal.returns-then-is_self_closing-clause-stands
+pub returns-then-closes-clause-stands : goal.returns-then-closes-clause-stands
 unfolding parse_error
-returns-then-is_self_closing-clause-stands g c stands =
+returns-then-closes-clause-stands g c stands =
     acted-stands no_answers c.args.self.now c.args.self.now (g.Sink.TreeSink.forest c.args.sink.now) (g.Sink.TreeSink.forest c.parse_error.new.self) ParseError EOFToken tt stands (ap (λ f. state_of no_answers c.args.self.now f) c.parse_error.ensures)
 
-pub returns-then-is_self_closing-clause-state : goal.returns-then-is_self_closing-clause-state
+pub returns-then-closes-clause-state : goal.returns-then-closes-clause-state
 unfolding parse_error
-returns-then-is_self_closing-clause-state g c = search rules
+returns-then-closes-clause-state g c = search rules

@@ -139,8 +139,5 @@ returns-in-Replied-clause-most g c =
     let s = built sink c.loop-acknowledged.self (sink.forest c.loop-acknowledged.sink) in
     counted-most (all_turns c.args.self.now.stack.open_elems) t (settle t (built sink c.args.self.now (sink.forest c.args.sink.now))) s _ c.loop-acknowledged.turns.count _ c.loop-acknowledged.invariant.on c.loop-acknowledged.invariant.counted c.add_one.ensures
 
-
-
-
 pub turn_of_tag-requires-clause-class : goal.turn_of_tag-requires-clause-class
 turn_of_tag-requires-clause-class g c = subst (λ tag. IsClassOf Html tag.name c.args.class) (sym c.loop-acknowledged.invariant.tag) c.requires.class
