@@ -20,7 +20,7 @@ use html_queue::SmallCharSet;
 use html_tokens::ProcessResult;
 use html_tokens::sink::TokenSink;
 use html_tokens::states::{AttrValueKind, State};
-use markup::{ParseFault, Text};
+use markup::{LocalName, ParseFault, Text};
 
 /// The characters below U+0040 of a value without quotes that end it or do not stand for themselves.
 fn plain_stops() -> SmallCharSet
@@ -117,9 +117,7 @@ impl<Sink: TokenSink> Tokenizer<Sink> {
         ensures sink { self.new.sink ≡ self.old.sink }
     {
         self.end_attribute()?;
-        let mut text = Text::empty(self.stream.alloc);
-        text.push_lowered(name)?;
-        self.attribute_name = text;
+        self.attribute_name = LocalName::from_str_lowered(self.stream.alloc, name)?;
         self.state = State::AttributeName;
         Ok(())
     }
