@@ -13,7 +13,7 @@ ghost use Rattle.html_tokenizer.specs.Steps.{IsAt, Keeps};
 use crate::char_bits::{
     AMPERSAND, APOSTROPHE, BREAKS, EQUALS, FORM_FEED, GREATER_THAN, LESS_THAN, QUOTE, SPACE, TAB,
 };
-use crate::front_tags::behind;
+use crate::front_tags::after_byte;
 use crate::text_runs::{attribute_stops, value_stops};
 use crate::tokenizer::Tokenizer;
 use html_queue::SmallCharSet;
@@ -56,7 +56,7 @@ fn is_filled(text: &str) -> bool
 fn name_of(text: &str) -> Option<(&str, &str)>
     ensures { IfSome result (λ r. IsNameAt r.0.now r.1.now text.now) }
 {
-    let Some(inner) = behind(text, b' ') else {
+    let Some(inner) = after_byte(text, b' ') else {
         return None;
     };
     let (name, rest) = attribute_stops().split(inner);
@@ -141,7 +141,7 @@ impl<Sink: TokenSink> Tokenizer<Sink> {
     {
         let (value, after) = value_stops(kind).split(text);
         self.attribute_value = Text::from_str(self.stream.alloc, value)?;
-        let Some(rest) = behind(after, quote) else {
+        let Some(rest) = after_byte(after, quote) else {
             self.state = State::AttributeValue(kind);
             return Ok(after);
         };
@@ -178,10 +178,10 @@ impl<Sink: TokenSink> Tokenizer<Sink> {
         ensures fault { IfErr result (λ fault. fault ≡ Memory) }
         ensures sink { self.new.sink ≡ self.old.sink }
     {
-        if let Some(inner) = behind(text, b'"') {
+        if let Some(inner) = after_byte(text, b'"') {
             return self.consume_quoted(AttrValueKind::DoubleQuoted, b'"', inner);
         }
-        if let Some(inner) = behind(text, b'\'') {
+        if let Some(inner) = after_byte(text, b'\'') {
             return self.consume_quoted(AttrValueKind::SingleQuoted, b'\'', inner);
         }
         self.consume_plain(text)
@@ -196,7 +196,7 @@ impl<Sink: TokenSink> Tokenizer<Sink> {
         ensures fault { IfErr result (λ fault. fault ≡ Memory) }
         ensures sink { self.new.sink ≡ self.old.sink }
     {
-        let Some(inner) = behind(text, b'=') else {
+        let Some(inner) = after_byte(text, b'=') else {
             return Ok(text);
         };
         self.state = State::BeforeAttributeValue;
