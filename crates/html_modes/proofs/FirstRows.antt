@@ -1,7 +1,10 @@
 -- The noted places are those of the first rows, and no row before them fits.
-use Rattle.std.proofs.Common.{◌≡◌, ◌∙◌, ℕ, zero, suc, ◌<◌, Bool, true, false, true≢false, ◌&&◌, ◌==◌, List, [], ◌∷◌, length, drop, get_or, map, refl, sym, ap, arith}
+use Rattle.std.proofs.Common.{◌≡◌, ◌∙◌, ℕ, zero, suc, ◌<◌, Bool, true, false, true≢false, List, [], ◌∷◌, length, drop, get_or, map, refl, sym, ap, zero-add, arith}
+use Rattle.std.specs.List.{list_all, range_with_len}
+use Rattle.std.proofs.lemmas.Bool.{and_parts, ltb-true}
 use Rattle.std.proofs.lemmas.List.{get_or-map, length-map}
-use Rattle.std.specs.Prelude.{Option, Some, None, IfSome}
+use Rattle.std.proofs.lemmas.List.FromFn.{get_or-range_with_len, length-range_with_len}
+use Rattle.std.specs.Prelude.{Option, Some, None, IfSome, nat_lt}
 use Rattle.markup.specs.KnownNames.{names}
 use Rattle.markup.specs.declared.known_names.KnownName.{KnownName}
 use Rattle.html_tokens.specs.declared.tags.Tag.{Tag}
@@ -19,11 +22,16 @@ use Rattle.html_rules.specs.declared.insertion_mode.InsertionMode.TheVariants as
 use Rattle.html_names.specs.Classes.{IsKnownAs, IsRowOf}
 use Rattle.html_names.proofs.RowsOfSets.{IsRowOf-html, IsRowOf-unknown}
 use Rattle.html_names.specs.SetBits.{number_of}
-use Rattle.html_names.specs.declared.set_rows.TheConstants.{HTML_SETS}
+use Rattle.html_names.specs.SetRows.{html_row}
 use Rattle.html_modes.specs.FamilySets.{family_sets}
 use Rattle.html_modes.specs.FirstRows.{has_tag, rows_before, sets_of}
 use Rattle.html_modes.specs.NotedRows.{IsFamily, end_places, places, start_places}
 use Rattle.html_modes.specs.declared.first_places.TheConstants.{FAMILIES}
+
+list_all-at : (p : ℕ → Bool) (xs : List ℕ) (i d : ℕ) → list_all p xs ≡ true → i < length xs → p (get_or xs i d) ≡ true
+list_all-at p [] i d h l = absurd (omega arith)
+list_all-at p (x ∷ xs) zero d h l = (and_parts _ _ h).0
+list_all-at p (x ∷ xs) (suc i) d h l = list_all-at p xs i d (and_parts _ _ h).1 (omega arith)
 
 -- the noted places are those of the first rows, family by family
 noted-starts : (mode : InsertionMode) → map (λ sets. rows_before StartTag sets (rows mode)) family_sets ≡ start_places mode
@@ -86,8 +94,38 @@ noted-at kind mode family sets is =
     ap (λ places. get_or places family 0) (sym (noted kind mode)) ∙ get_or-map (λ sets. rows_before kind sets (rows mode)) family_sets family 0 0 is.within ∙ ap (λ sets. rows_before kind sets (rows mode)) is.there
 
 -- each known name is of the family of its sets
-families-fit : map (λ family. get_or family_sets family 0) FAMILIES ≡ HTML_SETS
+families-fit : map (λ family. get_or family_sets family 0) FAMILIES ≡ map html_row (range_with_len 0 626)
+unfolding html_row
 families-fit = refl
+
+few : length names ≡ 626
+unfolding names
+few = refl
+
+families-length : length FAMILIES ≡ length names
+families-length = sym few
+
+families-within : list_all (λ family. nat_lt family (length family_sets)) FAMILIES ≡ true
+families-within = refl
+
+pub known-inside : (place : ℕ) → place < length names → place < length FAMILIES
+known-inside place l = omega (arith, families-length)
+
+sets-at : (place : ℕ) → place < 626 → get_or (map html_row (range_with_len 0 626)) place 0 ≡ html_row place
+sets-at place l =
+    let inside : place < length (range_with_len 0 626) = rw length-range_with_len l in
+    get_or-map html_row (range_with_len 0 626) place 0 0 inside ∙ ap html_row (get_or-range_with_len 0 626 place 0 l ∙ zero-add place)
+
+pub known-family : (place family : ℕ) → place < length names → get_or FAMILIES place 0 ≡ family → IsFamily family (html_row place)
+known-family place family l e =
+    let inside = known-inside place l in
+    record {
+      within = ltb-true _ _ (rw e at (list_all-at (λ family. nat_lt family (length family_sets)) FAMILIES place 0 families-within inside));
+      there = ap (λ family. get_or family_sets family 0) (sym e) ∙ sym (get_or-map (λ family. get_or family_sets family 0) FAMILIES place 0 0 inside) ∙ ap (λ list. get_or list place 0) families-fit ∙ sets-at place (omega (arith, few))
+    }
+
+pub unknown-family : IsFamily 0 0
+unknown-family = record { within = omega arith; there = refl }
 
 -- a class that has no such tag does not fit one
 class-unfit : (c : Class) (tag : Tag) (sets : ℕ) (kind : TagKind) → tag.kind ≡ kind → IsRowOf Html tag.name sets → has_tag kind sets c ≡ false → class_fits c (TagToken tag) ≡ false

@@ -1,2 +1,3 @@
 pub mod FirstRows
+pub mod LentRows
 pub mod WalkedRows
