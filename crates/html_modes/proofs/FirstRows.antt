@@ -121,7 +121,7 @@ known-family place family l e =
     let inside = known-inside place l in
     record {
       within = ltb-true _ _ (rw e at (list_all-at (λ family. nat_lt family (length family_sets)) FAMILIES place 0 families-within inside));
-      there = ap (λ family. get_or family_sets family 0) (sym e) ∙ sym (get_or-map (λ family. get_or family_sets family 0) FAMILIES place 0 0 inside) ∙ ap (λ list. get_or list place 0) families-fit ∙ sets-at place (omega (arith, few))
+      there = ap (λ family. get_or family_sets family 0) (sym e) ∙ sym (get_or-map (λ family. get_or family_sets family 0) FAMILIES place 0 0 inside) ∙ ap (λ list. get_or list place 0) families-fit ∙ sets-at place (omega (arith, few));
     }
 
 pub unknown-family : IsFamily 0 0

@@ -84,8 +84,7 @@ impl<Sink: TreeSink> Construction<Sink> {
         requires { IsTold told.now }
         ensures { (a : Answers) (f : Forest) → result ≡ fits (row_of row.now) (token_of told.now.content) (state_of a self.now f) }
     {
-        told.fits(row.on)
-            && (matches!(row.when, Condition::Always) || self.holds(sink, &row.when, told))
+        told.fits(row.on) && self.holds(sink, &row.when, told)
     }
 
     /// The first row that is for a token, if there is one.
