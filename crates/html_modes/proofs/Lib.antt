@@ -1,0 +1,3 @@
+pub mod FirstRows
+pub mod LentRows
+pub mod WalkedRows

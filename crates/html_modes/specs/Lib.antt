@@ -1,1 +1,4 @@
 pub mod Tables
+pub mod FirstRows
+pub mod FamilySets
+pub mod NotedRows

@@ -1,9 +1,8 @@
 -- What the tables of the code mean: the rows of the definitions.
-use Rattle.std.specs.Prelude.{ℕ, Bool, true, false, ◌&&◌, List, map, ◌++◌, codes}
-use Rattle.std.specs.List.{list_all}
+use Rattle.std.specs.Prelude.{ℕ, List, map, Option, option_copied, option_map, codes}
+use denote.Bor.{Bor}
 use Rattle.html_rules.specs.Names.{Namespace, MathMl, Svg}
 use Rattle.html_rules.specs.Table as rules
-use Rattle.html_names.specs.SetBits.{has_set}
 use Rattle.html_modes.specs.declared.table.Implied.{Implied}
 use Rattle.html_modes.specs.declared.table.Implied.TheVariants as implied
 use Rattle.html_modes.specs.declared.table.Foreign.{Foreign}
@@ -17,8 +16,6 @@ use Rattle.html_modes.specs.declared.table.Action as action
 use Rattle.html_modes.specs.declared.table.Conclusion.{Conclusion}
 use Rattle.html_modes.specs.declared.table.Conclusion.TheVariants as conclusion
 use Rattle.html_modes.specs.declared.table.Row.{Row}
-use Rattle.html_modes.specs.declared.table.Part.{Part}
-use Rattle.html_modes.specs.declared.modes.Rows.{Rows}
 
 abbrev pub namespace_of : Foreign → Namespace
 namespace_of foreign.MathMl = MathMl
@@ -161,22 +158,6 @@ row_of r = record { on = class_of r.on; when = condition_of r.when; does = actio
 abbrev pub rows_of : List Row → List rules.Row
 rows_of rows = map row_of rows
 
--- the rows of the parts of a table, and those after them
-abbrev pub all_rows : Rows → List rules.Row
-all_rows rows = rows_of rows.first.rows.now ++ (rows_of rows.second.rows.now ++ (rows_of rows.third.rows.now ++ (rows_of rows.fourth.rows.now ++ rows_of rows.last.now)))
-
--- whether the sets of a class are among these; a class of any tag has no sets
-abbrev pub has_class : (starts ends : ℕ) → Class → Bool
-has_class starts ends (class.StartTags set) = has_set starts set
-has_class starts ends (class.EndTags set) = has_set ends set
-has_class starts ends class.AnyStartTag = false
-has_class starts ends class.AnyEndTag = false
-has_class starts ends class.AnythingElse = false
-has_class starts ends other = true
-
--- whether the sets of a part are those that its rows ask for
-abbrev pub is_covered : Part → Bool
-is_covered part = list_all (λ r. has_class part.starts part.ends r.on) part.rows.now
-
-abbrev pub are_covered : Rows → Bool
-are_covered rows = is_covered rows.first && is_covered rows.second && is_covered rows.third && is_covered rows.fourth
+-- the row that is lent, if one is
+abbrev pub row_lent : Option (Bor Row) → Option rules.Row
+row_lent found = option_map row_of (option_copied found)

@@ -4,8 +4,11 @@
 //! Tests: `html_parser_tests`, `modes`.
 #![tactic(auto)]
 
+mod first_places;
+pub mod first_rows;
 pub mod modes;
 pub mod table;
 
-pub use modes::{Rows, rows_of_foreign_content, rows_of_mode};
-pub use table::{Action, Class, Conclusion, Condition, Foreign, Implied, Part, Row};
+pub use first_rows::rows_before;
+pub use modes::{row_at, rows_of_foreign_content};
+pub use table::{Action, Class, Conclusion, Condition, Foreign, Implied, Row};

@@ -22,91 +22,41 @@ mod in_template;
 mod initial;
 mod text;
 
-ghost use Rattle.std.specs.Prelude.{◌≡◌, true};
+ghost use Rattle.std.specs.Prelude.{◌≡◌, slice_get};
 ghost use Rattle.html_rules.specs.Rules.{rows};
-ghost use Rattle.html_rules.specs.Modes.InBody.{in_body};
 ghost use Rattle.html_rules.specs.Modes.Foreign.{in_foreign_content};
-ghost use Rattle.html_modes.specs.Tables.{all_rows, are_covered, rows_of};
+ghost use Rattle.html_modes.specs.Tables.{row_lent, rows_of};
 
-use crate::table::{Part, Row};
+use crate::table::Row;
 use html_rules::InsertionMode;
 
-/// Rows that stand one after the other: those of the parts of a table, and those after the parts.
-#[derive(Clone, Copy)]
-pub struct Rows {
-    /// The first part.
-    pub first: Part,
-    /// The second part.
-    pub second: Part,
-    /// The third part.
-    pub third: Part,
-    /// The fourth part.
-    pub fourth: Part,
-    /// The rows after the parts.
-    pub last: &'static [Row],
-}
-
-/// A table without parts.
-fn whole(rows: &'static [Row]) -> Rows
-    ensures rows { all_rows result ≡ rows_of rows.now }
-    ensures covered { are_covered result ≡ true }
-{
-    let none = Part {
-        rows: &[],
-        starts: 0,
-        ends: 0,
-    };
-    Rows {
-        first: none,
-        second: none,
-        third: none,
-        fourth: none,
-        last: rows,
-    }
-}
-
-/// The rows of "in body".
-fn rows_in_body() -> Rows
-    ensures rows { all_rows result ≡ in_body }
-    ensures covered { are_covered result ≡ true }
-{
-    Rows {
-        first: in_body::structure(),
-        second: in_body::blocks(),
-        third: in_body::formatting(),
-        fourth: in_body::content(),
-        last: in_body::rest(),
-    }
-}
-
-/// The rows of a mode.
+/// The row of a mode at a place, counted from 0, if there is one.
 #[tactic(auto, unfolding(html_rules::specs::Rules::rows))]
-pub fn rows_of_mode(mode: InsertionMode) -> Rows
-    ensures rows { all_rows result ≡ rows mode }
-    ensures covered { are_covered result ≡ true }
+pub fn row_at(mode: InsertionMode, place: usize) -> Option<&'static Row>
+    ensures { row_lent result ≡ slice_get (rows mode) place }
 {
     match mode {
-        InsertionMode::Initial => whole(initial::rows()),
-        InsertionMode::BeforeHtml => whole(before_html::rows()),
-        InsertionMode::BeforeHead => whole(before_head::rows()),
-        InsertionMode::InHead => whole(in_head::rows()),
-        InsertionMode::InHeadNoscript => whole(in_head_noscript::rows()),
-        InsertionMode::AfterHead => whole(after_head::rows()),
-        InsertionMode::InBody => rows_in_body(),
-        InsertionMode::Text => whole(text::rows()),
-        InsertionMode::InTable => whole(in_table::rows()),
-        InsertionMode::InTableText => whole(in_table_text::rows()),
-        InsertionMode::InCaption => whole(in_caption::rows()),
-        InsertionMode::InColumnGroup => whole(in_column_group::rows()),
-        InsertionMode::InTableBody => whole(in_table_body::rows()),
-        InsertionMode::InRow => whole(in_row::rows()),
-        InsertionMode::InCell => whole(in_cell::rows()),
-        InsertionMode::InTemplate => whole(in_template::rows()),
-        InsertionMode::AfterBody => whole(after_body::rows()),
-        InsertionMode::InFrameset => whole(in_frameset::rows()),
-        InsertionMode::AfterFrameset => whole(after_frameset::rows()),
-        InsertionMode::AfterAfterBody => whole(after_after_body::rows()),
-        InsertionMode::AfterAfterFrameset => whole(after_after_frameset::rows()),
+        InsertionMode::Initial => initial::rows().get(place),
+        InsertionMode::BeforeHtml => before_html::rows().get(place),
+        InsertionMode::BeforeHead => before_head::rows().get(place),
+        InsertionMode::InHead => in_head::rows().get(place),
+        InsertionMode::InHeadNoscript => in_head_noscript::rows().get(place),
+        InsertionMode::AfterHead => after_head::rows().get(place),
+        InsertionMode::InBody => in_body::row_at(place),
+        InsertionMode::Text => text::rows().get(place),
+        InsertionMode::InTable => in_table::rows().get(place),
+        InsertionMode::InTableText => in_table_text::rows().get(place),
+        InsertionMode::InCaption => in_caption::rows().get(place),
+        InsertionMode::InColumnGroup => in_column_group::rows().get(place),
+        InsertionMode::InTableBody => in_table_body::rows().get(place),
+        InsertionMode::InRow => in_row::rows().get(place),
+        InsertionMode::InCell => in_cell::rows().get(place),
+        InsertionMode::InTemplate => in_template::rows().get(place),
+        InsertionMode::AfterBody => after_body::rows().get(place),
+        InsertionMode::InFrameset => in_frameset::rows().get(place),
+        InsertionMode::AfterFrameset => after_frameset::rows().get(place),
+        InsertionMode::AfterAfterBody => after_after_body::rows().get(place),
+        InsertionMode::AfterAfterFrameset => after_after_frameset::rows().get(place),
     }
 }
 

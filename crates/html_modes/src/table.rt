@@ -325,17 +325,6 @@ pub struct Row {
     pub ends: Conclusion,
 }
 
-/// Rows that stand one after the other, of which none is for any tag of its kind, with the sets of names that they ask for.
-#[derive(Clone, Copy)]
-pub struct Part {
-    /// The rows.
-    pub rows: &'static [Row],
-    /// A bit for each set of names of start tags.
-    pub starts: u128,
-    /// A bit for each set of names of end tags.
-    pub ends: u128,
-}
-
 /// One action, and then others.
 macro_rules! then {
     ($first:expr) => { $first };
@@ -352,11 +341,5 @@ macro_rules! row {
     };
 }
 
-/// A bit for each of these sets.
-macro_rules! sets {
-    ($($set:ident),*) => { 0 $(| 1 << (html_rules::TagSet::$set as u32))* };
-}
-
 pub(crate) use row;
-pub(crate) use sets;
 pub(crate) use then;

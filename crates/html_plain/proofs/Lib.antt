@@ -3,3 +3,4 @@ pub mod Agreement
 pub mod WrittenForms
 pub mod Parts
 pub mod Frames
+pub mod Bytes

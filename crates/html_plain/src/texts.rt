@@ -5,12 +5,13 @@ ghost use Rattle.std.specs.List.{list_all};
 ghost use Rattle.html_plain.specs.Grammar.{is_comment_character, is_plain_character, is_plain_comment, is_plain_doctype, is_plain_text, is_white, takes_text};
 
 use crate::place::TextKind;
+use memchr::memchr2;
 
 /// Whether no character of a text is U+0000 or a carriage return.
 pub(crate) fn has_plain_characters(text: &str) -> bool
     ensures { result ≡ list_all is_plain_character (chars text.now) }
 {
-    text.chars().all(|c| c != '\0' && c != '\r')
+    memchr2(0, b'\r', text.as_bytes()).is_none()
 }
 
 /// Whether all characters of a text are tabs, line feeds, form feeds and spaces.

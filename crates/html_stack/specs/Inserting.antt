@@ -1,5 +1,5 @@
 -- Where nodes are put, and elements that are to be made.
-use Rattle.std.specs.Prelude.{◌≡◌, ℕ, Bool, List, Option, Some, None, IsSome}
+use Rattle.std.specs.Prelude.{◌≡◌, ℕ, Bool, IfOk, List, Option, Some, None, IsSome, Result}
 use Rattle.markup.specs.Forest.{Forest, IsNode, IsParent, Last, Place, node_count, parent_of, place_before, place_near, put}
 use Rattle.markup.specs.declared.attributes.Attribute.{Attribute}
 use Rattle.html_names.specs.Classes.{IsClassOf}
@@ -80,3 +80,7 @@ inserted NoPush e s = put_element (namespace_of e.namespace) e.name e.attrs e.ha
 -- what stands in the one tree stands in the other
 abbrev pub LeavesStanding : Forest → Forest → Type 0
 LeavesStanding f g = (xs : List Open) (entries : List Entry) → IsStanding f xs entries → IsStanding g xs entries
+
+-- what a call made, if it could, is the next node after those of a tree
+abbrev pub MakesNext : {H E : Type 0} → (H → ℕ) → Forest → Result H E → Type 0
+MakesNext node f result = IfOk result (λ made. node made ≡ node_count f)

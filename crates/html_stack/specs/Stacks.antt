@@ -3,6 +3,7 @@ use Rattle.std.specs.Prelude.{◌≡◌, ℕ, Bool, true, false, List, map, reve
 use Rattle.markup.specs.Forest.{Forest}
 use Rattle.html_rules.specs.State.{Open, Entry, State, Element as Listed, Marker as Mark}
 use Rattle.html_rules.specs.declared.insertion_mode.InsertionMode.{InsertionMode}
+use Rattle.html_rules_laws.specs.Soundness.{IsStanding}
 use Rattle.html_stack.specs.declared.entries.OpenElement.{OpenElement}
 use Rattle.html_stack.specs.declared.entries.FormatEntry.{FormatEntry}
 use Rattle.html_stack.specs.declared.entries.FormatEntry.TheVariants.{Element, Marker}
@@ -43,3 +44,7 @@ Performs step old new f g = (s : State) → joined s new g ≡ step (joined s ol
 -- the same in states whose foster parenting is this
 abbrev pub PerformsWith : Bool → (State → State) → Stacked → Stacked → Forest → Forest → Type 0
 PerformsWith foster step old new f g = (s : State) → s.foster_parenting ≡ foster → joined s new g ≡ step (joined s old f)
+
+-- the open elements and the entries of a stack stand in a tree
+abbrev pub StandsIn : Forest → Stacked → Type 0
+StandsIn f stack = IsStanding f stack.open_elems stack.active_formatting

@@ -6,9 +6,8 @@ ghost use Rattle.html_rules.specs.ForeignContent.{enter_foreign, foreign_start};
 ghost use Rattle.html_rules.specs.Names.{namespace_of};
 ghost use Rattle.html_rules.specs.Renames.{adjust_attributes};
 ghost use Rattle.html_rules.specs.State.{State, adjusted_by};
-ghost use Rattle.html_rules_laws.specs.Soundness.{IsStanding};
 ghost use Rattle.html_stack.specs.Inserting.{IsFor, IsNew, context_of};
-ghost use Rattle.html_stack.specs.Stacks.{joined, open_of, opens_of, PerformsWith};
+ghost use Rattle.html_stack.specs.Stacks.{joined, open_of, opens_of, PerformsWith, StandsIn};
 
 use crate::entries::{OpenElement, PushFlag};
 use crate::inserting::new_element::NewElement;
@@ -66,10 +65,10 @@ impl<Sink: TreeSink> Stack<Sink> {
         foster: bool,
         form: Option<Sink::Handle>,
     ) -> Result<(), ParseFault>
-        requires standing { IsStanding (Sink.forest sink.old) self.old.open_elems self.old.active_formatting }
+        requires standing { StandsIn (Sink.forest sink.old) self.old }
         requires form { IfSome form (λ owner. IsNode (Sink.forest sink.old) (Sink.node owner)) }
         ensures ok { OnOk result (PerformsWith foster (enter_foreign (namespace_of namespace) tag) self.old self.new (Sink.forest sink.old) (Sink.forest sink.new)) }
-        ensures kept { IsStanding (Sink.forest sink.new) self.new.open_elems self.new.active_formatting }
+        ensures kept { StandsIn (Sink.forest sink.new) self.new }
         ensures grows { node_count (Sink.forest sink.old) ≤ node_count (Sink.forest sink.new) }
         ensures fault { IfErr result (λ fault. fault ≡ Memory) }
     {
@@ -93,10 +92,10 @@ impl<Sink: TreeSink> Stack<Sink> {
         foster: bool,
         form: Option<Sink::Handle>,
     ) -> Result<(), ParseFault>
-        requires standing { IsStanding (Sink.forest sink.old) self.old.open_elems self.old.active_formatting }
+        requires standing { StandsIn (Sink.forest sink.old) self.old }
         requires form { IfSome form (λ owner. IsNode (Sink.forest sink.old) (Sink.node owner)) }
         ensures ok { OnOk result ((s : State) → s.foster_parenting ≡ foster → s.context_elem ≡ context_of Sink.node context.entry → joined s self.new (Sink.forest sink.new) ≡ foreign_start tag (joined s self.old (Sink.forest sink.old))) }
-        ensures kept { IsStanding (Sink.forest sink.new) self.new.open_elems self.new.active_formatting }
+        ensures kept { StandsIn (Sink.forest sink.new) self.new }
         ensures grows { node_count (Sink.forest sink.old) ≤ node_count (Sink.forest sink.new) }
         ensures fault { IfErr result (λ fault. fault ≡ Memory) }
     {

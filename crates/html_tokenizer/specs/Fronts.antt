@@ -154,12 +154,12 @@ counted_all breaks [] = breaks
 counted_all breaks (c ∷ t) = counted_all (counted breaks c) t
 
 -- the bytes of a text are those of lines, and what follows them; after the lines so many line breaks were read, and so many before
-pub record HasLines (text rest : List ℕ) (before behind : ℕ) : Type 0 where
+pub record HasLines (text rest : List ℕ) (before after : ℕ) : Type 0 where
   pub front : List ℕ
   pub whole : text ≡ front ++ rest
   pub utf8 : IsUtf8 front
   pub lines : AreLines (chars front)
-  pub counts : behind ≡ counted_all before (chars front)
+  pub counts : after ≡ counted_all before (chars front)
 
 module _ {K H : Type 0} (Sink : Ghosts K H) where
   -- Lines were told, and their line breaks counted.

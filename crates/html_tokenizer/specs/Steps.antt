@@ -202,11 +202,11 @@ module _ {K H : Type 0} (Sink : Ghosts K H) where
 
   -- Characters were read: whatever follows, the machine makes of it what it would have made of it after them. They owed this, and
   -- what they owe besides. The last of them may hand back control.
-  pub record Read (chars : List ℕ) (besides : Owed → Owed) (breaks : ℕ) (behind : Stream) (old new : Tokenizer K) (result : ProcessResult H) : Type 0 where
+  pub record Read (chars : List ℕ) (besides : Owed → Owed) (breaks : ℕ) (left : Stream) (old new : Tokenizer K) (result : ProcessResult H) : Type 0 where
     pub owed : Owed
     pub same : (notes : Notes ℕ) (t : List ℕ) → now old old.stream.breaks (Sink.view old.sink, notes) (chars ++ t) ≡ now new breaks (Sink.view new.sink, noted_by Sink.number owed notes result) t
     pub rises : Rises Sink.errors (besides owed) old.sink new.sink
-    pub stream : new.stream ≡ behind
+    pub stream : new.stream ≡ left
     pub sound : Sink.is_sound (Sink.view new.sink)
     pub fits : fits_in (rows_of new) new.char_ref new.state ≡ true
     pub stays : Stays old.sink new.sink

@@ -82,8 +82,7 @@ impl<Sink: TokenSink> Tokenizer<Sink> {
         ensures sink { self.new.sink ≡ self.old.sink }
     {
         let alloc = self.stream.alloc;
-        let name = mem::replace(&mut self.attribute_name, Text::empty(alloc));
-        let name = LocalName::from_text(name);
+        let name = self.attribute_name.take();
         let value = mem::replace(&mut self.attribute_value, Text::empty(alloc));
         if self.tag.attrs.has_local_name(&name) {
             self.note_repeat();
@@ -132,7 +131,7 @@ impl<Sink: TokenSink> Tokenizer<Sink> {
         if c == '>' {
             return self.emit_tag();
         }
-        let mut name = Text::empty(self.stream.alloc);
+        let mut name = LocalName::empty(self.stream.alloc);
         name.push(lowered(c))?;
         self.attribute_name = name;
         self.state = State::AttributeName;

@@ -20,7 +20,7 @@ use html_tokenizer_parts::stream::Stream;
 use html_tokens::TokenizerOpts;
 use html_tokens::sink::TokenSink;
 use html_tokens::states::State;
-use markup::{ParseFault, Text, TokenizerResult};
+use markup::{LocalName, ParseFault, Text, TokenizerResult};
 use std::alloc::Global;
 
 /// The state in which reading begins.
@@ -64,7 +64,7 @@ impl<Sink: TokenSink> Tokenizer<Sink> {
             raw_end: RawEnd::new(alloc, opts.last_start_tag_name),
             tag: nameless(alloc),
             repeats: Repeats::none(),
-            attribute_name: Text::empty(alloc),
+            attribute_name: LocalName::empty(alloc),
             attribute_value: Text::empty(alloc),
             comment: Text::empty(alloc),
             doctype: no_doctype(),

@@ -13,14 +13,14 @@ ghost use Rattle.html_tokenizer.specs.Steps.{IsAt, Keeps};
 use crate::char_bits::{
     AMPERSAND, APOSTROPHE, BREAKS, EQUALS, FORM_FEED, GREATER_THAN, LESS_THAN, QUOTE, SPACE, TAB,
 };
-use crate::front_tags::behind;
+use crate::front_tags::after_byte;
 use crate::text_runs::{attribute_stops, value_stops};
 use crate::tokenizer::Tokenizer;
 use html_queue::SmallCharSet;
 use html_tokens::ProcessResult;
 use html_tokens::sink::TokenSink;
 use html_tokens::states::{AttrValueKind, State};
-use markup::{ParseFault, Text};
+use markup::{LocalName, ParseFault, Text};
 
 /// The characters below U+0040 of a value without quotes that end it or do not stand for themselves.
 fn plain_stops() -> SmallCharSet
@@ -56,7 +56,7 @@ fn is_filled(text: &str) -> bool
 fn name_of(text: &str) -> Option<(&str, &str)>
     ensures { IfSome result (λ r. IsNameAt r.0.now r.1.now text.now) }
 {
-    let Some(inner) = behind(text, b' ') else {
+    let Some(inner) = after_byte(text, b' ') else {
         return None;
     };
     let (name, rest) = attribute_stops().split(inner);
@@ -117,9 +117,7 @@ impl<Sink: TokenSink> Tokenizer<Sink> {
         ensures sink { self.new.sink ≡ self.old.sink }
     {
         self.end_attribute()?;
-        let mut text = Text::empty(self.stream.alloc);
-        text.push_lowered(name)?;
-        self.attribute_name = text;
+        self.attribute_name = LocalName::from_str_lowered(self.stream.alloc, name)?;
         self.state = State::AttributeName;
         Ok(())
     }
@@ -143,7 +141,7 @@ impl<Sink: TokenSink> Tokenizer<Sink> {
     {
         let (value, after) = value_stops(kind).split(text);
         self.attribute_value = Text::from_str(self.stream.alloc, value)?;
-        let Some(rest) = behind(after, quote) else {
+        let Some(rest) = after_byte(after, quote) else {
             self.state = State::AttributeValue(kind);
             return Ok(after);
         };
@@ -180,10 +178,10 @@ impl<Sink: TokenSink> Tokenizer<Sink> {
         ensures fault { IfErr result (λ fault. fault ≡ Memory) }
         ensures sink { self.new.sink ≡ self.old.sink }
     {
-        if let Some(inner) = behind(text, b'"') {
+        if let Some(inner) = after_byte(text, b'"') {
             return self.consume_quoted(AttrValueKind::DoubleQuoted, b'"', inner);
         }
-        if let Some(inner) = behind(text, b'\'') {
+        if let Some(inner) = after_byte(text, b'\'') {
             return self.consume_quoted(AttrValueKind::SingleQuoted, b'\'', inner);
         }
         self.consume_plain(text)
@@ -198,7 +196,7 @@ impl<Sink: TokenSink> Tokenizer<Sink> {
         ensures fault { IfErr result (λ fault. fault ≡ Memory) }
         ensures sink { self.new.sink ≡ self.old.sink }
     {
-        let Some(inner) = behind(text, b'=') else {
+        let Some(inner) = after_byte(text, b'=') else {
             return Ok(text);
         };
         self.state = State::BeforeAttributeValue;

@@ -4,7 +4,7 @@ ghost use Rattle.html_tokens.specs.declared.states.State.TheVariants as state;
 ghost use Rattle.html_tokenizer.specs.Fronts.{AreLines, HasLines, KeepsLines, counted_all};
 ghost use Rattle.html_tokenizer.specs.Steps.{IsAt};
 
-use crate::front_tags::behind;
+use crate::front_tags::after_byte;
 use crate::text_runs::data_stops;
 use crate::tokenizer::Tokenizer;
 use html_tokens::Token;
@@ -18,7 +18,7 @@ pub(crate) fn after_lines(text: &str, breaks: u64) -> (&str, u64)
     let stops = data_stops();
     let (_line, mut rest) = stops.split(text);
     let mut breaks_after = breaks;
-    while let Some(after) = behind(rest, b'\n') {
+    while let Some(after) = after_byte(rest, b'\n') {
         let (_line, more) = stops.split(after);
         breaks_after = breaks_after.saturating_add(1);
         rest = more;

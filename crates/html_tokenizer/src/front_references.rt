@@ -10,7 +10,7 @@ ghost use Rattle.html_tokenizer_parts.specs.CharRefs.{ends_in_semicolon};
 ghost use Rattle.html_tokens.specs.declared.states.State.TheVariants as state;
 
 use crate::char_bits::{AMPERSAND, BREAKS, FORM_FEED, LESS_THAN, SEMICOLON, SPACE, TAB};
-use crate::front_tags::behind;
+use crate::front_tags::after_byte;
 use crate::tokenizer::Tokenizer;
 use html_queue::SmallCharSet;
 use html_tokenizer_parts::numbers::Found;
@@ -33,11 +33,11 @@ fn reference_stops() -> SmallCharSet
 pub(crate) fn reference_of(text: &str) -> Option<(&str, &str)>
     ensures { IfSome result (λ r. IsReferenceAt r.0.now r.1.now text.now) }
 {
-    let Some(inner) = behind(text, b'&') else {
+    let Some(inner) = after_byte(text, b'&') else {
         return None;
     };
     let (name, after) = reference_stops().split(inner);
-    let Some(rest) = behind(after, b';') else {
+    let Some(rest) = after_byte(after, b';') else {
         return None;
     };
     Some((&inner[..name.len() + 1], rest))

@@ -26,7 +26,7 @@ fn name_stops() -> SmallCharSet
 }
 
 /// What follows an ASCII character at the front of a text, if it stands there.
-pub(crate) fn behind(text: &str, byte: u8) -> Option<&str>
+pub(crate) fn after_byte(text: &str, byte: u8) -> Option<&str>
     requires ascii { byte < 128 }
     ensures whole { IfSome result (λ rest. text.now ≡ byte ∷ rest.now) }
     ensures utf8 { IfSome result (λ rest. IsUtf8 rest.now) }
@@ -72,10 +72,10 @@ fn named_opening(kind: TagKind, text: &str) -> Option<Opening<'_>>
 pub(crate) fn opening_of(text: &str) -> Option<Opening<'_>>
     ensures { IfSome result (λ o. IsOpening o.kind o.name.now o.rest.now text.now) }
 {
-    let Some(inner) = behind(text, b'<') else {
+    let Some(inner) = after_byte(text, b'<') else {
         return None;
     };
-    match behind(inner, b'/') {
+    match after_byte(inner, b'/') {
         Some(inner) => named_opening(TagKind::EndTag, inner),
         None => named_opening(TagKind::StartTag, inner),
     }

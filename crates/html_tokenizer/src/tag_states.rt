@@ -15,7 +15,7 @@ use html_tokenizer_parts::repeats::Repeats;
 use html_tokens::sink::TokenSink;
 use html_tokens::states::State;
 use html_tokens::{ProcessResult, Tag, TagKind, TokenSinkResult};
-use markup::{Attributes, LocalName, ParseFault, Text};
+use markup::{Attributes, LocalName, ParseFault};
 use std::alloc::Global;
 
 /// A start tag without a name, which takes no memory.
@@ -41,13 +41,13 @@ fn has_attributes(tag: &Tag) -> bool
 impl<Sink: TokenSink> Tokenizer<Sink> {
     /// The name that the tag that is read leaves as that of the last start tag: a start tag its own.
     #[inline(always)]
-    fn own_name(&self) -> Result<Option<Text>, ParseFault>
+    fn own_name(&self) -> Result<Option<LocalName>, ParseFault>
         ensures ok { IfOk result (λ name. name ≡ own_name self.now.tag.kind self.now.tag.name) }
         ensures fault { IfErr result (λ fault. fault ≡ Memory) }
     {
         match self.tag.kind {
             TagKind::StartTag => {
-                let name = Text::from_str(self.stream.alloc, self.tag.name.as_str())?;
+                let name = self.tag.name.copy(self.stream.alloc)?;
                 Ok(Some(name))
             }
             TagKind::EndTag => Ok(None),
@@ -55,7 +55,7 @@ impl<Sink: TokenSink> Tokenizer<Sink> {
     }
 
     /// Keeps a name as that of the last start tag, if there is one.
-    fn keep_last_start_tag(&mut self, name: Option<Text>)
+    fn keep_last_start_tag(&mut self, name: Option<LocalName>)
         ensures changed { self.new ≡ record self.old { raw_end = self.new.raw_end } }
         ensures name { self.new.raw_end.name ≡ or_last name self.old.raw_end.name }
     {

@@ -10,6 +10,7 @@ use crate::char_bits::{
 };
 use crate::tokenizer::Tokenizer;
 use html_queue::SmallCharSet;
+use html_tokenizer_parts::characters::push_lowered;
 use html_tokens::Token;
 use html_tokens::sink::TokenSink;
 use html_tokens::states::{AttrValueKind, RawKind, State};
@@ -110,7 +111,7 @@ impl<Sink: TokenSink> Tokenizer<Sink> {
         ensures { KeepsRun Sink.TokenSink self.old self.new run result }
     {
         match self.state {
-            State::AttributeName => self.attribute_name.push_lowered(run.as_str()),
+            State::AttributeName => push_lowered(&mut self.attribute_name, run.as_str()),
             State::AttributeValue(kind) => self.consume_value_run(kind, &run),
             State::BogusComment | State::Comment => self.comment.append(&run),
             _ => self.emit(Token::CharacterTokens(run)),

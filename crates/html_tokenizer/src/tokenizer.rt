@@ -9,7 +9,7 @@ use html_tokenizer_parts::repeats::Repeats;
 use html_tokenizer_parts::stream::Stream;
 use html_tokens::states::State;
 use html_tokens::{Doctype, Tag};
-use markup::Text;
+use markup::{LocalName, Text};
 
 /// A tokenizer, with what takes its tokens.
 #[derive(Drop)]
@@ -27,7 +27,7 @@ pub struct Tokenizer<Sink> {
     /// How many of its attributes repeat one, beyond the first that does.
     pub(crate) repeats: Repeats,
     /// The name of the attribute that is read.
-    pub(crate) attribute_name: Text,
+    pub(crate) attribute_name: LocalName,
     /// The value of the attribute that is read.
     pub(crate) attribute_value: Text,
     /// The comment that is read.

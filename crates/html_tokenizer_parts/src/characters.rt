@@ -1,9 +1,13 @@
 //! Characters of markup.
-ghost use Rattle.std.specs.Prelude.{◌≡◌};
+ghost use Rattle.std.specs.Prelude.{◌≡◌, ◌++◌, map, IfErr, OnOk};
+ghost use Rattle.std.specs.Char.{to_ascii_lowercase};
+ghost use Rattle.std.specs.Str.{chars};
+ghost use Rattle.markup.specs.declared.fault.ParseFault.TheVariants.{Memory};
 ghost use Rattle.html_tokens.specs.Characters;
 ghost use Rattle.html_tokens.specs.Forbidden.{is_forbidden, is_control, is_noncharacter};
 
 use crate::error_code::ErrorCode;
+use markup::{LocalName, ParseFault};
 
 /// How many characters a plane has.
 const PLANE: u32 = 0x10000;
@@ -23,6 +27,17 @@ pub fn lowered(c: char) -> char
     ensures { result ≡ Characters.lowered c }
 {
     shown(c.to_ascii_lowercase())
+}
+
+/// Adds characters to a name, with ASCII letters lowered. On a fault some may have been added.
+pub fn push_lowered(name: &mut LocalName, more: &str) -> Result<(), ParseFault>
+    ensures ok { OnOk result (name.new ≡ name.old ++ map to_ascii_lowercase (chars more.now)) }
+    ensures fault { IfErr result (λ fault. fault ≡ Memory) }
+{
+    for c in more.chars() {
+        name.push(c.to_ascii_lowercase())?;
+    }
+    Ok(())
 }
 
 /// Tab, line feed, form feed or space.

@@ -10,7 +10,7 @@ ghost use Rattle.html_tokenizer_parts.specs.Words.{BeginsEnd, begins_end, ends_r
 
 use crate::characters::ends_tag_name;
 use crate::letters::Letters;
-use markup::{ParseFault, Text};
+use markup::{LocalName, ParseFault, Text};
 use std::alloc::Global;
 use std::marker::Model;
 
@@ -18,7 +18,7 @@ use std::marker::Model;
 #[derive(Drop)]
 pub struct RawEnd {
     /// The name of the last start tag, if one was told.
-    name: Option<Text>,
+    name: Option<LocalName>,
     /// Letters that this name begins with, in any case, as they were written.
     letters: Letters,
 }
@@ -40,13 +40,16 @@ impl RawEnd {
         ensures { result ≡ record { name = name; letters = [] } }
     {
         RawEnd {
-            name,
+            name: match name {
+                Some(name) => Some(LocalName::from_text(name)),
+                None => None,
+            },
             letters: Letters::new(alloc),
         }
     }
 
     /// Keeps a name as that of the last start tag, if there is one.
-    pub fn keep_name(&mut self, alloc: Global, name: Option<Text>)
+    pub fn keep_name(&mut self, alloc: Global, name: Option<LocalName>)
         ensures { self.new.name ≡ or_last name self.old.name }
     {
         if name.is_some() {

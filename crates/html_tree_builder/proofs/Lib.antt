@@ -1,7 +1,6 @@
 pub mod Fields
 pub mod Grounded
 pub mod FirstFit
-pub mod Parts
 pub mod Acted
 pub mod TextRuns
 pub mod WhiteRuns

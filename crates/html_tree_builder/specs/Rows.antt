@@ -1,17 +1,13 @@
 -- The row that a token takes, and what comes once its actions are done.
-use Rattle.std.specs.Prelude.{ℕ, Bool, true, not, ◌==◌, bit_and, Option, Some, None}
+use Rattle.std.specs.Prelude.{ℕ, Option, Some, None}
 use denote.Bor.{Bor}
 use Rattle.html_tokens.specs.Sink.{numbered}
-use Rattle.html_tokens.specs.declared.tags.TagKind.{TagKind}
-use Rattle.html_tokens.specs.declared.tags.TagKind.TheVariants.{StartTag, EndTag}
 use Rattle.html_tokens.specs.declared.token.Token.{Token}
-use Rattle.html_tokens.specs.declared.token.Token.TheVariants.{TagToken}
 use Rattle.html_rules.specs.Rules as rules
 use Rattle.html_rules.specs.State.{State}
 use Rattle.html_rules.specs.Table as table
 use Rattle.html_rules.specs.declared.insertion_mode.InsertionMode.{InsertionMode}
 use Rattle.html_modes.specs.Tables.{action_of, row_of}
-use Rattle.html_modes.specs.declared.table.Part.{Part}
 use Rattle.html_modes.specs.declared.table.Row.{Row}
 use Rattle.html_tree_builder.specs.declared.conclusions.Ending.{Ending}
 use Rattle.html_tree_builder.specs.declared.conclusions.Ending.TheVariants.{Finished, Again, Replied}
@@ -22,16 +18,6 @@ use Rattle.html_tree_builder.specs.declared.conclusions.Next.TheVariants.{Ends, 
 abbrev pub row_or : Option (Bor Row) → table.Row → table.Row
 row_or (Some row) other = row_of row.now
 row_or None other = other
-
--- the sets of the tags of a kind that a part has rows for
-abbrev pub sets_for : TagKind → Part → ℕ
-sets_for StartTag part = part.starts
-sets_for EndTag part = part.ends
-
--- whether a part may have a row for a token, where these are the sets that the name of a tag is in
-abbrev pub may_be_in : ℕ → Part → Token → Bool
-may_be_in sets part (TagToken tag) = not (bit_and sets (sets_for tag.kind part) == 0)
-may_be_in sets part t = true
 
 -- how a turn ends, with the number of each handle in its place
 abbrev pub ending_of : {H : Type 0} → (H → ℕ) → Ending H → rules.Ending

@@ -100,3 +100,7 @@ built sink b f = state_of (answers_of sink.integration_point sink.allows_shadow_
 -- what a step of the rules does to a state is done to a builder and its tree
 abbrev pub Performs : (State → State) → Building → Building → Forest → Forest → Type 0
 Performs step old new f g = (a : Answers) → state_of a new g ≡ step (state_of a old f)
+
+-- the same of a step that neither looks at the tree nor at what the sink answers: of each tree
+abbrev pub Changes : (State → State) → Building → Building → Type 0
+Changes step old new = (a : Answers) (f : Forest) → state_of a new f ≡ step (state_of a old f)

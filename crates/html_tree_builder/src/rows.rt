@@ -1,23 +1,22 @@
 //! Which row of a table a token takes (HTML Standard, section 13.2.6).
-ghost use Rattle.std.specs.Prelude.{◌≡◌, ◌++◌, List, true};
+ghost use Rattle.std.specs.Prelude.{◌≡◌, ◌++◌, List, drop};
 ghost use Rattle.markup.specs.Forest.{Forest};
 ghost use Rattle.html_rules.specs.Conditions.{holds};
 ghost use Rattle.html_rules.specs.Modes.Foreign.{in_foreign_content};
 ghost use Rattle.html_rules.specs.Rules.{first_fit, fits, rows};
-ghost use Rattle.html_rules.specs.State.{Answers};
+ghost use Rattle.html_rules.specs.State.{Answers, State};
 ghost use Rattle.html_rules.specs.Table.{Row as RuleRow};
-ghost use Rattle.html_modes.specs.Tables.{all_rows, are_covered, condition_of, is_covered, row_of, rows_of};
-ghost use Rattle.html_tree_builder.specs.Rows.{may_be_in, row_or};
+ghost use Rattle.html_modes.specs.Tables.{condition_of, row_of, rows_of};
+ghost use Rattle.html_tree_builder.specs.Rows.{row_or};
 ghost use Rattle.html_tree_builder.specs.States.{state_of};
 ghost use Rattle.html_tree_builder.specs.Told.{IsTold, token_of};
 
 use crate::construction::Construction;
 use crate::told::{Content, NamedToken};
 use html_modes::{
-    Action, Class, Conclusion, Condition, Part, Row, Rows, rows_of_foreign_content, rows_of_mode,
+    Action, Class, Conclusion, Condition, Row, row_at, rows_before, rows_of_foreign_content,
 };
 use html_rules::InsertionMode;
-use html_tokens::TagKind;
 use markup::TreeSink;
 
 /// What a token takes that no row is for.
@@ -29,16 +28,14 @@ const NO_ROW: &Row = &Row {
 };
 
 impl NamedToken<'_> {
-    /// Whether a part of a table may have a row for it: of a tag, whether its name is in one of the part's sets.
-    fn may_be_in(&self, part: &Part) -> bool
-        ensures { result ≡ may_be_in self.now.class.sets part.now (token_of self.now.content) }
+    /// How many rows of a mode are passed over, since none of them is for the token. Only those of tags are noted.
+    fn rows_passed(&self, mode: InsertionMode) -> usize
+        requires { IsTold self.now }
+        ensures { (s : State) → first_fit (drop result (rows mode)) (token_of self.now.content) s ≡ first_fit (rows mode) (token_of self.now.content) s }
     {
         match self.content {
-            Content::Tag(tag) => match tag.kind {
-                TagKind::StartTag => self.class.sets & part.starts != 0,
-                TagKind::EndTag => self.class.sets & part.ends != 0,
-            },
-            _ => true,
+            Content::Tag(tag) => rows_before(mode, tag.kind, self.class.known),
+            _ => 0,
         }
     }
 }
@@ -87,7 +84,8 @@ impl<Sink: TreeSink> Construction<Sink> {
         requires { IsTold told.now }
         ensures { (a : Answers) (f : Forest) → result ≡ fits (row_of row.now) (token_of told.now.content) (state_of a self.now f) }
     {
-        told.fits(row.on) && self.holds(sink, &row.when, told)
+        told.fits(row.on)
+            && (matches!(row.when, Condition::Always) || self.holds(sink, &row.when, told))
     }
 
     /// The first row that is for a token, if there is one.
@@ -114,63 +112,28 @@ impl<Sink: TreeSink> Construction<Sink> {
         }
     }
 
-    /// The first row of a part that is for a token, if there is one.
-    fn find_in(&self, sink: &Sink, part: &Part, told: &NamedToken<'_>) -> Option<&'static Row>
-        requires told { IsTold told.now }
-        requires covered { is_covered part.now ≡ true }
-        ensures { (a : Answers) (f : Forest) (rest : List RuleRow) → first_fit (rows_of part.now.rows.now ++ rest) (token_of told.now.content) (state_of a self.now f) ≡ row_or result (first_fit rest (token_of told.now.content) (state_of a self.now f)) }
-    {
-        if told.may_be_in(part) {
-            self.find(sink, part.rows, told)
-        } else {
-            None
-        }
-    }
-
-    /// The same of two parts, of which one stands after the other.
-    fn find_in_both(
+    /// The first row of a mode that is for a token, after so many others, or what a token takes that no row is for.
+    fn first_after(
         &self,
         sink: &Sink,
-        front: &Part,
-        back: &Part,
+        mode: InsertionMode,
+        passed: usize,
         told: &NamedToken<'_>,
-    ) -> Option<&'static Row>
-        requires told { IsTold told.now }
-        requires front { is_covered front.now ≡ true }
-        requires back { is_covered back.now ≡ true }
-        ensures { (a : Answers) (f : Forest) (rest : List RuleRow) → first_fit (rows_of front.now.rows.now ++ (rows_of back.now.rows.now ++ rest)) (token_of told.now.content) (state_of a self.now f) ≡ row_or result (first_fit rest (token_of told.now.content) (state_of a self.now f)) }
+    ) -> &'static Row
+        requires { IsTold told.now }
+        ensures { (a : Answers) (f : Forest) → row_of result.now ≡ first_fit (drop passed (rows mode)) (token_of told.now.content) (state_of a self.now f) }
     {
-        match self.find_in(sink, front, told) {
-            Some(row) => Some(row),
-            None => self.find_in(sink, back, told),
+        let mut place = passed;
+        while let Some(row) = row_at(mode, place) {
+            if self.fits(sink, row, told) {
+                return row;
+            }
+            place += 1;
         }
+        NO_ROW
     }
 
-    /// The same of all parts of a table.
-    fn find_in_parts(&self, sink: &Sink, rows: &Rows, told: &NamedToken<'_>) -> Option<&'static Row>
-        requires told { IsTold told.now }
-        requires covered { are_covered rows.now ≡ true }
-        ensures { (a : Answers) (f : Forest) → first_fit (all_rows rows.now) (token_of told.now.content) (state_of a self.now f) ≡ row_or result (first_fit (rows_of rows.now.last.now) (token_of told.now.content) (state_of a self.now f)) }
-    {
-        match self.find_in_both(sink, &rows.first, &rows.second, told) {
-            Some(row) => Some(row),
-            None => self.find_in_both(sink, &rows.third, &rows.fourth, told),
-        }
-    }
-
-    /// The row of a table that a token takes.
-    fn first_of(&self, sink: &Sink, rows: &Rows, told: &NamedToken<'_>) -> &'static Row
-        requires told { IsTold told.now }
-        requires covered { are_covered rows.now ≡ true }
-        ensures { (a : Answers) (f : Forest) → row_of result.now ≡ first_fit (all_rows rows.now) (token_of told.now.content) (state_of a self.now f) }
-    {
-        match self.find_in_parts(sink, rows, told) {
-            Some(row) => row,
-            None => self.first_in(sink, rows.last, told),
-        }
-    }
-
-    /// The row of a mode that a token takes.
+    /// The row of a mode that a token takes. It is mostly the first that is not passed over.
     pub(crate) fn first_row(
         &self,
         sink: &Sink,
@@ -180,7 +143,11 @@ impl<Sink: TreeSink> Construction<Sink> {
         requires { IsTold told.now }
         ensures { (a : Answers) (f : Forest) → row_of result.now ≡ first_fit (rows mode) (token_of told.now.content) (state_of a self.now f) }
     {
-        self.first_of(sink, &rows_of_mode(mode), told)
+        let passed = told.rows_passed(mode);
+        match row_at(mode, passed) {
+            Some(row) if self.fits(sink, row, told) => row,
+            _ => self.first_after(sink, mode, passed, told),
+        }
     }
 
     /// The row of foreign content that a token takes.

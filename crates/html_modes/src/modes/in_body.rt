@@ -1,7 +1,7 @@
 //! The "in body" insertion mode (HTML Standard, section 13.2.6.4.7).
-ghost use Rattle.std.specs.Prelude.{◌≡◌, true, take, drop};
+ghost use Rattle.std.specs.Prelude.{◌≡◌, drop, slice_get, take};
 ghost use Rattle.html_rules.specs.Modes.InBody.{in_body};
-ghost use Rattle.html_modes.specs.Tables.{is_covered, rows_of};
+ghost use Rattle.html_modes.specs.Tables.{row_lent, rows_of};
 
 use crate::table::Action::{
     AddAttributesToBody, AddAttributesToRoot, AdoptNobr, AdoptionAgency, AnyOtherEndTag,
@@ -21,7 +21,7 @@ use crate::table::Condition::{
     FramesetOk, HasFormElem, HasTemplateModes, InQuirksMode, InScope, Not, ScriptingEnabled,
     SecondIsBody, TemplateOpen, TokenInScope, TypeHidden,
 };
-use crate::table::{Foreign, Implied, Part, Row, row, sets, then};
+use crate::table::{Foreign, Implied, Row, row, then};
 use html_rules::{InsertionMode, TagSet};
 use html_tokens::states::RawKind;
 
@@ -60,11 +60,6 @@ const STRUCTURE: &[Row] = &[
     row!(EndTags(TagSet::Html), if InScope(TagSet::DefaultScope, TagSet::Body), [CheckBodyEnd], Reprocess(InsertionMode::AfterBody)),
     row!(EndTags(TagSet::Html), [ParseError], Done),
 ];
-
-// The sets of start tags that its rows ask for, and of end tags.
-const STRUCTURE_STARTS: u128 = sets!(Html, HeadContent, Body, Frameset);
-
-const STRUCTURE_ENDS: u128 = sets!(Template, Body, Html);
 
 const BLOCKS: &[Row] = &[
     row!(StartTags(TagSet::Block), [CloseP, InsertElement], Done),
@@ -150,13 +145,6 @@ const BLOCKS: &[Row] = &[
     row!(EndTags(TagSet::HeadingTag), if InScope(TagSet::DefaultScope, TagSet::HeadingTag), [ImpliedEndTags, When(Not(&CurrentIsToken), &ParseError), PopUntil(TagSet::HeadingTag)], Done),
     row!(EndTags(TagSet::HeadingTag), [ParseError], Done),
 ];
-
-// The sets of start tags that its rows ask for, and of end tags.
-const BLOCKS_STARTS: u128 = sets!(
-    Block, HeadingTag, PreListing, Form, Li, DdDt, Plaintext, Button
-);
-
-const BLOCKS_ENDS: u128 = sets!(BlockEnd, Form, P, Li, DdDt, HeadingTag);
 
 const FORMATTING: &[Row] = &[
     row!(
@@ -309,27 +297,6 @@ const FORMATTING: &[Row] = &[
     row!(StartTags(TagSet::Noscript), if ScriptingEnabled, [InsertElement, SaveMode, SwitchTo(InsertionMode::Text)], RawText(RawKind::Rawtext)),
 ];
 
-// The sets of start tags that its rows ask for, and of end tags.
-const FORMATTING_STARTS: u128 = sets!(
-    A,
-    FormattingTag,
-    Nobr,
-    AppletMarqueeObject,
-    Table,
-    VoidTag,
-    Input,
-    ParamSourceTrack,
-    Hr,
-    Image,
-    Textarea,
-    Xmp,
-    Iframe,
-    Noembed,
-    Noscript
-);
-
-const FORMATTING_ENDS: u128 = sets!(FormattingEnd, AppletMarqueeObject, Br);
-
 const CONTENT: &[Row] = &[
     row!(StartTags(TagSet::Select), if ContextIs(TagSet::Select), [ParseError], Done),
     row!(StartTags(TagSet::Select), if InScope(TagSet::DefaultScope, TagSet::Select), [ParseError, PopUntil(TagSet::Select)], Done),
@@ -389,9 +356,6 @@ const CONTENT: &[Row] = &[
     row!(StartTags(TagSet::TablePart), [ParseError], Done),
 ];
 
-// The sets of start tags that its rows ask for.
-const CONTENT_STARTS: u128 = sets!(Select, Option, Optgroup, RbRtc, RpRt, Math, Svg, TablePart);
-
 const REST: &[Row] = &[
     row!(AnyStartTag, [Reconstruct, InsertElement], Done),
     row!(AnyEndTag, [AnyOtherEndTag], Done),
@@ -399,60 +363,53 @@ const REST: &[Row] = &[
 ];
 
 /// Text, comments, `html`, `head`, `body`, `frameset` and the end.
-#[tactic(auto, unfolding(html_names::specs::SetBits::number_of))]
-pub(crate) fn structure() -> Part
-    ensures rows { rows_of result.rows.now ≡ take 17 in_body }
-    ensures covered { is_covered result ≡ true }
+fn structure() -> &'static [Row]
+    ensures { rows_of result.now ≡ take 17 in_body }
 {
-    Part {
-        rows: STRUCTURE,
-        starts: STRUCTURE_STARTS,
-        ends: STRUCTURE_ENDS,
-    }
+    STRUCTURE
 }
 
 /// Blocks, headings, lists, forms and buttons.
-#[tactic(auto, unfolding(html_names::specs::SetBits::number_of))]
-pub(crate) fn blocks() -> Part
-    ensures rows { rows_of result.rows.now ≡ take 22 (drop 17 in_body) }
-    ensures covered { is_covered result ≡ true }
+fn blocks() -> &'static [Row]
+    ensures { rows_of result.now ≡ take 22 (drop 17 in_body) }
 {
-    Part {
-        rows: BLOCKS,
-        starts: BLOCKS_STARTS,
-        ends: BLOCKS_ENDS,
-    }
+    BLOCKS
 }
 
 /// Formatting elements, objects, tables, void elements and raw text.
-#[tactic(auto, unfolding(html_names::specs::SetBits::number_of))]
-pub(crate) fn formatting() -> Part
-    ensures rows { rows_of result.rows.now ≡ take 19 (drop 39 in_body) }
-    ensures covered { is_covered result ≡ true }
+fn formatting() -> &'static [Row]
+    ensures { rows_of result.now ≡ take 19 (drop 39 in_body) }
 {
-    Part {
-        rows: FORMATTING,
-        starts: FORMATTING_STARTS,
-        ends: FORMATTING_ENDS,
-    }
+    FORMATTING
 }
 
 /// `select`, `ruby`, foreign content, and parts of tables.
-#[tactic(auto, unfolding(html_names::specs::SetBits::number_of))]
-pub(crate) fn content() -> Part
-    ensures rows { rows_of result.rows.now ≡ take 14 (drop 58 in_body) }
-    ensures covered { is_covered result ≡ true }
+fn content() -> &'static [Row]
+    ensures { rows_of result.now ≡ take 14 (drop 58 in_body) }
 {
-    Part {
-        rows: CONTENT,
-        starts: CONTENT_STARTS,
-        ends: 0,
-    }
+    CONTENT
 }
 
 /// Any other tag, and what is left.
-pub(crate) fn rest() -> &'static [Row]
+fn rest() -> &'static [Row]
     ensures { rows_of result.now ≡ drop 72 in_body }
 {
     REST
+}
+
+/// The row at a place, counted over all parts, if there is one.
+pub(crate) fn row_at(place: usize) -> Option<&'static Row>
+    ensures { row_lent result ≡ slice_get in_body place }
+{
+    if place < 17 {
+        structure().get(place)
+    } else if place < 39 {
+        blocks().get(place - 17)
+    } else if place < 58 {
+        formatting().get(place - 39)
+    } else if place < 72 {
+        content().get(place - 58)
+    } else {
+        rest().get(place - 72)
+    }
 }

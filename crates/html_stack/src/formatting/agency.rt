@@ -7,9 +7,8 @@ ghost use Rattle.html_rules.specs.Adoption.{adoption_agency, adoption_turn, adop
 ghost use Rattle.html_rules.specs.Formatting.{is_listed};
 ghost use Rattle.html_rules.specs.Names.{Html};
 ghost use Rattle.html_rules.specs.State.{State, current_is, current_number, is_named};
-ghost use Rattle.html_rules_laws.specs.Soundness.{IsStanding};
 ghost use Rattle.html_stack.specs.Adopting.{came_to};
-ghost use Rattle.html_stack.specs.Stacks.{joined, PerformsWith};
+ghost use Rattle.html_stack.specs.Stacks.{joined, PerformsWith, StandsIn};
 
 use crate::formatting::positions::in_list;
 use crate::formatting::turns::{formatting_element, turn_listed};
@@ -42,9 +41,9 @@ impl<Sink: TreeSink> Stack<Sink> {
         foster: bool,
     ) -> Result<bool, ParseFault>
         requires class { IsClassOf Html name.now class }
-        requires standing { IsStanding (Sink.forest sink.old) self.old.open_elems self.old.active_formatting }
+        requires standing { StandsIn (Sink.forest sink.old) self.old }
         ensures ok { IfOk result (λ goes_on. (s : State) → s.foster_parenting ≡ foster → came_to goes_on (joined s self.new (Sink.forest sink.new)) ≡ adoption_turn name.now (joined s self.old (Sink.forest sink.old))) }
-        ensures kept { IsStanding (Sink.forest sink.new) self.new.open_elems self.new.active_formatting }
+        ensures kept { StandsIn (Sink.forest sink.new) self.new }
         ensures grows { node_count (Sink.forest sink.old) ≤ node_count (Sink.forest sink.new) }
         ensures fault { IfErr result (λ fault. fault ≡ Memory) }
     {
@@ -73,9 +72,9 @@ impl<Sink: TreeSink> Stack<Sink> {
         foster: bool,
     ) -> Result<(), ParseFault>
         requires class { IsClassOf Html name.now class }
-        requires standing { IsStanding (Sink.forest sink.old) self.old.open_elems self.old.active_formatting }
+        requires standing { StandsIn (Sink.forest sink.old) self.old }
         ensures ok { OnOk result (PerformsWith foster (adoption_turns 8 name.now) self.old self.new (Sink.forest sink.old) (Sink.forest sink.new)) }
-        ensures kept { IsStanding (Sink.forest sink.new) self.new.open_elems self.new.active_formatting }
+        ensures kept { StandsIn (Sink.forest sink.new) self.new }
         ensures grows { node_count (Sink.forest sink.old) ≤ node_count (Sink.forest sink.new) }
         ensures fault { IfErr result (λ fault. fault ≡ Memory) }
     {
@@ -104,9 +103,9 @@ impl<Sink: TreeSink> Stack<Sink> {
         foster: bool,
     ) -> Result<(), ParseFault>
         requires class { IsClassOf Html name.now class }
-        requires standing { IsStanding (Sink.forest sink.old) self.old.open_elems self.old.active_formatting }
+        requires standing { StandsIn (Sink.forest sink.old) self.old }
         ensures ok { OnOk result (PerformsWith foster (adoption_agency name.now) self.old self.new (Sink.forest sink.old) (Sink.forest sink.new)) }
-        ensures kept { IsStanding (Sink.forest sink.new) self.new.open_elems self.new.active_formatting }
+        ensures kept { StandsIn (Sink.forest sink.new) self.new }
         ensures grows { node_count (Sink.forest sink.old) ≤ node_count (Sink.forest sink.new) }
         ensures fault { IfErr result (λ fault. fault ≡ Memory) }
     {
@@ -126,9 +125,9 @@ impl<Sink: TreeSink> Stack<Sink> {
         sink: &mut Sink,
         foster: bool,
     ) -> Result<(), ParseFault>
-        requires standing { IsStanding (Sink.forest sink.old) self.old.open_elems self.old.active_formatting }
+        requires standing { StandsIn (Sink.forest sink.old) self.old }
         ensures ok { OnOk result (PerformsWith foster handle_misnested_a_tags self.old self.new (Sink.forest sink.old) (Sink.forest sink.new)) }
-        ensures kept { IsStanding (Sink.forest sink.new) self.new.open_elems self.new.active_formatting }
+        ensures kept { StandsIn (Sink.forest sink.new) self.new }
         ensures grows { node_count (Sink.forest sink.old) ≤ node_count (Sink.forest sink.new) }
         ensures fault { IfErr result (λ fault. fault ≡ Memory) }
     {
@@ -144,9 +143,9 @@ impl<Sink: TreeSink> Stack<Sink> {
         foster: bool,
     ) -> Result<(), ParseFault>
         requires name { name.now ≡ codes "a" }
-        requires standing { IsStanding (Sink.forest sink.old) self.old.open_elems self.old.active_formatting }
+        requires standing { StandsIn (Sink.forest sink.old) self.old }
         ensures ok { OnOk result (PerformsWith foster handle_misnested_a_tags self.old self.new (Sink.forest sink.old) (Sink.forest sink.new)) }
-        ensures kept { IsStanding (Sink.forest sink.new) self.new.open_elems self.new.active_formatting }
+        ensures kept { StandsIn (Sink.forest sink.new) self.new }
         ensures grows { node_count (Sink.forest sink.old) ≤ node_count (Sink.forest sink.new) }
         ensures fault { IfErr result (λ fault. fault ≡ Memory) }
     {

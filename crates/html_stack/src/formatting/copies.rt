@@ -7,7 +7,7 @@ ghost use Rattle.markup.specs.declared.fault.ParseFault.TheVariants.{Memory};
 ghost use Rattle.html_rules.specs.Adoption.{copy_if, listed_as, opened_for, walk, with_copy};
 ghost use Rattle.html_rules_laws.specs.Soundness.{AreListed, IsOpened};
 ghost use Rattle.html_stack.specs.Adopting.{IsMovable, KeepsStanding, adopted, walk_of, wrapped};
-ghost use Rattle.html_stack.specs.Inserting.{IsNew, LeavesStanding};
+ghost use Rattle.html_stack.specs.Inserting.{IsNew, LeavesStanding, MakesNext};
 ghost use Rattle.html_stack.specs.Stacks.{entries_of, open_of, opens_of};
 
 use crate::entries::{FormatEntry, OpenElement};
@@ -36,7 +36,7 @@ fn wrap<Sink: TreeSink>(
 ) -> Result<Sink::Handle, ParseFault>
     requires new { IsNew element }
     requires last { IsMovable (Sink.forest sink.old) (Sink.node last.now) }
-    ensures named { IfOk result (λ made. Sink.node made ≡ node_count (Sink.forest sink.old)) }
+    ensures named { MakesNext Sink.node (Sink.forest sink.old) result }
     ensures ok { OnOk result (Sink.forest sink.new ≡ wrapped (Sink.forest sink.old) element (Sink.node last.now)) }
     ensures kept { OnErr result (LeavesStanding (Sink.forest sink.old) (Sink.forest sink.new)) }
     ensures grows { node_count (Sink.forest sink.old) ≤ node_count (Sink.forest sink.new) }
@@ -142,7 +142,7 @@ fn adopt_children<Sink: TreeSink>(
     requires new { IsNew element }
     requires block { IsMovable (Sink.forest sink.old) (Sink.node block.now) }
     requires parent { IsParent (Sink.forest sink.old) (Sink.node block.now) }
-    ensures named { IfOk result (λ made. Sink.node made ≡ node_count (Sink.forest sink.old)) }
+    ensures named { MakesNext Sink.node (Sink.forest sink.old) result }
     ensures ok { OnOk result (Sink.forest sink.new ≡ adopted (Sink.forest sink.old) element (Sink.node block.now)) }
     ensures kept { OnErr result (LeavesStanding (Sink.forest sink.old) (Sink.forest sink.new)) }
     ensures grows { node_count (Sink.forest sink.old) ≤ node_count (Sink.forest sink.new) }

@@ -1,17 +1,16 @@
 //! Formatting elements are inserted and listed, and listed ones are opened again (HTML Standard, section 13.2.4.3).
 ghost use Rattle.std.specs.Prelude.{◌≡◌, ◌++◌, ◌∷◌, ◌<◌, ◌≤◌, ℕ, List, length, take, drop, true, IfErr, IfOk, OnErr, OnOk};
 ghost use Rattle.std.specs.List.{list_all};
-ghost use Rattle.markup.specs.Forest.{node_count};
 ghost use Rattle.markup.specs.declared.fault.ParseFault.TheVariants.{Memory};
 ghost use Rattle.html_names.specs.Classes.{IsClassOf};
 ghost use Rattle.html_tokens.specs.declared.tags.Tag.{Tag};
 ghost use Rattle.html_rules.specs.Formatting.{create_formatting_element_for, reconstruct_active_formatting_elements};
 ghost use Rattle.html_rules.specs.Names.{Html};
 ghost use Rattle.html_rules.specs.State.{Element as Listed, Entry};
-ghost use Rattle.html_rules_laws.specs.Soundness.{IsStanding};
 ghost use Rattle.html_stack.specs.Found.{IsTagAt};
 ghost use Rattle.html_stack.specs.Reopening.{IsAgain, IsDivided, IsSaidAt, IsSettled, waits};
-ghost use Rattle.html_stack.specs.Stacks.{entries_of, entry_of, opens_of, PerformsWith};
+ghost use Rattle.html_stack.specs.Stacks.{entries_of, entry_of, opens_of, PerformsWith, StandsIn};
+ghost use Rattle.html_stack.specs.Inserting.{MakesNext};
 
 use crate::entries::{FormatEntry, OpenElement};
 use crate::formatting::{listing, positions};
@@ -85,10 +84,10 @@ impl<Sink: TreeSink> Stack<Sink> {
         foster: bool,
     ) -> Result<Sink::Handle, ParseFault>
         requires class { IsClassOf Html tag.name class }
-        requires standing { IsStanding (Sink.forest sink.old) self.old.open_elems self.old.active_formatting }
-        ensures named { IfOk result (λ made. Sink.node made ≡ node_count (Sink.forest sink.old)) }
+        requires standing { StandsIn (Sink.forest sink.old) self.old }
+        ensures named { MakesNext Sink.node (Sink.forest sink.old) result }
         ensures ok { OnOk result (PerformsWith foster (create_formatting_element_for tag) self.old self.new (Sink.forest sink.old) (Sink.forest sink.new)) }
-        ensures kept { IsStanding (Sink.forest sink.new) self.new.open_elems self.new.active_formatting }
+        ensures kept { StandsIn (Sink.forest sink.new) self.new }
         ensures fault { IfErr result (λ fault. fault ≡ Memory) }
     {
         let own = tag.copy(self.allocator())?;
@@ -148,9 +147,9 @@ impl<Sink: TreeSink> Stack<Sink> {
     /// The element of an entry is inserted again, and the entry stands for the new one.
     fn open_again(&mut self, sink: &mut Sink, place: usize, foster: bool) -> Result<(), ParseFault>
         requires place { place < length self.old.active_formatting }
-        requires standing { IsStanding (Sink.forest sink.old) self.old.open_elems self.old.active_formatting }
+        requires standing { StandsIn (Sink.forest sink.old) self.old }
         ensures ok { OnOk result ((newer older : List Entry) (n : ℕ) (tag : Tag) → self.old.active_formatting ≡ newer ++ Listed n tag ∷ older → length older ≡ place → IsAgain foster self.old self.new (Sink.forest sink.old) (Sink.forest sink.new) newer tag older) }
-        ensures kept { IsStanding (Sink.forest sink.new) self.new.open_elems self.new.active_formatting }
+        ensures kept { StandsIn (Sink.forest sink.new) self.new }
         ensures fault { IfErr result (λ fault. fault ≡ Memory) }
     {
         let Some(tag) = self.tag_again(place)? else {
@@ -171,9 +170,9 @@ impl<Sink: TreeSink> Stack<Sink> {
         sink: &mut Sink,
         foster: bool,
     ) -> Result<(), ParseFault>
-        requires { IsStanding (Sink.forest sink.old) self.old.open_elems self.old.active_formatting }
+        requires { StandsIn (Sink.forest sink.old) self.old }
         ensures ok { OnOk result (PerformsWith foster reconstruct_active_formatting_elements self.old self.new (Sink.forest sink.old) (Sink.forest sink.new)) }
-        ensures kept { IsStanding (Sink.forest sink.new) self.new.open_elems self.new.active_formatting }
+        ensures kept { StandsIn (Sink.forest sink.new) self.new }
         ensures fault { IfErr result (λ fault. fault ≡ Memory) }
     {
         let settled = self.settled(sink);

@@ -6,9 +6,8 @@ ghost use Rattle.markup.specs.Named.{IsTree};
 ghost use Rattle.markup.specs.declared.fault.ParseFault.TheVariants.{Memory};
 ghost use Rattle.html_rules.specs.Places.{append_comment, append_comment_to_doc, append_comment_to_html, append_doctype_to_document, append_text, or_empty};
 ghost use Rattle.html_rules.specs.State.{State};
-ghost use Rattle.html_rules_laws.specs.Soundness.{IsStanding};
 ghost use Rattle.html_stack.specs.Inserting.{IsPoint, LeavesStanding, place_at};
-ghost use Rattle.html_stack.specs.Stacks.{joined};
+ghost use Rattle.html_stack.specs.Stacks.{joined, StandsIn};
 
 use crate::entries::InsertionPoint;
 use crate::inserting::places::insert_at;
@@ -48,10 +47,10 @@ impl<Sink: TreeSink> Stack<Sink> {
     /// Puts text at the appropriate place ("insert a character", for each of its characters). Text is handed on without a copy. On
     /// [`ParseFault::Memory`], the only fault, the tree is as it was.
     pub fn append_text(&self, sink: &mut Sink, text: Text, foster: bool) -> Result<(), ParseFault>
-        requires { IsStanding (Sink.forest sink.old) self.now.open_elems self.now.active_formatting }
+        requires { StandsIn (Sink.forest sink.old) self.now }
         ensures ok { OnOk result ((s : State) → s.foster_parenting ≡ foster → joined s self.now (Sink.forest sink.new) ≡ append_text text (joined s self.now (Sink.forest sink.old))) }
         ensures err { OnErr result (Sink.forest sink.new ≡ Sink.forest sink.old) }
-        ensures kept { IsStanding (Sink.forest sink.new) self.now.open_elems self.now.active_formatting }
+        ensures kept { StandsIn (Sink.forest sink.new) self.now }
         ensures grows { node_count (Sink.forest sink.old) ≤ node_count (Sink.forest sink.new) }
         ensures fault { IfErr result (λ fault. fault ≡ Memory) }
     {
@@ -67,9 +66,9 @@ impl<Sink: TreeSink> Stack<Sink> {
         text: Text,
         foster: bool,
     ) -> Result<(), ParseFault>
-        requires { IsStanding (Sink.forest sink.old) self.now.open_elems self.now.active_formatting }
+        requires { StandsIn (Sink.forest sink.old) self.now }
         ensures ok { OnOk result ((s : State) → s.foster_parenting ≡ foster → joined s self.now (Sink.forest sink.new) ≡ append_comment text (joined s self.now (Sink.forest sink.old))) }
-        ensures kept { IsStanding (Sink.forest sink.new) self.now.open_elems self.now.active_formatting }
+        ensures kept { StandsIn (Sink.forest sink.new) self.now }
         ensures grows { node_count (Sink.forest sink.old) ≤ node_count (Sink.forest sink.new) }
         ensures fault { IfErr result (λ fault. fault ≡ Memory) }
     {
@@ -79,9 +78,9 @@ impl<Sink: TreeSink> Stack<Sink> {
 
     /// Puts a comment last into the document. On [`ParseFault::Memory`], the only fault, it may have been made without being put anywhere.
     pub fn append_comment_to_doc(&self, sink: &mut Sink, text: Text) -> Result<(), ParseFault>
-        requires { IsStanding (Sink.forest sink.old) self.now.open_elems self.now.active_formatting }
+        requires { StandsIn (Sink.forest sink.old) self.now }
         ensures ok { OnOk result ((s : State) → joined s self.now (Sink.forest sink.new) ≡ append_comment_to_doc text (joined s self.now (Sink.forest sink.old))) }
-        ensures kept { IsStanding (Sink.forest sink.new) self.now.open_elems self.now.active_formatting }
+        ensures kept { StandsIn (Sink.forest sink.new) self.now }
         ensures grows { node_count (Sink.forest sink.old) ≤ node_count (Sink.forest sink.new) }
         ensures fault { IfErr result (λ fault. fault ≡ Memory) }
     {
@@ -91,9 +90,9 @@ impl<Sink: TreeSink> Stack<Sink> {
 
     /// Puts a comment last into the root. On [`ParseFault::Memory`], the only fault, it may have been made without being put anywhere.
     pub fn append_comment_to_html(&self, sink: &mut Sink, text: Text) -> Result<(), ParseFault>
-        requires { IsStanding (Sink.forest sink.old) self.now.open_elems self.now.active_formatting }
+        requires { StandsIn (Sink.forest sink.old) self.now }
         ensures ok { OnOk result ((s : State) → joined s self.now (Sink.forest sink.new) ≡ append_comment_to_html text (joined s self.now (Sink.forest sink.old))) }
-        ensures kept { IsStanding (Sink.forest sink.new) self.now.open_elems self.now.active_formatting }
+        ensures kept { StandsIn (Sink.forest sink.new) self.now }
         ensures grows { node_count (Sink.forest sink.old) ≤ node_count (Sink.forest sink.new) }
         ensures fault { IfErr result (λ fault. fault ≡ Memory) }
     {
@@ -109,10 +108,10 @@ impl<Sink: TreeSink> Stack<Sink> {
         sink: &mut Sink,
         doctype: Doctype,
     ) -> Result<(), ParseFault>
-        requires { IsStanding (Sink.forest sink.old) self.now.open_elems self.now.active_formatting }
+        requires { StandsIn (Sink.forest sink.old) self.now }
         ensures ok { OnOk result ((s : State) → joined s self.now (Sink.forest sink.new) ≡ append_doctype_to_document doctype (joined s self.now (Sink.forest sink.old))) }
         ensures err { OnErr result (Sink.forest sink.new ≡ Sink.forest sink.old) }
-        ensures kept { IsStanding (Sink.forest sink.new) self.now.open_elems self.now.active_formatting }
+        ensures kept { StandsIn (Sink.forest sink.new) self.now }
         ensures grows { node_count (Sink.forest sink.old) ≤ node_count (Sink.forest sink.new) }
         ensures fault { IfErr result (λ fault. fault ≡ Memory) }
     {

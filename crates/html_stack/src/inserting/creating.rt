@@ -1,10 +1,11 @@
 //! New elements, with what is known of them by their names (HTML Standard, section 13.2.6.1).
-ghost use Rattle.std.specs.Prelude.{◌≡◌, ℕ, List, false, IfErr, IfOk, OnErr, OnOk};
+ghost use Rattle.std.specs.Prelude.{◌≡◌, ℕ, List, false, IfErr, OnErr, OnOk};
 ghost use Rattle.std.specs.List.{list_any};
-ghost use Rattle.markup.specs.Forest.{create_element, node_count};
+ghost use Rattle.markup.specs.Forest.{create_element};
 ghost use Rattle.markup.specs.declared.fault.ParseFault.TheVariants.{Memory};
 ghost use Rattle.html_names.specs.Classes.{IsClassOf};
 ghost use Rattle.html_rules.specs.Names.{Namespace, encodes_html, flags_of, namespace_of};
+ghost use Rattle.html_stack.specs.Inserting.{MakesNext};
 
 use html_names::{ElementClass, equals_any_case};
 use html_rules::TagSet;
@@ -52,7 +53,7 @@ pub fn create_element<Sink: TreeSink>(
     name: QualName,
     attributes: Attributes,
 ) -> Result<Sink::Handle, ParseFault>
-    ensures named { IfOk result (λ made. Sink.node made ≡ node_count (Sink.forest sink.old)) }
+    ensures named { MakesNext Sink.node (Sink.forest sink.old) result }
     ensures ok { OnOk result (Sink.forest sink.new ≡ create_element (Sink.forest sink.old) name attributes (flags_of (namespace_of name.ns) name.local attributes false)) }
     ensures err { OnErr result (Sink.forest sink.new ≡ Sink.forest sink.old) }
     ensures fault { IfErr result (λ fault. fault ≡ Memory) }
@@ -67,7 +68,7 @@ pub fn create_element_with_flags<Sink: TreeSink>(
     attributes: Attributes,
     had_duplicate_attributes: bool,
 ) -> Result<Sink::Handle, ParseFault>
-    ensures named { IfOk result (λ made. Sink.node made ≡ node_count (Sink.forest sink.old)) }
+    ensures named { MakesNext Sink.node (Sink.forest sink.old) result }
     ensures ok { OnOk result (Sink.forest sink.new ≡ create_element (Sink.forest sink.old) name attributes (flags_of (namespace_of name.ns) name.local attributes had_duplicate_attributes)) }
     ensures err { OnErr result (Sink.forest sink.new ≡ Sink.forest sink.old) }
     ensures fault { IfErr result (λ fault. fault ≡ Memory) }

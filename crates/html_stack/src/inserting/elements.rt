@@ -1,5 +1,5 @@
 //! Elements are inserted (HTML Standard, section 13.2.6.1, "insert a foreign element" and "insert an HTML element").
-ghost use Rattle.std.specs.Prelude.{◌≡◌, ◌∷◌, ◌≤◌, [], codes, IfErr, IfOk, IfSome, OnOk, Some};
+ghost use Rattle.std.specs.Prelude.{◌≡◌, ◌∷◌, ◌≤◌, [], codes, IfErr, IfSome, OnOk, Some};
 ghost use Rattle.std.specs.List.{list_any};
 ghost use Rattle.std.specs.Prelude.{◌&&◌};
 ghost use Rattle.std.specs.Str.{bytes_eq};
@@ -9,9 +9,8 @@ ghost use Rattle.markup.specs.declared.fault.ParseFault.TheVariants.{Memory};
 ghost use Rattle.html_names.specs.Classes.{IsClassOf};
 ghost use Rattle.html_rules.specs.Names.{Html};
 ghost use Rattle.html_rules.specs.Places.{insert_and_pop_element_for, insert_element_for, insert_phantom};
-ghost use Rattle.html_rules_laws.specs.Soundness.{IsStanding};
-ghost use Rattle.html_stack.specs.Inserting.{IsNew, IsPoint, LeavesStanding, inserted, opened_as, with_put};
-ghost use Rattle.html_stack.specs.Stacks.{PerformsWith};
+ghost use Rattle.html_stack.specs.Inserting.{inserted, IsNew, IsPoint, LeavesStanding, MakesNext, opened_as, with_put};
+ghost use Rattle.html_stack.specs.Stacks.{PerformsWith, StandsIn};
 
 use crate::entries::{InsertionPoint, OpenElement, PushFlag};
 use crate::inserting::new_element::NewElement;
@@ -76,7 +75,7 @@ fn put_element<Sink: TreeSink>(
     requires tree { IsTree (Sink.forest sink.old) }
     requires point { IsPoint Sink.node (Sink.forest sink.old) point }
     requires owner { IfSome owner (λ form. IsNode (Sink.forest sink.old) (Sink.node form)) }
-    ensures named { IfOk result (λ made. Sink.node made ≡ node_count (Sink.forest sink.old)) }
+    ensures named { MakesNext Sink.node (Sink.forest sink.old) result }
     ensures ok { OnOk result (Sink.forest sink.new ≡ with_put Sink.node point (Sink.forest sink.old) element) }
     ensures kept { LeavesStanding (Sink.forest sink.old) (Sink.forest sink.new) }
     ensures grows { node_count (Sink.forest sink.old) ≤ node_count (Sink.forest sink.new) }
@@ -115,13 +114,13 @@ impl<Sink: TreeSink> Stack<Sink> {
         owner: Option<Sink::Handle>,
     ) -> Result<Sink::Handle, ParseFault>
         requires class { IsNew element }
-        requires standing { IsStanding (Sink.forest sink.old) self.old.open_elems self.old.active_formatting }
+        requires standing { StandsIn (Sink.forest sink.old) self.old }
         requires point { IsPoint Sink.node (Sink.forest sink.old) point }
         requires owner { IfSome owner (λ form. IsNode (Sink.forest sink.old) (Sink.node form)) }
-        ensures named { IfOk result (λ made. Sink.node made ≡ node_count (Sink.forest sink.old)) }
+        ensures named { MakesNext Sink.node (Sink.forest sink.old) result }
         ensures ok { OnOk result (Sink.forest sink.new ≡ with_put Sink.node point (Sink.forest sink.old) element) }
         ensures opened { OnOk result (self.new ≡ record self.old { open_elems = opened_as (Sink.forest sink.old) element ∷ self.old.open_elems }) }
-        ensures kept { IsStanding (Sink.forest sink.new) self.new.open_elems self.new.active_formatting }
+        ensures kept { StandsIn (Sink.forest sink.new) self.new }
         ensures grows { node_count (Sink.forest sink.old) ≤ node_count (Sink.forest sink.new) }
         ensures fault { IfErr result (λ fault. fault ≡ Memory) }
     {
@@ -144,11 +143,11 @@ impl<Sink: TreeSink> Stack<Sink> {
         form: Option<Sink::Handle>,
     ) -> Result<Sink::Handle, ParseFault>
         requires class { IsNew element }
-        requires standing { IsStanding (Sink.forest sink.old) self.old.open_elems self.old.active_formatting }
+        requires standing { StandsIn (Sink.forest sink.old) self.old }
         requires form { IfSome form (λ owner. IsNode (Sink.forest sink.old) (Sink.node owner)) }
-        ensures named { IfOk result (λ made. Sink.node made ≡ node_count (Sink.forest sink.old)) }
+        ensures named { MakesNext Sink.node (Sink.forest sink.old) result }
         ensures ok { OnOk result (PerformsWith foster (inserted push element) self.old self.new (Sink.forest sink.old) (Sink.forest sink.new)) }
-        ensures kept { IsStanding (Sink.forest sink.new) self.new.open_elems self.new.active_formatting }
+        ensures kept { StandsIn (Sink.forest sink.new) self.new }
         ensures grows { node_count (Sink.forest sink.old) ≤ node_count (Sink.forest sink.new) }
         ensures fault { IfErr result (λ fault. fault ≡ Memory) }
     {
@@ -171,11 +170,11 @@ impl<Sink: TreeSink> Stack<Sink> {
         form: Option<Sink::Handle>,
     ) -> Result<Sink::Handle, ParseFault>
         requires class { IsClassOf Html tag.name class }
-        requires standing { IsStanding (Sink.forest sink.old) self.old.open_elems self.old.active_formatting }
+        requires standing { StandsIn (Sink.forest sink.old) self.old }
         requires form { IfSome form (λ owner. IsNode (Sink.forest sink.old) (Sink.node owner)) }
-        ensures named { IfOk result (λ made. Sink.node made ≡ node_count (Sink.forest sink.old)) }
+        ensures named { MakesNext Sink.node (Sink.forest sink.old) result }
         ensures ok { OnOk result (PerformsWith foster (insert_element_for tag) self.old self.new (Sink.forest sink.old) (Sink.forest sink.new)) }
-        ensures kept { IsStanding (Sink.forest sink.new) self.new.open_elems self.new.active_formatting }
+        ensures kept { StandsIn (Sink.forest sink.new) self.new }
         ensures grows { node_count (Sink.forest sink.old) ≤ node_count (Sink.forest sink.new) }
         ensures fault { IfErr result (λ fault. fault ≡ Memory) }
     {
@@ -193,10 +192,10 @@ impl<Sink: TreeSink> Stack<Sink> {
         foster: bool,
     ) -> Result<Sink::Handle, ParseFault>
         requires class { IsClassOf Html tag.name class }
-        requires standing { IsStanding (Sink.forest sink.old) self.old.open_elems self.old.active_formatting }
-        ensures named { IfOk result (λ made. Sink.node made ≡ node_count (Sink.forest sink.old)) }
+        requires standing { StandsIn (Sink.forest sink.old) self.old }
+        ensures named { MakesNext Sink.node (Sink.forest sink.old) result }
         ensures ok { OnOk result (PerformsWith foster (insert_element_for tag) self.old self.new (Sink.forest sink.old) (Sink.forest sink.new)) }
-        ensures kept { IsStanding (Sink.forest sink.new) self.new.open_elems self.new.active_formatting }
+        ensures kept { StandsIn (Sink.forest sink.new) self.new }
         ensures grows { node_count (Sink.forest sink.old) ≤ node_count (Sink.forest sink.new) }
         ensures fault { IfErr result (λ fault. fault ≡ Memory) }
     {
@@ -214,11 +213,11 @@ impl<Sink: TreeSink> Stack<Sink> {
         form: Option<Sink::Handle>,
     ) -> Result<Sink::Handle, ParseFault>
         requires class { IsClassOf Html tag.name class }
-        requires standing { IsStanding (Sink.forest sink.old) self.old.open_elems self.old.active_formatting }
+        requires standing { StandsIn (Sink.forest sink.old) self.old }
         requires form { IfSome form (λ owner. IsNode (Sink.forest sink.old) (Sink.node owner)) }
-        ensures named { IfOk result (λ made. Sink.node made ≡ node_count (Sink.forest sink.old)) }
+        ensures named { MakesNext Sink.node (Sink.forest sink.old) result }
         ensures ok { OnOk result (PerformsWith foster (insert_and_pop_element_for tag) self.old self.new (Sink.forest sink.old) (Sink.forest sink.new)) }
-        ensures kept { IsStanding (Sink.forest sink.new) self.new.open_elems self.new.active_formatting }
+        ensures kept { StandsIn (Sink.forest sink.new) self.new }
         ensures grows { node_count (Sink.forest sink.old) ≤ node_count (Sink.forest sink.new) }
         ensures fault { IfErr result (λ fault. fault ≡ Memory) }
     {
@@ -234,11 +233,11 @@ impl<Sink: TreeSink> Stack<Sink> {
         foster: bool,
         form: Option<Sink::Handle>,
     ) -> Result<Sink::Handle, ParseFault>
-        requires standing { IsStanding (Sink.forest sink.old) self.old.open_elems self.old.active_formatting }
+        requires standing { StandsIn (Sink.forest sink.old) self.old }
         requires form { IfSome form (λ owner. IsNode (Sink.forest sink.old) (Sink.node owner)) }
-        ensures named { IfOk result (λ made. Sink.node made ≡ node_count (Sink.forest sink.old)) }
+        ensures named { MakesNext Sink.node (Sink.forest sink.old) result }
         ensures ok { OnOk result (PerformsWith foster (insert_phantom name) self.old self.new (Sink.forest sink.old) (Sink.forest sink.new)) }
-        ensures kept { IsStanding (Sink.forest sink.new) self.new.open_elems self.new.active_formatting }
+        ensures kept { StandsIn (Sink.forest sink.new) self.new }
         ensures grows { node_count (Sink.forest sink.old) ≤ node_count (Sink.forest sink.new) }
         ensures fault { IfErr result (λ fault. fault ≡ Memory) }
     {

@@ -4,7 +4,7 @@ ghost use Rattle.markup.specs.Forest.{node_count};
 ghost use Rattle.markup.specs.declared.fault.ParseFault.TheVariants.{Memory};
 ghost use Rattle.html_names.specs.Classes.{IsClassOf};
 ghost use Rattle.html_rules.specs.Names.{Html, namespace_of};
-ghost use Rattle.html_stack.specs.Inserting.{IsFor, IsNew, with_made};
+ghost use Rattle.html_stack.specs.Inserting.{IsFor, IsNew, MakesNext, with_made};
 
 use crate::inserting::creating;
 use html_names::{ElementClass, ElementName, ElementNamespace};
@@ -85,7 +85,7 @@ impl NewElement {
     /// Makes the element, which stands nowhere yet. On [`ParseFault::Memory`], the only fault, the tree is as it was.
     pub fn create<Sink: TreeSink>(self, sink: &mut Sink) -> Result<Sink::Handle, ParseFault>
         requires { IsNew self }
-        ensures named { IfOk result (λ made. Sink.node made ≡ node_count (Sink.forest sink.old)) }
+        ensures named { MakesNext Sink.node (Sink.forest sink.old) result }
         ensures ok { OnOk result (Sink.forest sink.new ≡ with_made (Sink.forest sink.old) self) }
         ensures err { OnErr result (Sink.forest sink.new ≡ Sink.forest sink.old) }
         ensures grows { node_count (Sink.forest sink.old) ≤ node_count (Sink.forest sink.new) }

@@ -1,14 +1,14 @@
 //! The root and the body (HTML Standard, sections 13.2.6.4.2 and 13.2.6.4.7), and elements that are opened without being put anywhere.
-ghost use Rattle.std.specs.Prelude.{◌≡◌, ◌≤◌, ℕ, IfErr, IfOk, IfSome, MatchOption, None, OnErr, OnOk, Some};
+ghost use Rattle.std.specs.Prelude.{◌≡◌, ◌≤◌, ℕ, IfErr, IfSome, MatchOption, None, OnErr, OnOk, Some};
 ghost use Rattle.markup.specs.Forest.{Forest, IsNode, node_count};
 ghost use Rattle.markup.specs.declared.fault.ParseFault.TheVariants.{Memory};
 ghost use Rattle.html_rules.specs.Names.{namespace_of};
 ghost use Rattle.html_rules.specs.Places.{create_root, open_element};
 ghost use Rattle.html_rules.specs.Stack.{add_attributes_to_body, add_attributes_to_root, body_elem, remove_body, remove_if};
 ghost use Rattle.html_rules.specs.State.{State};
-ghost use Rattle.html_rules_laws.specs.Soundness.{AreOpened, IsStanding};
-ghost use Rattle.html_stack.specs.Inserting.{IsNew};
-ghost use Rattle.html_stack.specs.Stacks.{joined, opens_of, Performs};
+ghost use Rattle.html_rules_laws.specs.Soundness.{AreOpened};
+ghost use Rattle.html_stack.specs.Inserting.{IsNew, MakesNext};
+ghost use Rattle.html_stack.specs.Stacks.{joined, opens_of, Performs, StandsIn};
 
 use crate::entries::{InsertionPoint, OpenElement};
 use crate::inserting::new_element::NewElement;
@@ -48,10 +48,10 @@ impl<Sink: TreeSink> Stack<Sink> {
         sink: &mut Sink,
         attrs: Attributes,
     ) -> Result<Sink::Handle, ParseFault>
-        requires { IsStanding (Sink.forest sink.old) self.old.open_elems self.old.active_formatting }
-        ensures named { IfOk result (λ made. Sink.node made ≡ node_count (Sink.forest sink.old)) }
+        requires { StandsIn (Sink.forest sink.old) self.old }
+        ensures named { MakesNext Sink.node (Sink.forest sink.old) result }
         ensures ok { OnOk result (Performs (create_root attrs) self.old self.new (Sink.forest sink.old) (Sink.forest sink.new)) }
-        ensures kept { IsStanding (Sink.forest sink.new) self.new.open_elems self.new.active_formatting }
+        ensures kept { StandsIn (Sink.forest sink.new) self.new }
         ensures grows { node_count (Sink.forest sink.old) ≤ node_count (Sink.forest sink.new) }
         ensures fault { IfErr result (λ fault. fault ≡ Memory) }
     {
@@ -69,10 +69,10 @@ impl<Sink: TreeSink> Stack<Sink> {
         element: NewElement,
     ) -> Result<Sink::Handle, ParseFault>
         requires class { IsNew element }
-        requires standing { IsStanding (Sink.forest sink.old) self.old.open_elems self.old.active_formatting }
-        ensures named { IfOk result (λ made. Sink.node made ≡ node_count (Sink.forest sink.old)) }
+        requires standing { StandsIn (Sink.forest sink.old) self.old }
+        ensures named { MakesNext Sink.node (Sink.forest sink.old) result }
         ensures ok { OnOk result (Performs (open_element (namespace_of element.namespace) element.name element.attrs element.had_duplicate_attributes) self.old self.new (Sink.forest sink.old) (Sink.forest sink.new)) }
-        ensures kept { IsStanding (Sink.forest sink.new) self.new.open_elems self.new.active_formatting }
+        ensures kept { StandsIn (Sink.forest sink.new) self.new }
         ensures grows { node_count (Sink.forest sink.old) ≤ node_count (Sink.forest sink.new) }
         ensures fault { IfErr result (λ fault. fault ≡ Memory) }
     {
@@ -89,10 +89,10 @@ impl<Sink: TreeSink> Stack<Sink> {
         sink: &mut Sink,
         attrs: Attributes,
     ) -> Result<(), ParseFault>
-        requires { IsStanding (Sink.forest sink.old) self.now.open_elems self.now.active_formatting }
+        requires { StandsIn (Sink.forest sink.old) self.now }
         ensures ok { OnOk result ((s : State) → joined s self.now (Sink.forest sink.new) ≡ add_attributes_to_root attrs (joined s self.now (Sink.forest sink.old))) }
         ensures err { OnErr result (Sink.forest sink.new ≡ Sink.forest sink.old) }
-        ensures kept { IsStanding (Sink.forest sink.new) self.now.open_elems self.now.active_formatting }
+        ensures kept { StandsIn (Sink.forest sink.new) self.now }
         ensures grows { node_count (Sink.forest sink.old) ≤ node_count (Sink.forest sink.new) }
         ensures fault { IfErr result (λ fault. fault ≡ Memory) }
     {
@@ -107,10 +107,10 @@ impl<Sink: TreeSink> Stack<Sink> {
         sink: &mut Sink,
         attrs: Attributes,
     ) -> Result<(), ParseFault>
-        requires { IsStanding (Sink.forest sink.old) self.now.open_elems self.now.active_formatting }
+        requires { StandsIn (Sink.forest sink.old) self.now }
         ensures ok { OnOk result ((s : State) → joined s self.now (Sink.forest sink.new) ≡ add_attributes_to_body attrs (joined s self.now (Sink.forest sink.old))) }
         ensures err { OnErr result (Sink.forest sink.new ≡ Sink.forest sink.old) }
-        ensures kept { IsStanding (Sink.forest sink.new) self.now.open_elems self.now.active_formatting }
+        ensures kept { StandsIn (Sink.forest sink.new) self.now }
         ensures grows { node_count (Sink.forest sink.old) ≤ node_count (Sink.forest sink.new) }
         ensures fault { IfErr result (λ fault. fault ≡ Memory) }
     {
@@ -135,9 +135,9 @@ impl<Sink: TreeSink> Stack<Sink> {
     /// Takes the `body`, where it is the second element that was opened, out of its parent, and all elements but the root off the stack
     /// (HTML Standard, section 13.2.6.4.7, a start tag `frameset`). The sink is not told of these.
     pub fn remove_body(&mut self, sink: &mut Sink)
-        requires { IsStanding (Sink.forest sink.old) self.old.open_elems self.old.active_formatting }
+        requires { StandsIn (Sink.forest sink.old) self.old }
         ensures step { Performs remove_body self.old self.new (Sink.forest sink.old) (Sink.forest sink.new) }
-        ensures kept { IsStanding (Sink.forest sink.new) self.new.open_elems self.new.active_formatting }
+        ensures kept { StandsIn (Sink.forest sink.new) self.new }
         ensures count { node_count (Sink.forest sink.new) ≡ node_count (Sink.forest sink.old) }
     {
         self.take_body_out(sink);

@@ -11,10 +11,10 @@ ghost use Rattle.html_rules.specs.Places.{open_element};
 ghost use Rattle.html_rules.specs.State.{State, adjusted_by, current_node};
 ghost use Rattle.html_rules.specs.Templates.{attach_shadow_root, insert_template, intended_parent_at, number_of};
 ghost use Rattle.html_rules.specs.Tokens.{is_shadow_mode};
-ghost use Rattle.html_rules_laws.specs.Soundness.{AreOpened, IsStanding};
+ghost use Rattle.html_rules_laws.specs.Soundness.{AreOpened};
 ghost use Rattle.html_stack.specs.Answering.{answers_of};
 ghost use Rattle.html_stack.specs.Inserting.{asked_at, context_of};
-ghost use Rattle.html_stack.specs.Stacks.{joined, opens_of};
+ghost use Rattle.html_stack.specs.Stacks.{joined, opens_of, StandsIn};
 
 use crate::entries::{InsertionPoint, OpenElement};
 use crate::foreign::adjusted;
@@ -102,11 +102,11 @@ impl<Sink: TreeSink> Stack<Sink> {
         form: Option<Sink::Handle>,
     ) -> Result<(), ParseFault>
         requires class { IsClassOf Html tag.name class }
-        requires standing { IsStanding (Sink.forest sink.old) self.old.open_elems self.old.active_formatting }
+        requires standing { StandsIn (Sink.forest sink.old) self.old }
         requires host { IsNode (Sink.forest sink.old) (Sink.node host) }
         requires form { IfSome form (λ owner. IsNode (Sink.forest sink.old) (Sink.node owner)) }
         ensures ok { OnOk result ((s : State) → s.foster_parenting ≡ foster → s.answers ≡ answers_of Sink.integration_point Sink.allows_shadow_roots Sink.attaches_shadow → joined s self.new (Sink.forest sink.new) ≡ attach_shadow_root tag (Sink.node host) (open_element Html tag.name tag.attrs tag.had_duplicate_attributes (joined s self.old (Sink.forest sink.old)))) }
-        ensures kept { IsStanding (Sink.forest sink.new) self.new.open_elems self.new.active_formatting }
+        ensures kept { StandsIn (Sink.forest sink.new) self.new }
         ensures grows { node_count (Sink.forest sink.old) ≤ node_count (Sink.forest sink.new) }
         ensures fault { IfErr result (λ fault. fault ≡ Memory) }
     {
@@ -135,11 +135,11 @@ impl<Sink: TreeSink> Stack<Sink> {
         form: Option<Sink::Handle>,
     ) -> Result<(), ParseFault>
         requires class { IsClassOf Html tag.name class }
-        requires standing { IsStanding (Sink.forest sink.old) self.old.open_elems self.old.active_formatting }
+        requires standing { StandsIn (Sink.forest sink.old) self.old }
         requires context { IfSome (context_of Sink.node context) (λ x. IsNode (Sink.forest sink.old) x.number) }
         requires form { IfSome form (λ owner. IsNode (Sink.forest sink.old) (Sink.node owner)) }
         ensures ok { OnOk result ((s : State) → s.foster_parenting ≡ foster → s.context_elem ≡ context_of Sink.node context.entry → s.answers ≡ answers_of Sink.integration_point Sink.allows_shadow_roots Sink.attaches_shadow → joined s self.new (Sink.forest sink.new) ≡ insert_template tag (joined s self.old (Sink.forest sink.old))) }
-        ensures kept { IsStanding (Sink.forest sink.new) self.new.open_elems self.new.active_formatting }
+        ensures kept { StandsIn (Sink.forest sink.new) self.new }
         ensures grows { node_count (Sink.forest sink.old) ≤ node_count (Sink.forest sink.new) }
         ensures fault { IfErr result (λ fault. fault ≡ Memory) }
     {

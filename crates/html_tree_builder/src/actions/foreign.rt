@@ -1,15 +1,13 @@
 //! Elements of foreign content, and templates (HTML Standard, sections 13.2.6.4.4 and 13.2.6.5).
 ghost use Rattle.std.specs.Prelude.{◌≡◌, IfErr, OnOk};
-ghost use Rattle.markup.specs.Forest.{Forest};
 ghost use Rattle.markup.specs.declared.fault.ParseFault.TheVariants.{Memory};
 ghost use Rattle.html_modes.specs.Tables.{namespace_of};
 ghost use Rattle.html_rules.specs.Actions.{for_tag};
 ghost use Rattle.html_rules.specs.ForeignContent.{close_foreign, enter_foreign, foreign_start, is_foreign, pop_foreign};
 ghost use Rattle.html_rules.specs.Names as names;
-ghost use Rattle.html_rules.specs.State.{Answers};
 ghost use Rattle.html_rules.specs.Templates.{insert_template};
 ghost use Rattle.html_stack.specs.Dispatching.{HasShape, IsShaped};
-ghost use Rattle.html_tree_builder.specs.States.{Stands, built, state_of, Performs};
+ghost use Rattle.html_tree_builder.specs.States.{built, Changes, Performs, Stands};
 ghost use Rattle.html_tree_builder.specs.Told.{IsTold, token_of};
 
 use crate::construction::{Construction, lent};
@@ -90,7 +88,7 @@ impl<Sink: TreeSink> Construction<Sink> {
 
     /// The elements leave that an end tag closes, if it closes any.
     pub(crate) fn close_foreign(&mut self, name: &LocalName)
-        ensures { (a : Answers) (f : Forest) → state_of a self.new f ≡ close_foreign name.now (state_of a self.old f) }
+        ensures { Changes (close_foreign name.now) self.old self.new }
     {
         self.stack.close_foreign(name);
     }

@@ -1,15 +1,13 @@
 //! Elements that are inserted for a tag, which is moved to them or copied (HTML Standard, sections 13.2.6.1 and 13.2.6.5).
 ghost use Rattle.std.specs.Prelude.{◌≡◌, true, IfErr, IfSome, OnOk};
-ghost use Rattle.markup.specs.Forest.{Forest};
 ghost use Rattle.markup.specs.declared.fault.ParseFault.TheVariants.{Memory};
 ghost use Rattle.html_modes.specs.Tables.{action_of};
 ghost use Rattle.html_tokens.specs.declared.token.Token.{Token as RuleToken};
 ghost use Rattle.html_tokens.specs.declared.token.Token.TheVariants.{TagToken};
 ghost use Rattle.html_rules.specs.Actions.{act};
-ghost use Rattle.html_rules.specs.State.{Answers};
 ghost use Rattle.html_tree_builder.specs.Acting.{MayAct};
 ghost use Rattle.html_tree_builder.specs.Inserting.{inserting, is_indifferent};
-ghost use Rattle.html_tree_builder.specs.States.{Stands, built, state_of, Performs};
+ghost use Rattle.html_tree_builder.specs.States.{built, Changes, Performs, Stands};
 ghost use Rattle.html_tree_builder.specs.Told.{IsTold, token_of};
 
 use crate::construction::Construction;
@@ -109,7 +107,7 @@ impl<Sink: TreeSink> Construction<Sink> {
     /// An action is done that does the same for every token.
     fn act_indifferent(&mut self, action: &Action) -> Result<(), ParseFault>
         requires { is_indifferent (action_of action.now) ≡ true }
-        ensures ok { OnOk result ((t : RuleToken) (a : Answers) (f : Forest) → state_of a self.new f ≡ act (action_of action.now) t (state_of a self.old f)) }
+        ensures ok { OnOk result ((t : RuleToken) → Changes (act (action_of action.now) t) self.old self.new) }
         ensures fault { IfErr result (λ fault. fault ≡ Memory) }
     {
         match action {

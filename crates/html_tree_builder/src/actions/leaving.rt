@@ -1,13 +1,12 @@
 //! Elements that leave the stack, the list, and text that waits (HTML Standard, section 13.2.4).
 ghost use Rattle.std.specs.Prelude.{◌≡◌, OnOk, IfErr};
 ghost use Rattle.std.specs.Str.{chars};
-ghost use Rattle.markup.specs.Forest.{Forest};
 ghost use Rattle.markup.specs.declared.fault.ParseFault.TheVariants.{Memory};
 ghost use Rattle.html_rules.specs.Actions.{keep_text};
 ghost use Rattle.html_rules.specs.Formatting.{clear_active_formatting_to_marker, push_marker};
-ghost use Rattle.html_rules.specs.State.{Answers, is_in, is_named};
+ghost use Rattle.html_rules.specs.State.{is_in, is_named};
 ghost use Rattle.html_rules.specs.Stack.{generate_implied_end_except, generate_implied_end_tags, pop_until, pop_until_current};
-ghost use Rattle.html_tree_builder.specs.States.{Stands, state_of, Performs};
+ghost use Rattle.html_tree_builder.specs.States.{Changes, Performs, Stands};
 
 use crate::construction::Construction;
 use html_names::ElementClass;
@@ -21,7 +20,7 @@ impl<Sink: TreeSink> Construction<Sink> {
     /// Elements are popped until one of a set was popped.
     #[tactic(auto, unfolding(html_rules::specs::Stack::pop_until))]
     pub(crate) fn pop_until(&mut self, set: TagSet)
-        ensures { (a : Answers) (f : Forest) → state_of a self.new f ≡ pop_until (is_in set) (state_of a self.old f) }
+        ensures { Changes (pop_until (is_in set)) self.old self.new }
     {
         self.stack.pop_until(set);
     }
@@ -29,7 +28,7 @@ impl<Sink: TreeSink> Construction<Sink> {
     /// Elements are popped until the current node is in a set.
     #[tactic(auto, unfolding(html_rules::specs::Stack::pop_until_current))]
     pub(crate) fn clear_back_to(&mut self, set: TagSet)
-        ensures { (a : Answers) (f : Forest) → state_of a self.new f ≡ pop_until_current (is_in set) (state_of a self.old f) }
+        ensures { Changes (pop_until_current (is_in set)) self.old self.new }
     {
         self.stack.pop_until_current(set);
     }
@@ -70,7 +69,7 @@ impl<Sink: TreeSink> Construction<Sink> {
     /// A marker is listed.
     #[tactic(auto, unfolding(html_rules::specs::Formatting::push_marker))]
     pub(crate) fn push_marker(&mut self) -> Result<(), ParseFault>
-        ensures ok { OnOk result ((a : Answers) (f : Forest) → state_of a self.new f ≡ push_marker (state_of a self.old f)) }
+        ensures ok { OnOk result (Changes push_marker self.old self.new) }
         ensures fault { IfErr result (λ fault. fault ≡ Memory) }
     {
         self.stack.push_marker()
@@ -79,7 +78,7 @@ impl<Sink: TreeSink> Construction<Sink> {
     /// "Clear the list of active formatting elements up to the last marker".
     #[tactic(auto, unfolding(html_rules::specs::Formatting::clear_active_formatting_to_marker))]
     pub(crate) fn clear_to_marker(&mut self)
-        ensures { (a : Answers) (f : Forest) → state_of a self.new f ≡ clear_active_formatting_to_marker (state_of a self.old f) }
+        ensures { Changes clear_active_formatting_to_marker self.old self.new }
     {
         self.stack.clear_active_formatting_to_marker();
     }
@@ -87,7 +86,7 @@ impl<Sink: TreeSink> Construction<Sink> {
     /// Text waits in the pending table character tokens.
     #[tactic(auto, unfolding(html_rules::specs::Actions::keep_text))]
     pub(crate) fn keep_text(&mut self, text: &str) -> Result<(), ParseFault>
-        ensures ok { OnOk result ((a : Answers) (f : Forest) → state_of a self.new f ≡ keep_text (chars text.now) (state_of a self.old f)) }
+        ensures ok { OnOk result (Changes (keep_text (chars text.now)) self.old self.new) }
         ensures fault { IfErr result (λ fault. fault ≡ Memory) }
     {
         self.pending_table_text.push_str(text)?;

@@ -5,9 +5,7 @@ ghost use Rattle.markup.specs.declared.fault.ParseFault.TheVariants.{Memory};
 ghost use Rattle.html_rules.specs.Actions.{restore_mode, forget_form_elem, frameset_not_ok, frameset_not_ok_unless_white, save_mode, pop_template_mode, push_template_mode, set_foster_parenting, set_ignore_lf, set_mode, set_quirks_mode, set_template_mode};
 ghost use Rattle.html_stack.specs.Modes.{IsContext};
 ghost use Rattle.html_rules.specs.Reset.{reset_insertion_mode};
-ghost use Rattle.html_rules.specs.State.{Answers};
-ghost use Rattle.html_tree_builder.specs.States.{state_of, Performs};
-ghost use Rattle.markup.specs.Forest.{Forest};
+ghost use Rattle.html_tree_builder.specs.States.{Changes, Performs};
 
 use crate::construction::Construction;
 use crate::told::is_white;
@@ -19,7 +17,7 @@ impl<Sink: TreeSink> Construction<Sink> {
     /// "Switch the insertion mode".
     #[tactic(auto, unfolding(html_rules::specs::Actions::set_mode))]
     pub(crate) fn set_mode(&mut self, mode: InsertionMode)
-        ensures { (a : Answers) (f : Forest) → state_of a self.new f ≡ set_mode mode (state_of a self.old f) }
+        ensures { Changes (set_mode mode) self.old self.new }
     {
         self.mode = mode;
     }
@@ -27,7 +25,7 @@ impl<Sink: TreeSink> Construction<Sink> {
     /// The mode becomes the original one.
     #[tactic(auto, unfolding(html_rules::specs::Actions::save_mode))]
     pub(crate) fn save_mode(&mut self)
-        ensures { (a : Answers) (f : Forest) → state_of a self.new f ≡ save_mode (state_of a self.old f) }
+        ensures { Changes save_mode self.old self.new }
     {
         self.orig_mode = Some(self.mode);
     }
@@ -35,7 +33,7 @@ impl<Sink: TreeSink> Construction<Sink> {
     /// The original mode becomes the mode.
     #[tactic(auto, unfolding(html_rules::specs::Actions::restore_mode))]
     pub(crate) fn restore_mode(&mut self)
-        ensures { (a : Answers) (f : Forest) → state_of a self.new f ≡ restore_mode (state_of a self.old f) }
+        ensures { Changes restore_mode self.old self.new }
     {
         if let Some(mode) = self.orig_mode {
             self.mode = mode;
@@ -56,7 +54,7 @@ impl<Sink: TreeSink> Construction<Sink> {
     /// "Reset the insertion mode appropriately".
     #[tactic(auto, unfolding(html_rules::specs::Reset::reset_insertion_mode))]
     pub(crate) fn reset_mode(&mut self)
-        ensures { (a : Answers) (f : Forest) → state_of a self.new f ≡ reset_insertion_mode (state_of a self.old f) }
+        ensures { Changes reset_insertion_mode self.old self.new }
     {
         let has_head = self.head_elem.is_some();
         let mode = self
@@ -68,7 +66,7 @@ impl<Sink: TreeSink> Construction<Sink> {
     /// A template insertion mode is pushed.
     #[tactic(auto, unfolding(html_rules::specs::Actions::push_template_mode))]
     pub(crate) fn push_template_mode(&mut self, mode: InsertionMode) -> Result<(), ParseFault>
-        ensures ok { OnOk result ((a : Answers) (f : Forest) → state_of a self.new f ≡ push_template_mode mode (state_of a self.old f)) }
+        ensures ok { OnOk result (Changes (push_template_mode mode) self.old self.new) }
         ensures fault { IfErr result (λ fault. fault ≡ Memory) }
     {
         self.stack.push_template_mode(mode)
@@ -77,7 +75,7 @@ impl<Sink: TreeSink> Construction<Sink> {
     /// The current template insertion mode is popped.
     #[tactic(auto, unfolding(html_rules::specs::Actions::pop_template_mode))]
     pub(crate) fn pop_template_mode(&mut self)
-        ensures { (a : Answers) (f : Forest) → state_of a self.new f ≡ pop_template_mode (state_of a self.old f) }
+        ensures { Changes pop_template_mode self.old self.new }
     {
         let _ = self.stack.pop_template_mode();
     }
@@ -85,7 +83,7 @@ impl<Sink: TreeSink> Construction<Sink> {
     /// The current template insertion mode is changed.
     #[tactic(auto, unfolding(html_rules::specs::Actions::set_template_mode))]
     pub(crate) fn set_template_mode(&mut self, mode: InsertionMode) -> Result<(), ParseFault>
-        ensures ok { OnOk result ((a : Answers) (f : Forest) → state_of a self.new f ≡ set_template_mode mode (state_of a self.old f)) }
+        ensures ok { OnOk result (Changes (set_template_mode mode) self.old self.new) }
         ensures fault { IfErr result (λ fault. fault ≡ Memory) }
     {
         let _ = self.stack.pop_template_mode();
@@ -104,7 +102,7 @@ impl<Sink: TreeSink> Construction<Sink> {
     /// The frameset-ok flag is cleared.
     #[tactic(auto, unfolding(html_rules::specs::Actions::frameset_not_ok))]
     pub(crate) fn frameset_not_ok(&mut self)
-        ensures { (a : Answers) (f : Forest) → state_of a self.new f ≡ frameset_not_ok (state_of a self.old f) }
+        ensures { Changes frameset_not_ok self.old self.new }
     {
         self.frameset_ok = false;
     }
@@ -112,7 +110,7 @@ impl<Sink: TreeSink> Construction<Sink> {
     /// The same, unless a text is white space.
     #[tactic(auto, unfolding(html_rules::specs::Actions::frameset_not_ok_unless_white))]
     pub(crate) fn frameset_not_ok_unless_white(&mut self, text: &str)
-        ensures { (a : Answers) (f : Forest) → state_of a self.new f ≡ frameset_not_ok_unless_white (chars text.now) (state_of a self.old f) }
+        ensures { Changes (frameset_not_ok_unless_white (chars text.now)) self.old self.new }
     {
         self.frameset_ok = self.frameset_ok && is_white(text);
     }
@@ -120,7 +118,7 @@ impl<Sink: TreeSink> Construction<Sink> {
     /// A line feed that comes next is dropped, or is not.
     #[tactic(auto, unfolding(html_rules::specs::Actions::set_ignore_lf))]
     pub(crate) fn set_ignore_lf(&mut self, ignore_lf: bool)
-        ensures { (a : Answers) (f : Forest) → state_of a self.new f ≡ set_ignore_lf ignore_lf (state_of a self.old f) }
+        ensures { Changes (set_ignore_lf ignore_lf) self.old self.new }
     {
         self.ignore_lf = ignore_lf;
     }
@@ -128,7 +126,7 @@ impl<Sink: TreeSink> Construction<Sink> {
     /// Foster parenting is enabled or disabled.
     #[tactic(auto, unfolding(html_rules::specs::Actions::set_foster_parenting))]
     pub(crate) fn set_foster_parenting(&mut self, foster_parenting: bool)
-        ensures { (a : Answers) (f : Forest) → state_of a self.new f ≡ set_foster_parenting foster_parenting (state_of a self.old f) }
+        ensures { Changes (set_foster_parenting foster_parenting) self.old self.new }
     {
         self.foster_parenting = foster_parenting;
     }
@@ -136,7 +134,7 @@ impl<Sink: TreeSink> Construction<Sink> {
     /// The form element pointer names nothing.
     #[tactic(auto, unfolding(html_rules::specs::Actions::forget_form_elem))]
     pub(crate) fn forget_form_elem(&mut self)
-        ensures { (a : Answers) (f : Forest) → state_of a self.new f ≡ forget_form_elem (state_of a self.old f) }
+        ensures { Changes forget_form_elem self.old self.new }
     {
         self.form_elem = None;
     }

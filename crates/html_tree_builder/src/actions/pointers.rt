@@ -1,10 +1,9 @@
 //! The pointers to the head and to a form (HTML Standard, section 13.2.4.4).
 ghost use Rattle.std.specs.Prelude.{◌≡◌, OnOk, IfErr, IfOk, codes};
-ghost use Rattle.markup.specs.Forest.{Forest};
 ghost use Rattle.markup.specs.declared.fault.ParseFault.TheVariants.{Memory};
 ghost use Rattle.html_rules.specs.Actions.{for_tag, insert_form_void, push_head_elem, remove_form_elem, remove_head_elem, set_form_elem, set_head_elem};
-ghost use Rattle.html_rules.specs.State.{Answers, current_number};
-ghost use Rattle.html_tree_builder.specs.States.{Stands, state_of, Performs};
+ghost use Rattle.html_rules.specs.State.{current_number};
+ghost use Rattle.html_tree_builder.specs.States.{Changes, Performs, Stands};
 ghost use Rattle.html_tree_builder.specs.Told.{IsTold, token_of};
 
 use crate::construction::Construction;
@@ -113,7 +112,7 @@ impl<Sink: TreeSink> Construction<Sink> {
     #[tactic(auto, unfolding(html_rules::specs::Actions::push_head_elem))]
     #[inline(never)]
     pub(crate) fn push_head_elem(&mut self) -> Result<(), ParseFault>
-        ensures ok { OnOk result ((a : Answers) (f : Forest) → state_of a self.new f ≡ push_head_elem (state_of a self.old f)) }
+        ensures ok { OnOk result (Changes push_head_elem self.old self.new) }
         ensures fault { IfErr result (λ fault. fault ≡ Memory) }
     {
         let Some(handle) = self.head_elem else {
