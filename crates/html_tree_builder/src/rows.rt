@@ -79,12 +79,23 @@ impl<Sink: TreeSink> Construction<Sink> {
         }
     }
 
+    /// The same. Most rows ask for nothing, and that is seen at once.
+    fn is_met(&self, sink: &Sink, condition: &Condition, told: &NamedToken<'_>) -> bool
+        requires { IsTold told.now }
+        ensures { (a : Answers) (f : Forest) → result ≡ holds (condition_of condition.now) (token_of told.now.content) (state_of a self.now f) }
+    {
+        match condition {
+            Condition::Always => true,
+            _ => self.holds(sink, condition, told),
+        }
+    }
+
     /// Whether a row is for a token.
     fn fits(&self, sink: &Sink, row: &Row, told: &NamedToken<'_>) -> bool
         requires { IsTold told.now }
         ensures { (a : Answers) (f : Forest) → result ≡ fits (row_of row.now) (token_of told.now.content) (state_of a self.now f) }
     {
-        told.fits(row.on) && self.holds(sink, &row.when, told)
+        told.fits(row.on) && self.is_met(sink, &row.when, told)
     }
 
     /// The first row that is for a token, if there is one.
