@@ -8,7 +8,6 @@ ghost use Rattle.html_rules_laws.specs.Soundness.{AreOpened};
 ghost use Rattle.html_stack.specs.Stacks.{joined, Performs};
 ghost use Rattle.html_stack.specs.Wanted.{IsOfHtml, IsWanted, passes};
 
-use crate::entries::OpenElement;
 use crate::signs::Sign;
 use crate::stack::Stack;
 use crate::walks;
@@ -49,14 +48,12 @@ impl<Sink: TreeSink> Stack<Sink> {
 
     /// Pops the current node, and tells the sink; the root, `html`, stays.
     #[tactic(auto, unfolding(html_rules::specs::Stack::pop_but_root))]
-    pub fn pop_but_root(&mut self, sink: &mut Sink) -> Option<OpenElement<Sink::Handle>>
+    pub fn pop_but_root(&mut self, sink: &mut Sink)
         requires { AreOpened (Sink.forest sink.old) self.old.open_elems }
         ensures { Performs pop_but_root self.old self.new (Sink.forest sink.old) (Sink.forest sink.new) }
     {
-        if self.current_is(Wanted::In(TagSet::Html)) {
-            None
-        } else {
-            self.pop(sink)
+        if !self.current_is(Wanted::In(TagSet::Html)) {
+            drop(self.pop(sink));
         }
     }
 

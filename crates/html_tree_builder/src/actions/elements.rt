@@ -231,7 +231,7 @@ impl<Sink: TreeSink> Construction<Sink> {
         requires stands { Stands (Sink.forest sink.old) self.old }
         ensures { Performs pop_but_root self.old self.new (Sink.forest sink.old) (Sink.forest sink.new) }
     {
-        drop(self.stack.pop_but_root(sink));
+        self.stack.pop_but_root(sink);
     }
 
     /// "Reconstruct the active formatting elements".
