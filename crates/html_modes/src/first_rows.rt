@@ -1,5 +1,5 @@
-//! Which row of a mode is the first that is for a tag. It is noted for each kind of tags and each family of names, which are those in the same
-//! sets, so that who looks for the row of a tag begins there.
+//! Which row of a mode is the first that is for a tag. It is noted for each kind of tags and each family of names, which
+//! are those in the same sets, so that who looks for the row of a tag begins there.
 ghost use Rattle.std.specs.Prelude.{◌≡◌, ◌<◌, IfSome, length};
 ghost use Rattle.markup.specs.KnownNames.{names};
 ghost use Rattle.html_rules.specs.Rules.{rows};
