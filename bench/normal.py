@@ -122,6 +122,16 @@ SHAPES = [
     ("<template>", 10_000, lambda count: "<template>" * count),
     ("<body> with other attributes", 10_000, lambda count: "".join(f"<body a{n}=b>" for n in range(count))),
     ("<svg> and end tags of others", 5_000, lambda count: "<svg>" * count + "</x>" * count),
+    ("</p> below <div>", 5_000, lambda count: "<div>" * count + "</p>" * count),
+    ("<b></b><p></p> below <div>", 5_000, lambda count: "<div>" * count + "<b></b><p></p>" * count),
+    ("<li></li> below <span>", 5_000, lambda count: "<span>" * count + "<li></li>" * count),
+    ("nested <ul><li>", 5_000, lambda count: "<ul><li>" * count),
+    ("</x> below <span>", 5_000, lambda count: "<span>" * count + "</x>" * count),
+    ("</h1> below <span>", 5_000, lambda count: "<span>" * count + "</h1>" * count),
+    ("<table></table> below <div>", 5_000, lambda count: "<div>" * count + "<table></table>" * count),
+    ("</body> below <optgroup>", 5_000, lambda count: "<optgroup>" * count + "</body>" * count),
+    ("<b> of other attributes", 5_000, lambda count: "".join(f"<b a{n}>" for n in range(count))),
+    ("<b>x<i></b></i><p></p> below <div>", 5_000, lambda count: "<div>" * count + "<b>x<i></b></i><p></p>" * count),
 ]
 
 
